@@ -44,6 +44,7 @@ use Rattle.usb_table.specs.KnownPorts.{port_below, IsAskable}
 use Rattle.usb_table.specs.Listing.{finding_at, tier_of}
 use Rattle.usb_host.specs.Accounts.{Accounts}
 use Rattle.usb_host.specs.Agreement.{Agrees}
+use Rattle.usb_backlog.specs.Marks.{KeepsAll}
 use Rattle.usb_host.specs.PortHandling.{RestElsewhere, IsLost, HoldsAt, Watches, Tidies, ClearsChange, IsOpen, PortCaused, FindsSound, Disabled, Climbs}
 use Rattle.usb_host.specs.Hosting.{Hosting}
 use Rattle.usb_host.specs.Ownership.{claims, KeepsPort, DropsHub}
@@ -51,9 +52,11 @@ use Rattle.usb_host.specs.Ports.{StandsAt}
 use Rattle.usb_host.specs.Progress.{HostWent, Rests}
 use Rattle.usb_host.specs.Transfers.{table_in}
 use Rattle.usb_host.specs.Soundness.{known_supply, Causes, CausesBut, IsCausedAt, IsFairTo, IsSound, IsSoundBut, IsDroppable, DropsSound}
+use Rattle.usb_host.proofs.BulkPipes.{AllStay, bulk_stays, stay_forgotten, stay_joined, stay_refused, stay_rests}
 use Rattle.usb_host.proofs.EntryClaims.{lookup-insert_entry_here}
 use Rattle.usb_host.proofs.DroppedHubs.{still_sound, claimed, is_call, lost_sound_there}
-use Rattle.usb_host.proofs.FoundDevices.{begins, found_only, supply_found, entered_sound, unfound_sound}
+use Rattle.usb_host.proofs.Enumerations.{askable_wide}
+use Rattle.usb_host.proofs.FoundDevices.{begins, found_only, supply_found, entered_bulk, entered_sound, unfound_bulk, unfound_sound}
 use Rattle.usb_host.proofs.Handlings.{root_done}
 use Rattle.usb_host.proofs.Places.{finding-none, causes_dropped, causes_found}
 use Rattle.usb_host.proofs.Requests.{last_same}
@@ -250,13 +253,29 @@ module _ (n : ℕ) (path : List ℕ) (port : KnownPort) (a b : Hosting) (s : Sta
   pub entered_finds : (f : Finding) → Enumerates port.port a.addresses (tier_of path) port.supply a.world (Ok f) b.world → table_in b ≡ entered path f (table_in a) → KeepsPort path a (Ok tt) b → FindsSound path a (Ok tt) b
   entered_finds f e table keeps = record {
     sound = λ o. entered_sound n path port a.addresses a b s gone accounts went o f e table keeps;
+    bulk = λ o on still. entered_bulk n path port a.addresses a b s gone accounts went o f e table still;
+    backlog = λ o still. (found_only n path port a.addresses a b s gone accounts went o (Ok f) e still).backlog;
+    few = λ o most plan. e.few.few (claims a.entries) path (askable_wide port.port s.askable) (begins n path port a.addresses a b s gone accounts went o) most plan;
     caused = λ o fair caused. entered_caused n path port a b s gone accounts went o fair f e (ap (λ (t : Table). t.entries) table) caused;
+  }
+
+  -- there was no memory to enter it
+  pub unentered_finds : (f : Finding) → Enumerates port.port a.addresses (tier_of path) port.supply a.world (Ok f) b.world → FindsSound path a (Err Memory) b
+  unentered_finds f e = record {
+    sound = λ o. tt;
+    bulk = λ o on. absurd on;
+    backlog = λ o still. (found_only n path port a.addresses a b s gone accounts went o (Ok f) e still).backlog;
+    few = λ o most plan. e.few.few (claims a.entries) path (askable_wide port.port s.askable) (begins n path port a.addresses a b s gone accounts went o) most plan;
+    caused = λ o fair caused. tt;
   }
 
   pub unfound_finds : (fault : EnumFault) → Enumerates port.port a.addresses (tier_of path) port.supply a.world (Err fault) b.world → b.entries ≡ a.entries → b.pipes ≡ a.pipes → b.addresses ≡ a.addresses → FaultAt port.port fault b.world → KeepsPort path a (Err fault) b
       → FindsSound path a (Err fault) b
   unfound_finds fault e same pipes_same pool_same told keeps = record {
     sound = λ o. unfound_sound n path port a.addresses a b s gone accounts went o fault e same pipes_same pool_same told keeps;
+    bulk = λ o on still. unfound_bulk n path port a.addresses a b s gone accounts went o fault e same pipes_same still;
+    backlog = λ o still. (found_only n path port a.addresses a b s gone accounts went o (Err fault) e still).backlog;
+    few = λ o most plan. e.few.few (claims a.entries) path (askable_wide port.port s.askable) (begins n path port a.addresses a b s gone accounts went o) most plan;
     caused = λ o fair caused. unfound_caused n path port a b s gone accounts went o fair fault e same told caused;
   }
 
@@ -316,16 +335,27 @@ module _ (lost : List ℕ) (b c d : Hosting) (least : 1 ≤ length lost) (others
   is : d.entries ≡ insert_entry path_cmp c.entries lost (Refused Lost)
   is = ap (λ (t : Table). t.entries) table
 
+  world_same : d.world ≡ b.world
+  world_same = same ∙ ap (λ (h : Hosting). h.world) others
+
   lost_causes : pend b.world.roots lost ≡ true → CausesBut lost b.world b.entries → Causes d.world d.entries
   lost_causes pends caused =
-      let world_is : d.world ≡ b.world = same ∙ ap (λ (h : Hosting). h.world) others in
-      subst (λ w. Causes w d.entries) (sym world_is)
+      subst (λ w. Causes w d.entries) (sym world_same)
       (subst (Causes b.world) (sym is)
       (causes_found lost (Refused Lost) c.entries least gone b.world (subst (Causes b.world) (sym rest) (causes_dropped lost b.world b.entries caused)) (λ cause s at there. inl pends)))
 
+  -- no bulk pipe but those of what is dropped has changed
+  lost_stay : (a : Hosting) → Rests a b → KeepsDevices a.world b.world → d.world.shared ≡ false → AllStay a d
+  lost_stay a r devices single =
+      stay_joined a c d
+      (stay_joined a b c (stay_rests a b r devices (ap (λ (w : World). w.shared) (sym world_same) ∙ single)) (stay_forgotten lost b c (ap (λ (h : Hosting). h.world) others) rest gone pipes))
+      (stay_refused lost Lost c d table same)
+
   -- it is listed as lost
-  pub lost_drops : (hub : List ℕ) (a : Hosting) → Climbs hub a (Ok lost) b → DropsHub hub a (Ok tt) d → DropsSound hub a (Ok tt) d
-  lost_drops hub a climbs drops = record {
+  pub lost_drops : (hub : List ℕ) (a : Hosting) → Rests a b → Climbs hub a (Ok lost) b → DropsHub hub a (Ok tt) d → DropsSound hub a (Ok tt) d
+  lost_drops hub a r climbs drops = record {
     sound = λ p. lost_sound_there hub lost a b c d least (climbs.sound p) others rest pipes gone same table p drops;
+    bulk = λ p still. bulk_stays a d (lost_stay a r climbs.devices (drops.ends p.but.owned).single);
+    backlog = λ p still. subst (KeepsAll a.world) (sym world_same) (climbs.backlog p (ap (λ (w : World). w.fault) (sym world_same) ∙ still));
     caused = λ p fair pends caused. let x = climbs.caused p (fair_same b c a.world d.world others same fair) pends caused in lost_causes x.0 x.1;
   }

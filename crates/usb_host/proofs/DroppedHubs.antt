@@ -15,6 +15,7 @@ use Rattle.usb_pipe.specs.declared.fault.PipeFault.{PipeFault}
 use Rattle.usb_pipe.specs.declared.fault.PipeFault.TheVariants as pipe
 use Rattle.usb_pipe.specs.Control.{FaultAfter}
 use Rattle.usb_pipe.specs.Leaves.{IsNoBusFault}
+use Rattle.usb_backlog.specs.Marks.{KeepsAll}
 use Rattle.usb_hub.specs.Addresses.{KeepsDevices}
 use Rattle.usb_hub.specs.Moments.{CallsPort, IsCall}
 use Rattle.usb_hub.specs.Port.{PortCleared}
@@ -34,6 +35,7 @@ use Rattle.usb_host.specs.Ports.{StandsAt, StandsNowhere}
 use Rattle.usb_host.specs.Progress.{HostWent, Rests}
 use Rattle.usb_host.specs.Soundness.{IsSound, IsSoundBut, IsDroppable, IsFairTo, CausesBut, Known, KnownBut, Truthful}
 use Rattle.usb_host.specs.declared.fault.HostFault.{HostFault}
+use Rattle.usb_host.proofs.Backlogs.{call_all}
 use Rattle.usb_host.proofs.EntryClaims.{lookup-insert_entry_here}
 use Rattle.usb_host.proofs.Fairness.{fair_before, fair_after}
 use Rattle.usb_host.proofs.Handlings.{root_done}
@@ -72,6 +74,9 @@ module _ (n : ℕ) (path : List ℕ) (port : KnownPort) (a b : Hosting) (s : Sta
 
   told_but : (result : Result (Unit {0}) PipeFault) → CallsPort port.port (clear_call PORT_ENABLE) a.world result b.world → (b.world.fault ≡ None → IsNoBusFault result) → IsSoundBut path b
   told_but result calls sound = sound_rests_but n a b r went addresses path devices (λ still. calls.rests claimed.claims path ClearEnable is_call (sound still)) d.but
+
+  pub told_backlog : (result : Result (Unit {0}) PipeFault) → CallsPort port.port (clear_call PORT_ENABLE) a.world result b.world → IsNoBusFault result → KeepsAll a.world b.world
+  told_backlog result calls sound = call_all path ClearEnable (λ g. absurd (cc g)) (λ g. absurd (cc g)) (calls.backlog claimed.claims path ClearEnable is_call sound)
 
   pub told_dropped : CallsPort port.port (clear_call PORT_ENABLE) a.world (Ok tt) b.world → IsDroppedAt path b
   told_dropped calls = record {

@@ -1,24 +1,26 @@
 -- What is known of ports and devices stays so as an event comes.
-use Rattle.std.proofs.Common.{◌≡◌, ◌-◌, List, [], ◌∷◌, ℕ, suc, Bool, true, false, not, if◌then◌else◌, arith, Option, None, Some, refl, ap, ◌∙◌, sym, subst}
+use Rattle.std.proofs.Common.{◌≡◌, ◌-◌, List, [], ◌∷◌, ℕ, Bool, true, false, not, if◌then◌else◌, arith, refl, ap, ◌∙◌, sym, subst}
 use Rattle.std.specs.Prelude.{nat_le}
 use Rattle.std.proofs.lemmas.Bool.{le-leb}
 use Rattle.usb_resources.specs.Pool.{Addresses}
+use Rattle.usb_device.specs.Rows.{State}
 use Rattle.usb_device.specs.Tree.{reach, path_to}
 use Rattle.usb_device.specs.View.{state_there}
 use Rattle.usb_world.specs.declared.event.Action.{Action}
 use Rattle.usb_world.specs.declared.event.Action.TheVariants.{Plug, Unplug, Show, Send, Receive, Clear}
 use Rattle.usb_world.specs.declared.event.Event.{Event}
-use Rattle.usb_world.specs.declared.types.BusFault.{BusFault}
 use Rattle.usb_world.specs.Courses.{resets, spares_step}
+use Rattle.usb_world.specs.Devices.{EachWas}
 use Rattle.usb_world.specs.PortRequests.{leaves_step}
 use Rattle.usb_world.specs.RestingPorts.{AsksNothingOf}
-use Rattle.usb_world.specs.Steps.{happened, waits, is_due, took, took_first, due_from, event_taken, event, after, Course, here, step}
+use Rattle.usb_world.specs.Steps.{happened, waits, is_due, took, due_from, event, after, Course, here, step}
 use Rattle.usb_world.specs.World.{World, roots_of}
-use Rattle.usb_world.proofs.Interface.{and_of, course_wider, due_state, first_state, taken_state, unreset_reach}
+use Rattle.usb_world.proofs.Interface.{and_of, course_wider, due_state, each_wider, taken_state, unreset_reach}
 use Rattle.usb_enum.proofs.Interface.{course_later}
 use Rattle.usb_table.specs.Entries.{Entries}
 use Rattle.usb_table.specs.Levels.{AllLevel}
 use Rattle.usb_table.specs.Table.{Table}
+use Rattle.usb_table.specs.Transfers.{SameSettings}
 use Rattle.usb_host.specs.Soundness.{Known, Truthful, Causes, EachStill, Accounted}
 use Rattle.usb_host.proofs.KnowledgeKept.{known_each, truthful_stays, causes_stay}
 
@@ -43,14 +45,18 @@ happened_still (Send path bytes) w p on = refl
 happened_still (Receive path packets) w p on = refl
 happened_still (Clear path) w p on = refl
 
-event_still : (w : World) → EachStill w (after event w)
+-- each device that is reached after it is just as it was
+pub event_same : (w : World) → EachWas (λ x s v. v ≡ s) w (after event w)
 unfolding resets after
-event_still w j s on stands = record {
+event_same w j s on stands = record {
   before = s;
   on = (unreset_reach event w (path_to j) refl on).0;
   stands = sym (taken_state w.fault w (path_to j) on) ∙ stands;
-  so = (refl, refl);
+  so = refl;
 }
+
+event_still : (w : World) → EachStill w (after event w)
+event_still w = each_wider (λ x s v. v ≡ s) SameSettings (λ j s v e. (ap (λ (d : State). d.spec) e, ap (λ (d : State). d.registers) e)) w (after event w) (event_same w)
 
 -- so pipes are as far as they were
 pub level_event : (table : Table) (w : World) → AllLevel table w → AllLevel table (after event w)

@@ -3,6 +3,8 @@ use Rattle.std.proofs.Common.{◌≡◌, ◌≤◌, ◌⊎◌, inl, inr, refl, s
 use Rattle.std.specs.Prelude.{IsSome, IsSomeAnd, option_map, unwrap_or}
 use Rattle.std.specs.BTreeMap.{insert_entry}
 use Rattle.usb_port.specs.Order.{path_cmp}
+use Rattle.usb_device.specs.Tree.{reach}
+use Rattle.usb_device.specs.View.{state_there}
 use Rattle.usb_world.specs.Paths.{is_way}
 use Rattle.usb_world.specs.World.{World}
 use Rattle.usb_world.proofs.Interface.{decided}
@@ -18,7 +20,7 @@ use Rattle.usb_enum.specs.Findings.{Begins, Enumerates, IsOwn}
 use Rattle.usb_enum.specs.Frames.{OnlyAt}
 use Rattle.usb_enum.specs.Places.{IsPlaced}
 use Rattle.usb_enum.specs.Stop.{FaultAt}
-use Rattle.usb_enum.proofs.Interface.{regular_order, went_in_order, went_sound}
+use Rattle.usb_enum.proofs.Interface.{regular_order, went_course, went_in_order, went_sound}
 use Rattle.usb_table.specs.declared.known.KnownPort.{KnownPort}
 use Rattle.usb_table.specs.Entries.{Entries, has_at}
 use Rattle.usb_table.specs.Findings.{accepted_device_of}
@@ -31,6 +33,8 @@ use Rattle.usb_host.specs.Ownership.{claims, KeepsPort}
 use Rattle.usb_host.specs.Ports.{StandsAt}
 use Rattle.usb_host.specs.Progress.{HostWent}
 use Rattle.usb_host.specs.Soundness.{Known, KnownBut, Truthful, TruthfulBut, IsToldAt, known_supply}
+use Rattle.usb_host.specs.BulkPipes.{KeepsBulk}
+use Rattle.usb_host.proofs.BulkPipes.{bulk_entered, bulk_stays, device_found, stay_unfound}
 use Rattle.usb_host.proofs.Agreements.{known_entered, shorter_apart}
 use Rattle.usb_host.proofs.EntryClaims.{claims_free, claims_taken, lookup-insert_entry_here}
 use Rattle.usb_world.specs.Steps.{IsBetween}
@@ -50,10 +54,6 @@ truthful_gone path w es gone told x = pick (decided (is_way path x))
     pick : (is_way path x ≡ true) ⊎ (is_way path x ≡ false) → IsToldAt w es x
     pick (inl way) = λ device s at on stands. absurd (cc (ap accepted_device_of (finding-none path x es gone way), at))
     pick (inr away) = told x away
-
-device_found : (f : Finding) (device : Accepted) → accepted_device_of (Some f) ≡ Some device → f ≡ Device device
-device_found (Device d) device e = ap Device (cc e)
-device_found (Refused cause) device e = absurd (cc e)
 
 pub supply_found : (path : List ℕ) (port : KnownPort) (f : Finding) (es : Entries) → known_port path es ≡ Some port → known_supply path (insert_entry path_cmp es path f) ≡ port.supply
 supply_found path port f es known =
@@ -113,10 +113,19 @@ module _ (n : ℕ) (path : List ℕ) (port : KnownPort) (pool : Addresses) (a b 
 
     entered_level : b.world.fault ≡ None → AllLevel (table_in b) b.world
     entered_level still =
-        let order : IsBetween b.world = (went_in_order n a.world b.world went o.but.order still).0 in
+        let order : IsBetween b.world = (went_in_order n a.world b.world went o.but.order still) in
         level_found path f (tier_of path) port.supply (table_in a) (table_in b) b.world table order.sane
         (λ device t found on stands. e.own.truth (claims a.entries) path begins.at begins.free begins.taken begins.owned (regular_order begins.order) device (ap Ok found) t on stands)
         (level_gone path (table_in a) b.world gone (level_but path (table_in a) a.world b.world (found_only (Ok f) e still).devices (o.but.level (went_sound n a.world b.world went still))))
+
+    -- a device that was found has new pipes
+    pub entered_bulk : b.world.fault ≡ None → KeepsBulk a b
+    entered_bulk still =
+        bulk_entered path f a b table gone (found_only (Ok f) e still).devices (went_course n a.world b.world went still) (o.owned.so (went_sound n a.world b.world went still))
+        (λ device found x t is on stands.
+        let own : IsOwn (tier_of path) port.supply device t =
+        e.own.truth (claims a.entries) path begins.at begins.free begins.taken begins.owned (regular_order begins.order) device (ap Ok found) t (ap (reach b.world.roots) is ∙ on) (ap (state_there b.world.roots) is ∙ stands) in
+        (own.2.out, own.2.into))
 
     pub entered_sound : KeepsPort path a (Ok tt) b → PortSound path (Ok tt) b
     entered_sound k = record {
@@ -127,6 +136,9 @@ module _ (n : ℕ) (path : List ℕ) (port : KnownPort) (pool : Addresses) (a b 
       truthful = entered_truthful;
       level = entered_level;
     }
+
+  pub unfound_bulk : (fault : EnumFault) → Enumerates port.port pool (tier_of path) port.supply a.world (Err fault) b.world → b.entries ≡ a.entries → b.pipes ≡ a.pipes → b.world.fault ≡ None → KeepsBulk a b
+  unfound_bulk fault e same pipes_same still = bulk_stays a b (stay_unfound path a b same pipes_same gone (found_only (Err fault) e still).devices)
 
   -- nothing is entered: the hub is lost
   pub unfound_sound : (fault : EnumFault) → Enumerates port.port pool (tier_of path) port.supply a.world (Err fault) b.world → b.entries ≡ a.entries → b.pipes ≡ a.pipes → b.addresses ≡ a.addresses → FaultAt port.port fault b.world → KeepsPort path a (Err fault) b → PortSound path (Err fault) b

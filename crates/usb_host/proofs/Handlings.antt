@@ -202,7 +202,7 @@ bares_above first path a b c on r k x = record { on = on; bares = λ o. x.bares 
 
 pub drop_fails : (hub : List ℕ) (a : Hosting) (result : Result (Unit {0}) HostFault) (b : Hosting) → IsErr result → KeepsAddresses a.world b.world → DropsHub hub a result b
 drop_fails hub a result b e k = record {
-  lost = on_failed result (HasLost a.entries b.entries) e;
+  lost = on_failed result (HasLost hub a.entries b.entries) e;
   ends = λ o. match_err result (λ _. IsOwned b) (b.world.shared ≡ false) e (but_kept hub (claims a.entries) a.world b.world k o).single;
   rooted = λ r at. on_failed result (IsRooted b) e;
 }
@@ -211,7 +211,7 @@ drop_fails hub a result b e k = record {
 pub drop_ends : (hub lost : List ℕ) (a b c d : Hosting) → IsPath lost → Rests a b → roots_of b.world ≡ roots_of a.world → BaresAbove hub lost a b → c ≡ record b { entries = c.entries; pipes = c.pipes; addresses = c.addresses } → c.entries ≡ without lost b.entries → has_at lost c.entries ≡ false
     → d.world ≡ c.world → d.entries ≡ insert_entry path_cmp c.entries lost (Refused Lost) → DropsHub hub a (Ok tt) d
 drop_ends hub lost a b c d path r roots x others rest away same is = record {
-  lost = record { path = lost; entries = is ∙ ap (λ (es : Entries). insert_entry path_cmp es lost (Refused Lost)) (rest ∙ ap (λ (h : Hosting). without lost h.entries) r) };
+  lost = record { path = lost; above = x.on; entries = is ∙ ap (λ (es : Entries). insert_entry path_cmp es lost (Refused Lost)) (rest ∙ ap (λ (h : Hosting). without lost h.entries) r) };
   ends = ends;
   rooted = rooted;
 }

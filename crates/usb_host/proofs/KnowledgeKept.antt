@@ -5,7 +5,7 @@ use Rattle.usb_resources.specs.Pool.{Addresses}
 use Rattle.usb_device.specs.Rows.{State}
 use Rattle.usb_device.specs.Spec.{Spec}
 use Rattle.usb_device.specs.declared.request.Registers.{Registers}
-use Rattle.usb_device.specs.Tree.{reach_at, state_at, Spot, path_to, reach_on, state_on}
+use Rattle.usb_device.specs.Tree.{Spot, path_to, reach_on, state_on}
 use Rattle.usb_device.specs.View.{state_there}
 use Rattle.usb_world.specs.Courses.{Spares}
 use Rattle.usb_world.specs.Devices.{Was}

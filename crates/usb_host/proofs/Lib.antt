@@ -1,9 +1,18 @@
 pub mod Agreements
+pub mod Backlogs
 pub mod Balances
+pub mod BulkPipes
 pub mod EntryClaims
 pub mod Climbs
 pub mod Interface
 pub mod Looks
+pub mod HubCounts
+pub mod LookPayments
+pub mod ServePayments
+pub mod Services
+pub mod HubServices
+pub mod RoundServices
+pub mod ServedWork
 pub mod Openings
 pub mod Owners
 pub mod Powers
@@ -27,6 +36,7 @@ pub mod KnowledgeKept
 pub mod RisingEntries
 pub mod Roots
 pub mod Events
+mod ComingEvents
 pub mod Places
 pub mod Clearings
 pub mod TidiedPorts

@@ -104,7 +104,7 @@ known_opening : (w : World) → IsUnpowered w → Known (powered w) []
 unfolding parent_of port_on_hub
 known_opening w u [] port = absurd (omega (arith, port.some))
 known_opening w u (zero ∷ []) port = absurd (omega (arith, port.port.0))
-known_opening w u (suc i ∷ []) port = known-with_power w.roots i u.order.0.sane u.off (omega (arith, port.port.1))
+known_opening w u (suc i ∷ []) port = known-with_power w.roots i u.order.sane u.off (omega (arith, port.port.1))
 known_opening w u (n ∷ m ∷ rest) port =
     let long : nat_lt 1 (length (n ∷ m ∷ rest)) ≡ true = lt-ltb 1 (length (n ∷ m ∷ rest)) (omega arith) in
     let wrong = rw long at port.port in

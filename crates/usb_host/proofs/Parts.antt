@@ -20,22 +20,25 @@ use Rattle.usb_table.specs.Findings.{accepted_device_of, accepted_device_at}
 use Rattle.usb_table.specs.Levels.{IsHeld, KeepsPolled}
 use Rattle.usb_table.specs.Listing.{finding_at, hub_facts_in, hub_facts_at}
 use Rattle.usb_table.specs.Pipes.{ArePipesIf}
+use Rattle.usb_table.specs.Table.{GoesThrough, pipes_at}
 use Rattle.usb_table.specs.Transfers.{PipesPolled}
 use Rattle.usb_host.specs.Agreement.{Agrees}
+use Rattle.usb_host.specs.BulkPipes.{KeepsBulk}
 use Rattle.usb_host.specs.Hosting.{Hosting}
 use Rattle.usb_host.specs.Ownership.{StaysOwned, StaysSingle, KeepsOwned, DropsHub}
 use Rattle.usb_host.specs.Transfers.{table_in}
 use Rattle.usb_host.specs.Progress.{HostWent, HostGoes, either}
-use Rattle.usb_host.specs.Soundness.{IsSound, StaysSound, DropsSound, PartKeeps, PartsKeep, RootsRest, HubKeeps, HubsKeep, LooksKeep}
+use Rattle.usb_host.specs.Soundness.{IsSound, StaysSound, PartStays, DropsSound, PartKeeps, PartsKeep, RootsRest, HubKeeps, HubsKeep, LooksKeep}
 use Rattle.usb_host.specs.declared.fault.HostFault.{HostFault}
 use Rattle.usb_host.specs.declared.host.Round.{Round}
 use Rattle.usb_host.specs.declared.host.Round.TheVariants.{Worked, Quiet}
+use Rattle.usb_host.proofs.BulkPipes.{bulk_stays, stay_polled}
 use Rattle.usb_host.proofs.Handlings.{match_err, hub_lost}
 use Rattle.usb_host.proofs.Owners.{stays_kept, stays_then, single_then}
 use Rattle.usb_host.proofs.Polls.{HubThere, hub_there, reached_at, heard_at, poll_silent}
 use Rattle.usb_host.proofs.RestingRounds.{done, ok_is, quiet_first, quiet_second, at_rest}
 use Rattle.usb_host.proofs.Roots.{accounted, on_failed}
-use Rattle.usb_host.proofs.Soundness.{sound_then, sound_kept, but_kept, caused_kept, known_kept, truthful_kept, occupied_kept, sound_dropped}
+use Rattle.usb_host.proofs.Soundness.{part_then, sound_kept, but_kept, caused_kept, known_kept, truthful_kept, occupied_kept, sound_dropped}
 
 -- Parts that failed
 
@@ -48,26 +51,26 @@ module _ {A : Type 0} (result : Result A HostFault) (a b c : Hosting) (e : IsErr
   owned_fails = match_err result (λ _. StaysOwned a c) (StaysSingle a c) e (single_then a b c x y)
 
   pub part_fails : PartKeeps a result c
-  part_fails = record { owned = owned_fails; sound = on_failed result (StaysSound a c) e }
+  part_fails = record { owned = owned_fails; sound = on_failed result (PartStays a c) e }
 
 module _ (result : Result Round HostFault) (a b c : Hosting) (e : IsErr result) (x : StaysOwned a b) (y : StaysSingle b c) where
   pub hub_fails : (hub : List ℕ) → HubKeeps hub a result c
-  hub_fails hub = record { owned = owned_fails result a b c e x y; sound = on_failed result (StaysSound a c) e; calm = λ is. not_done result Quiet e is; silent = λ s is. not_done result Quiet e is }
+  hub_fails hub = record { owned = owned_fails result a b c e x y; sound = on_failed result (PartStays a c) e; calm = λ is. not_done result Quiet e is; silent = λ s is. not_done result Quiet e is }
 
   pub hubs_fail : HubsKeep a result c
   hubs_fail = record {
     owned = owned_fails result a b c e x y;
-    sound = on_failed result (StaysSound a c) e;
+    sound = on_failed result (PartStays a c) e;
     calm = λ is. not_done result Quiet e is;
     silent = λ s is. not_done result Quiet e is;
     agrees = on_failed result (Agrees c.entries c.addresses) e;
   }
 
   pub looks_fail : LooksKeep a result c
-  looks_fail = record { owned = owned_fails result a b c e x y; sound = on_failed result (StaysSound a c) e; rest = λ r is. not_done result Quiet e is }
+  looks_fail = record { owned = owned_fails result a b c e x y; sound = on_failed result (PartStays a c) e; rest = λ r is. not_done result Quiet e is }
 
   pub parts_fail : PartsKeep a result c
-  parts_fail = record { owned = owned_fails result a b c e x y; sound = record { keeps = on_failed result (StaysSound a c) e; rest = λ s is. not_done result Quiet e is } }
+  parts_fail = record { owned = owned_fails result a b c e x y; sound = record { keeps = on_failed result (PartStays a c) e; rest = λ s is. not_done result Quiet e is } }
 
 -- A hub is polled
 
@@ -89,7 +92,8 @@ hub_listed None some = absurd (cc some)
 hub_listed (Some f) some = refl
 
 module _ (hub : List ℕ) (answer : Result (Option (ArrayVec ℕ)) PipeFault) (a b : Hosting) (agrees : Agrees a.entries a.addresses) (same : b.entries ≡ a.entries) (pool : b.addresses ≡ a.addresses) (stopped : b.stopped ≡ a.stopped)
-    (went : HostWent 768 a b) (keeps : KeepsPolled hub (table_in a) a.world answer (table_in b) b.world) where
+    (went : HostWent 768 a b) (keeps : KeepsPolled hub (table_in a) a.world answer (table_in b) b.world) (through : GoesThrough hub (table_in a) (table_in b))
+    (asks : PipesPolled (pipes_at hub (table_in a)) a.world answer (pipes_at hub (table_in b)) b.world) where
   agrees_on : Agrees b.entries b.addresses
   agrees_on = subst (λ (es : Entries). Agrees es b.addresses) (sym same) (subst (Agrees a.entries) (sym pool) agrees)
 
@@ -102,11 +106,19 @@ module _ (hub : List ℕ) (answer : Result (Option (ArrayVec ℕ)) PipeFault) (a
   sound : IsOk answer → StaysSound a b
   sound ok = sound_kept 768 hub (IsOk answer) a b agrees same went keeps.levels (λ still. ok)
 
+  bulk : IsSound a → b.world.fault ≡ None → KeepsBulk a b
+  bulk s still =
+      let before = went_sound 768 a.world b.world went still in
+      bulk_stays a b (stay_polled hub a b answer through asks (keeps.spares (s.owned.so before) (s.level before hub)))
+
+  part : IsOk answer → PartStays a b
+  part ok = record { sound = sound ok; bulk = bulk }
+
   -- it has nothing to tell
   pub hub_quiet : (pipes left : Pipes) → IsOk answer → ArePipesIf (accepted_device_at hub a.entries) (is_below_hub hub) pipes → PipesPolled pipes a.world (Ok None) left b.world → HubKeeps hub a (Ok Quiet) b
   hub_quiet pipes left ok are asked = record {
     owned = polled;
-    sound = sound ok;
+    sound = part ok;
     calm = λ is still. keeps.levels.worlds.rests still;
     silent = λ s is still none.
         poll_silent b agrees_on ((sound ok).sound s) still hub pipes left a.world (subst (λ (es : Entries). ArePipesIf (accepted_device_at hub es) (is_below_hub hub) pipes) (sym same) are) asked none;
@@ -116,7 +128,7 @@ module _ (hub : List ℕ) (answer : Result (Option (ArrayVec ℕ)) PipeFault) (a
   pub hub_told : (n : ℕ) (c : Hosting) → IsOk answer → HostGoes n b c → PartKeeps {A = Unit {0}} b (Ok tt) c → HubKeeps hub a (Ok Worked) c
   hub_told n c ok q told = record {
     owned = stays_then a b c polled told.owned;
-    sound = sound_then 768 n a b c goes.went q.went (sound ok) told.sound;
+    sound = part_then 768 n a b c goes.went q.went (part ok) told.sound;
     calm = λ is. absurd (cc is);
     silent = λ s is. absurd (cc is);
   }
@@ -151,7 +163,7 @@ module _ (hub : List ℕ) (answer : Result (Option (ArrayVec ℕ)) PipeFault) (a
         owned = hub_lost hub a b (Ok tt) c there polled drops;
         sound = sound_dropped (Ok tt) hub 768 n a b c goes q
             (λ s. record { listed = there; but = but_kept 768 hub (IsOk answer) a b agrees same went keeps.levels s; there = λ still. occupied_kept 768 hub (IsOk answer) a b agrees same went keeps.levels s there still agrees_on })
-            (caused_kept 768 hub (IsOk answer) a b agrees same went keeps.levels) dropped (pends failed listed);
+            (caused_kept 768 hub (IsOk answer) a b agrees same went keeps.levels) bulk dropped (pends failed listed);
         calm = λ is. absurd (cc is);
         silent = λ s is. absurd (cc is);
       }
@@ -167,12 +179,12 @@ pub parts_keep : (k l m n : ℕ) (roots hubs looks : Round) (a b c d : Hosting) 
 parts_keep k l m n roots hubs looks a b c d ab bc ac cd none x y z = record {
   owned = stays_then a c d (stays_then a b c x.owned y.owned) z.owned;
   sound = record {
-    keeps = sound_then m n a c d ac.went cd.went (sound_then k l a b c ab.went bc.went x.sound y.sound) z.sound;
+    keeps = part_then m n a c d ac.went cd.went (part_then k l a b c ab.went bc.went x.sound y.sound) z.sound;
     rest = λ s is taken still.
         let all : either (either roots hubs) looks ≡ Quiet = ok_is (either (either roots hubs) looks) Quiet is in
         let both : either roots hubs ≡ Quiet = quiet_first (either roots hubs) looks all in
         let first : roots ≡ Quiet = quiet_first roots hubs both in
-        at_rest a b c d (none (ap done first)) y.sound (subst (λ (r : Round). HubsKeep b (Ok r) c) (quiet_second roots hubs both) y)
+        at_rest a b c d (none (ap done first)) y.sound.sound (subst (λ (r : Round). HubsKeep b (Ok r) c) (quiet_second roots hubs both) y)
         (subst (λ (r : Round). LooksKeep c (Ok r) d) (quiet_second (either roots hubs) looks all) z) s taken still;
   };
 }

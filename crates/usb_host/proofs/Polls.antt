@@ -15,7 +15,7 @@ use Rattle.usb_device.specs.declared.request.Registers.{Registers}
 use Rattle.usb_device.specs.Bulk.{tells_changes}
 use Rattle.usb_device.specs.Rows.{State}
 use Rattle.usb_device.specs.Spec.{Spec, Hub, IsSpec, IsHub}
-use Rattle.usb_device.specs.Tree.{reach, reach_at, state_at, Spot, path_to, reach_on, state_on}
+use Rattle.usb_device.specs.Tree.{reach, Spot, path_to, reach_on, state_on}
 use Rattle.usb_device.specs.View.{port_there}
 use Rattle.usb_world.specs.Paths.{address_of, pend}
 use Rattle.usb_world.specs.PluggedDevices.{hub_ports}
@@ -195,7 +195,7 @@ module _ (h : Hosting) (agrees : Agrees h.entries h.addresses) (s : IsSound h) (
     clear_by pipe old j device below told is settled waiting r =
         let status = status_of (configuration_of device) (pipe.ep, pipe.target.max) is.endpoint in
         let ports : facts.ports ≡ hub_ports r.state.spec.hub = facts_ports r.state.spec facts (sym r.tells.found.1.hub ∙ told) in
-        let spec : IsSpec r.state.spec = sane_spec h.world.roots j.row j.rest r.state (s.order still).0.sane r.stands in
+        let spec : IsSpec r.state.spec = sane_spec h.world.roots j.row j.rest r.state (s.order still).sane r.stands in
         let few : hub_ports r.state.spec.hub ≤ 7 = few_by r.state.spec.hub spec.hub in
         let configured : 1 ≤ r.state.registers.configuration = subst (λ n. 1 ≤ n) (sym r.tells.set.configuration) status.valued in
         let address : pipe.target.addr ≡ device.address = ap (λ (t : Target). t.addr) is.target in

@@ -3,7 +3,6 @@ use Rattle.std.proofs.Common.{◌≡◌, ◌∙◌, refl, sym, ap, arith, suc, z
 use Rattle.std.specs.Prelude.{ℕ, ◌-◌, ◌≤◌, [], length}
 use Rattle.usb_request.specs.Features.{PORT_POWER}
 use Rattle.usb_port.specs.PortState.{powered_on}
-use Rattle.usb_port.specs.Calls.{set_call}
 use Rattle.usb_port.specs.declared.call.PortCall.TheVariants.{SetPower}
 use Rattle.usb_device.specs.Tree.{Ports, ended, vacant, taken, called, changed_at, row_of}
 use Rattle.usb_world.specs.World.{World, roots_of}

@@ -1,14 +1,15 @@
 -- What requests to a port keep, as the host tells of them.
 use Rattle.usb_device.specs.Tree.{path_to}
-use Rattle.std.proofs.Common.{◌≡◌, inl, inr, refl, sym, ap, subst, ◌∙◌, ℕ, suc, true, false, List, [], ◌∷◌, ◌++◌, Option, None, Some, Result, Ok, Err}
+use Rattle.std.proofs.Common.{◌≡◌, inl, inr, refl, sym, ap, subst, ◌∙◌, ℕ, true, false, List, [], ◌∷◌, ◌++◌, Option, None, Some, Result, Ok, Err}
 use Rattle.std.specs.Prelude.{IfOk}
 use Rattle.std.specs.Global.{Vec}
 use Rattle.usb_request.specs.Features.{PORT_ENABLE, C_PORT_CONNECTION, C_PORT_ENABLE, C_PORT_RESET}
 use Rattle.usb_port.specs.declared.status.PortStatus.{PortStatus}
 use Rattle.usb_port.specs.Status.{status_in}
 use Rattle.usb_port.specs.declared.call.PortCall.{PortCall}
-use Rattle.usb_port.specs.declared.call.PortCall.TheVariants.{ClearEnable, ClearConnectionChange}
+use Rattle.usb_port.specs.declared.call.PortCall.TheVariants.{ClearEnable, ClearConnectionChange, ClearResetChange}
 use Rattle.usb_port.specs.Calls.{clear_call, is_reset}
+use Rattle.usb_backlog.specs.PortSettings.{gives_power}
 use Rattle.usb_device.specs.View.{port_there}
 use Rattle.usb_world.specs.Paths.{pend}
 use Rattle.usb_world.specs.Steps.{here}
@@ -30,6 +31,8 @@ use Rattle.usb_hub.specs.Port.{PortRead}
 use Rattle.usb_hub.specs.Requests.{AllRest, said_in}
 use Rattle.usb_hub.specs.CallFailures.{NoHubFailed}
 use Rattle.usb_hub.proofs.Interface.{stays_none}
+use Rattle.usb_backlog.specs.Marks.{KeepsAll}
+use Rattle.usb_backlog.proofs.Interface.{all_none, all_then}
 use Rattle.usb_enum.specs.declared.fault.EnumFault.{EnumFault}
 use Rattle.usb_enum.specs.declared.fault.EnumFault.TheVariants.{ParentLost}
 use Rattle.usb_enum.specs.Stop.{fault_at_port, at_port}
@@ -37,6 +40,8 @@ use Rattle.usb_enum.specs.PresentDevices.{IsInOrder}
 use Rattle.usb_enum.proofs.Interface.{devices_then, went_in_order, went_sound, went_three}
 use Rattle.usb_host.specs.PortHandling.{LetsGoOn, RestElsewhere, HasWay, IsLost, Watches, Tidies, ClearsChange, Decides}
 use Rattle.usb_host.specs.Ownership.{BaresPort}
+use Rattle.usb_host.specs.Backlog.{ClearsReset, ClearsConnection}
+use Rattle.usb_host.proofs.Backlogs.{call_all, connection_done, reset_done}
 use Rattle.usb_host.proofs.Clearings.{cleared_way, told_decides, decided_stays}
 use Rattle.usb_host.proofs.Handlings.{bares_after}
 use Rattle.usb_host.proofs.TidiedPorts.{Tidy, enable, reset, tidy_call, holds_then, holds_same, tidied_holds}
@@ -85,6 +90,14 @@ pub read_rests : (port : HubPort) (old : World) (result : Result PortStatus Pipe
 read_rests (Root number) old result new read sound = subst (AllRest old) (sym read.same) (λ x. here old)
 read_rests (External hub number) old result new read sound = read.asked.rests (said_sound status_in _ read.answer (subst IsNoBusFault read.told sound))
 
+pub read_backlog : (port : HubPort) (old : World) (result : Result PortStatus PipeFault) (new : World) → PortRead port old result new → IsNoBusFault result → KeepsAll old new
+read_backlog (Root number) old result new read sound = subst (KeepsAll old) (sym read.same) (all_none old)
+read_backlog (External hub number) old result new read sound = read.asked.backlog (said_sound status_in _ read.answer (subst IsNoBusFault read.told sound))
+
+pub ok_at_port : {A : Type 0} (result : Result A PipeFault) (x : A) → at_port result ≡ Ok x → result ≡ Ok x
+ok_at_port (Ok y) x e = ap Ok (cc e)
+ok_at_port (Err fault) x e = absurd (cc e)
+
 -- the hub of a path that is joined twice
 pub last_same : (q r : List ℕ) (m n : ℕ) → q ++ m ∷ [] ≡ r ++ n ∷ [] → q ≡ r
 last_same [] [] m n e = refl
@@ -102,6 +115,8 @@ watched port old result new read tells asked = record {
   addresses = asked.keeps;
   devices = asked.devices;
   rests = λ goes. read_rests port old result new read (sound_by result goes);
+  backlog = λ goes. read_backlog port old result new read (sound_by result goes);
+  told = λ f p at owned status e. tells.tells f p at owned status (ok_at_port result status e);
   lost = lost;
 }
   where
@@ -120,6 +135,10 @@ tidy_reset : (t : Tidy) → is_reset (tidy_call t) ≡ true → ⊥
 tidy_reset enable e = absurd (cc e)
 tidy_reset reset e = absurd (cc e)
 
+tidy_power : (t : Tidy) → gives_power (tidy_call t) ≡ true → ⊥
+tidy_power enable e = absurd (cc e)
+tidy_power reset e = absurd (cc e)
+
 module _ (port : HubPort) (feature : ℕ) (c : PortCall) (is : clear_call feature ≡ Some c) (old : World) (result : Result (Unit {0}) PipeFault) (new : World) (calls : CallsPort port (clear_call feature) old result new) where
   pub call_of : (is_reset c ≡ true → ⊥) → (f : Claims) (p : List ℕ) → IsAt f port p → TillFault (Owned f) old → IsCall f port p (clear_call feature) c old
   call_of other f p at owned = record { at = at; is = is; alone = λ resets. absurd (other resets); owned = owned }
@@ -135,6 +154,7 @@ call_tidies port feature tidy is old result new calls keeps = record {
   devices = keeps.devices;
   others = λ f p at owned goes. calls.rests f p (tidy_call tidy) (call f p at owned) (sound_by result goes);
   stays = λ f p at owned done x way. tidied_holds tidy p old new (calls.done f p (tidy_call tidy) (call f p at owned) (done_by result done)) x way;
+  backlog = λ f p at owned goes. call_all p (tidy_call tidy) (tidy_power tidy) (tidy_reset tidy) (calls.backlog f p (tidy_call tidy) (call f p at owned) (sound_by result goes));
   lost = call_lost port feature (tidy_call tidy) is old result new calls;
 }
   where
@@ -157,6 +177,7 @@ tidies_none port w = record {
   devices = stays_none w;
   others = λ f p at owned goes x away. here w;
   stays = λ f p at owned done x way. holds_same x w w refl;
+  backlog = λ f p at owned goes. all_none w;
   lost = λ p few still single e. absurd (cc e);
 }
 
@@ -177,6 +198,7 @@ module _ (port : HubPort) (m n : ℕ) (old mid new : World) {t s r q : Option (L
     devices = devices_then n old mid new x.devices went y.devices;
     others = λ f p at owned goes. elsewhere_then p old mid new (x.others f p at owned tt) (y.others f p at (x.addresses.kept f owned) goes);
     stays = λ f p at owned done z way. holds_then z old mid new (x.stays f p at owned refl z way) (y.stays f p at (x.addresses.kept f owned) done z way);
+    backlog = λ f p at owned goes. all_then (x.backlog f p at owned tt) (y.backlog f p at (x.addresses.kept f owned) goes);
     lost = λ p few still alone e. y.lost p (went_three m old mid before few) still alone e;
   }
 
@@ -186,6 +208,8 @@ module _ (port : HubPort) (m n : ℕ) (old mid new : World) {t s r q : Option (L
     bares = bares_kept result x.bares;
     devices = devices_then n old mid new d went x.devices;
     others = λ f p at owned goes. elsewhere_then p old mid new (calls.rests f p ClearConnectionChange (call f p at owned) tt) (x.others f p at (k.kept f owned) goes);
+    backlog = λ f p at owned goes.
+        all_then (call_all p ClearConnectionChange (λ g. absurd (cc g)) (λ g. absurd (cc g)) (calls.backlog f p ClearConnectionChange (call f p at owned) tt)) (x.backlog f p at (k.kept f owned) goes);
     decides = λ f p at owned way order still. x.decides f p at (k.kept f owned) (cleared_way p old mid (calls.done f p ClearConnectionChange (call f p at owned) refl) way) (went_in_order m old mid before order) still;
     lost = λ f p at owned way few still alone e. x.lost f p at (k.kept f owned) (cleared_way p old mid (calls.done f p ClearConnectionChange (call f p at owned) refl) way)
         (went_three m old mid before few) still alone e;
@@ -206,6 +230,8 @@ module _ (port : HubPort) (m n : ℕ) (old mid new : World) {t s r q : Option (L
     devices = devices_then n old mid new asked.devices went keeps.devices;
     others = λ f p at owned goes. elsewhere_then p old mid new (λ x away. read_rests port old (Ok status) mid read tt x) (calls.rests f p ClearEnable (call f p at owned) (goes_by result goes));
     decides = λ f p at owned way order still. decided result f p at owned way order still calls;
+    backlog = λ f p at owned goes.
+        all_then (read_backlog port old (Ok status) mid read tt) (call_all p ClearEnable (λ g. absurd (cc g)) (λ g. absurd (cc g)) (calls.backlog f p ClearEnable (call f p at owned) (goes_by result goes)));
     lost = λ f p at owned way few still alone e. lost result f p at owned few still alone e calls;
   }
     where
@@ -223,7 +249,7 @@ module _ (port : HubPort) (m n : ℕ) (old mid new : World) {t s r q : Option (L
       decided : (result : Result (Unit {0}) PipeFault) (f : Claims) (p : List ℕ) → IsAt f port p → TillFault (Owned f) old → HasWay old p → IsInOrder old → new.fault ≡ None → CallsPort port (clear_call PORT_ENABLE) mid result new
           → IfOk (disabled_so status result) (λ status. Decides status.connected new p)
       decided (Ok tt) f p at owned way order still calls =
-          let sane = (went_in_order m old mid before order (went_sound n mid new went still)).0.sane in
+          let sane = (went_in_order m old mid before order (went_sound n mid new went still)).sane in
           let told = told_decides p status old mid (tells.tells f p at owned status refl) sane way in
           decided_stays status.connected p mid new (calls.done f p ClearEnable (call f p at owned) refl) told
       decided (Err fault) f p at owned way order still calls = tt
@@ -242,6 +268,9 @@ clears_failed port old fault new calls keeps = record {
   devices = keeps.devices;
   others = λ f p at owned goes. calls.rests f p ClearConnectionChange (record { at = at; is = refl; alone = λ resets. absurd (cc resets); owned = owned }) (goes_sound PortStatus (Unit {0}) fault goes);
   decides = λ f p at owned way order still. tt;
+  backlog = λ f p at owned goes.
+      call_all p ClearConnectionChange (λ g. absurd (cc g)) (λ g. absurd (cc g))
+      (calls.backlog f p ClearConnectionChange (record { at = at; is = refl; alone = λ resets. absurd (cc resets); owned = owned }) (goes_sound PortStatus (Unit {0}) fault goes));
   lost = λ f p at owned way few still alone e. call_lost port C_PORT_CONNECTION ClearConnectionChange refl old (Err fault) new calls p few still alone (ap Err (cc e));
 }
 
@@ -252,6 +281,7 @@ clears_untold port old fault new x = record {
   devices = x.devices;
   others = λ f p at owned goes y away. x.rests goes y;
   decides = λ f p at owned way order still. tt;
+  backlog = λ f p at owned goes. x.backlog goes;
   lost = λ f p at owned way few still alone e. x.lost p way few still alone e;
 }
 
@@ -261,6 +291,29 @@ clears_told port n old status new went off read tells asked = record {
   bares = asked.bare status refl off;
   devices = asked.devices;
   others = λ f p at owned goes x away. read_rests port old (Ok status) new read tt x;
-  decides = λ f p at owned way order still. told_decides p status old new (tells.tells f p at owned status refl) (went_in_order n old new went order still).0.sane way;
+  decides = λ f p at owned way order still. told_decides p status old new (tells.tells f p at owned status refl) (went_in_order n old new went order still).sane way;
+  backlog = λ f p at owned goes. read_backlog port old (Ok status) new read tt;
   lost = λ f p at owned way few still alone e. absurd (cc e);
 }
+
+-- What a clearing that is done does to what is left to do
+
+pub resets_done : (port : HubPort) (old mid new : World) → Tidies port old (Ok tt) mid → CallsPort port (clear_call C_PORT_RESET) mid (Ok tt) new → ClearsReset port old new
+resets_done port old mid new first calls f p at owned =
+    reset_done p old mid new (first.backlog f p at owned tt)
+    (calls.done f p ClearResetChange (record { at = at; is = refl; alone = λ resets. absurd (cc resets); owned = first.addresses.kept f owned }) refl)
+
+module _ (port : HubPort) (old mid asked_at : World) (status : PortStatus) (calls : CallsPort port (clear_call C_PORT_CONNECTION) old (Ok tt) mid) (k : KeepsAddresses old mid) (tells : TellsPort port mid (Ok status) asked_at) where
+  clears : (f : Claims) (p : List ℕ) → IsAt f port p → TillFault (Owned f) old → IsCall f port p (clear_call C_PORT_CONNECTION) ClearConnectionChange old
+  clears f p at owned = record { at = at; is = refl; alone = λ resets. absurd (cc resets); owned = owned }
+
+  pub changes_done : (new : World) → KeepsAll asked_at new → ClearsConnection port status old new
+  changes_done new rest f p at owned =
+      connection_done p status old mid asked_at new (calls.done f p ClearConnectionChange (clears f p at owned) refl) (tells.tells f p at (k.kept f owned) status refl) rest
+
+  -- the port was told to pass nothing on, too
+  pub changes_disabled : (new : World) → KeepsAddresses mid asked_at → CallsPort port (clear_call PORT_ENABLE) asked_at (Ok tt) new → ClearsConnection port status old new
+  changes_disabled new kept disables f p at owned =
+      connection_done p status old mid asked_at new (calls.done f p ClearConnectionChange (clears f p at owned) refl) (tells.tells f p at (k.kept f owned) status refl)
+      (call_all p ClearEnable (λ g. absurd (cc g)) (λ g. absurd (cc g))
+      (disables.backlog f p ClearEnable (record { at = at; is = refl; alone = λ resets. absurd (cc resets); owned = kept.kept f (k.kept f owned) }) tt))

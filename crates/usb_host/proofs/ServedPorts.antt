@@ -25,6 +25,7 @@ use Rattle.usb_host.specs.Ownership.{claims, StaysOwned}
 use Rattle.usb_host.specs.Ports.{StandsAt}
 use Rattle.usb_host.specs.Progress.{HostWent, Rests}
 use Rattle.usb_host.specs.Soundness.{Known, KnownBut, Truthful, IsSound}
+use Rattle.usb_host.proofs.BulkPipes.{AllStay, stay_forgotten, stay_joined, stay_rests}
 use Rattle.usb_host.proofs.Clearings.{known_way}
 use Rattle.usb_host.proofs.Handlings.{stays_bare, owned_rests}
 use Rattle.usb_table.specs.Levels.{AllLevel}
@@ -111,6 +112,12 @@ module _ (n : ℕ) (path : List ℕ) (port : KnownPort) (a b : Hosting) (s : Sta
   watched_lost fault w told i =
       lost_sound path port a b fault s told (rests_known path port a b r s) (rests_agrees path port a b r s) (λ goes. but_of_sound path b (sound_rests n a b r went w.addresses w.devices (w.rests goes) i))
 
+  pub watched_stay : (result : Result PortStatus EnumFault) → Watches port.port a.world result b.world → IsSound a → AllStay a b
+  watched_stay result w i = stay_rests a b r w.devices (w.addresses.kept (claims a.entries) i.owned).single
+
+  pub tidied_stay : (result : Result (Unit {0}) EnumFault) → Tidies port.port a.world result b.world → IsSound a → AllStay a b
+  tidied_stay result t i = stay_rests a b r t.devices (t.addresses.kept (claims a.entries) i.owned).single
+
   -- the port stands where it stood
   pub rests_stands : StandsAt path port b
   rests_stands = record {
@@ -120,6 +127,9 @@ module _ (n : ℕ) (path : List ℕ) (port : KnownPort) (a b : Hosting) (s : Sta
     askable = s.askable;
     agrees = rests_agrees path port a b r s;
   }
+
+  pub cleared_stay : (fault : EnumFault) → ClearsChange port.port a.world (Err fault) b.world → IsSound a → AllStay a b
+  cleared_stay fault x i = stay_rests a b r x.devices (x.bares.kept (claims a.entries) i.owned).single
 
   -- the clearing failed
   pub cleared_lost : (fault : EnumFault) → ClearsChange port.port a.world (Err fault) b.world → FaultAt port.port fault b.world → IsSound a → PortSound path (Err fault) b
@@ -168,6 +178,12 @@ module _ (n : ℕ) (path : List ℕ) (port : KnownPort) (a b c : Hosting) (statu
       let at_b : b.world.fault ≡ None = ap (λ (w : World). w.fault) (sym world_is) ∙ still in
       subst (λ w. Decides status.connected w path) (sym world_is)
       (x.decides (claims a.entries) path (stands_at path port a s) i.owned (stands_way path port a s (i.known (still_before still))) i.order at_b)
+
+  -- no bulk pipe but those of what is forgotten has changed
+  pub forgot_stay : AllStay a c
+  forgot_stay =
+      let single = ap (λ (w : World). w.shared) (sym world_is) ∙ (stays.stays i.owned).single in
+      stay_joined a b c (stay_rests a b r x.devices single) (stay_forgotten path b c world_is rest gone pipes)
 
   pub forgot_open : status.connected ≡ true → IsOpen path c
   forgot_open on =

@@ -117,7 +117,7 @@ module _ (path : List ℕ) (port : KnownPort) (h : Hosting) (s : StandsAt path p
 
       pick : IsKnownAs h.world hub (Some (Device device)) → (pend h.world.roots hub ≡ true) ⊎ ServesAt (target_of device (is_below_hub hub)) (port_on_hub path) hub h.world
       pick (inl x) = inl x
-      pick (inr x) = inr (hub_serves h.world h.entries device facts (port_on_hub path) told (port_number path s.is).0 most address (i.order still).0 hub at x.1 (i.truthful still hub away) wide)
+      pick (inr x) = inr (hub_serves h.world h.entries device facts (port_on_hub path) told (port_number path s.is).0 most address (i.order still) hub at x.1 (i.truthful still hub away) wide)
 
   by_parent : (o : Option (List ℕ)) → parent_of path ≡ o → port_below o (port_on_hub path) h.entries ≡ Some port → HasServer port.port path h.world
   by_parent None above e = let same : root_port (port_on_hub path) ≡ port = cc e in subst (λ (p : KnownPort). HasServer p.port path h.world) same tt

@@ -1,5 +1,5 @@
 -- A hub that answers a poll with NAK has no port whose change bits are set.
-use Rattle.std.proofs.Common.{◌≡◌, ◌≤◌, ◌<◌, ◌==◌, ◌∙◌, if◌then◌else◌, ℕ, zero, suc, nat_le, Bool, true, false, List, [], ◌∷◌, ◌++◌, length, Option, None, Some, refl, ap, sym, subst, arith, slice_get}
+use Rattle.std.proofs.Common.{◌≡◌, ◌≤◌, ◌<◌, ◌==◌, ◌∙◌, if◌then◌else◌, ℕ, zero, suc, Bool, true, false, List, [], ◌∷◌, ◌++◌, Option, None, Some, refl, ap, sym, subst, arith, slice_get}
 use Rattle.std.specs.Prelude.{IfSome}
 use Rattle.std.proofs.lemmas.Bool.{eqb-true}
 use Rattle.usb_port.specs.PortState.{PortState, has_change}
@@ -9,12 +9,12 @@ use Rattle.usb_device.specs.declared.transfer.InEndpoint.TheVariants as by
 use Rattle.usb_device.specs.Attempt.{Way, whole, broken, lost, heard, gave, held_law, in_law}
 use Rattle.usb_device.specs.Bulk.{tells_changes, change_bits}
 use Rattle.usb_device.specs.Rows.{State, Reply}
-use Rattle.usb_device.specs.Tree.{Ports, ended, vacant, taken, full, row_of, place_at, port_at, reach_at, state_at, Spot, path_to, reach_on, state_on, place_on}
+use Rattle.usb_device.specs.Tree.{Ports, ended, vacant, taken, full, row_of, place_at, port_at, Spot, path_to, reach_on, state_on, place_on}
 use Rattle.usb_device.specs.View.{port_there}
 use Rattle.usb_world.specs.declared.types.Outcome.{Outcome}
 use Rattle.usb_world.specs.declared.types.Outcome.TheVariants as outcome
 use Rattle.usb_world.specs.Devices.{Was, DidIn}
-use Rattle.usb_world.specs.OneHolder.{IsMade, got}
+use Rattle.usb_world.specs.OneHolder.{IsMade}
 use Rattle.usb_world.specs.AttemptPackets.{IsSettled}
 use Rattle.usb_world.specs.PortRequests.{leaves_step}
 use Rattle.usb_world.specs.Steps.{attempt, after, ready, outcome_in}

@@ -8,6 +8,10 @@ use Rattle.usb_enum.specs.Bounds.{widest_enumeration, read_bound}
 abbrev pub clearing_bound : ℕ
 clearing_bound = write_bound + read_bound 4 + write_bound
 
+-- a status, and then the clearing: what is done at a port at which nothing is found
+abbrev pub deciding_bound : ℕ
+deciding_bound = read_bound 4 + clearing_bound
+
 -- and then the enumeration
 abbrev pub look_bound : ℕ
 look_bound = clearing_bound + widest_enumeration

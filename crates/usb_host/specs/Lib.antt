@@ -1,11 +1,14 @@
 pub mod Accounts
 pub mod Agreement
+pub mod Backlog
 pub mod Bounds
+pub mod BulkPipes
 pub mod PortHandling
 pub mod Hosting
 pub mod Ownership
 pub mod Ports
 pub mod Progress
+pub mod Service
 pub mod Soundness
 pub mod ToldFaults
 pub mod Transfers

@@ -98,13 +98,14 @@ pub record FinishesPort (path : List ℕ) (served : Result (Unit {0}) EnumFault)
   pub ends : PortOwned path served old → LeavesOwned result new
   pub rooted : IsRooted old → (served ≡ Err ParentLost → root_of path ≤ roots_of old.world) → OnOk result (IsRooted new)
 
--- a hub is listed as lost, and nothing stands below it
-pub record HasLost (old new : Entries) : Type 0 where
+-- a hub, or one above it, is listed as lost, and nothing stands below that
+pub record HasLost (hub : List ℕ) (old new : Entries) : Type 0 where
   pub path : List ℕ
+  pub above : is_way path hub ≡ true
   pub entries : new ≡ insert_entry path_cmp (without path old) path (Refused Lost)
 
 pub record DropsHub (hub : List ℕ) (old : Hosting) (result : Result (Unit {0}) HostFault) (new : Hosting) : Type 0 where
-  pub lost : OnOk result (HasLost old.entries new.entries)
+  pub lost : OnOk result (HasLost hub old.entries new.entries)
   pub ends : IsOwnedBut hub old → LeavesOwned result new
   pub rooted : IsRooted old → root_of hub ≤ roots_of old.world → OnOk result (IsRooted new)
 

@@ -1,6 +1,6 @@
 -- What the parts of a port's handling keep of what is known of ports and devices.
 use Rattle.usb_device.specs.Tree.{path_to}
-use Rattle.std.specs.Prelude.{◌≡◌, ◌⊎◌, ◌≤◌, ⊤, ℕ, suc, List, [], ◌∷◌, ◌++◌, Bool, true, false, None, Some, IsSomeAnd, Result, Ok, Err, Option, OnOk, IfOk}
+use Rattle.std.specs.Prelude.{◌≡◌, ◌⊎◌, ◌≤◌, ◌+◌, ◌*◌, ⊤, ℕ, List, [], ◌∷◌, ◌++◌, Bool, true, false, None, Some, IsSomeAnd, Result, Ok, Err, Option, OnOk, IfOk}
 use Rattle.usb_port.specs.Order.{parent_of}
 use Rattle.usb_port.specs.declared.status.PortStatus.{PortStatus}
 use Rattle.usb_world.specs.Paths.{live, pend, is_way}
@@ -15,7 +15,9 @@ use Rattle.usb_hub.specs.declared.port.HubPort.{HubPort}
 use Rattle.usb_hub.specs.declared.port.HubPort.TheVariants.{External}
 use Rattle.usb_hub.specs.CallFailures.{Serves}
 use Rattle.usb_hub.specs.Addresses.{IsAt, KeepsDevices}
+use Rattle.usb_hub.specs.Moments.{PortTold}
 use Rattle.usb_hub.specs.Requests.{AllRest}
+use Rattle.usb_backlog.specs.Marks.{KeepsAll, KeepsFound}
 use Rattle.usb_enum.specs.declared.cause.Cause.TheVariants.{Lost}
 use Rattle.usb_enum.specs.declared.fault.EnumFault.{EnumFault}
 use Rattle.usb_enum.specs.declared.fault.EnumFault.TheVariants.{ParentLost, Bus, Memory}
@@ -23,6 +25,8 @@ use Rattle.usb_enum.specs.declared.finding.Finding.{Finding}
 use Rattle.usb_enum.specs.declared.finding.Finding.TheVariants.{Refused}
 use Rattle.usb_enum.specs.Places.{IsKnownAs, IsOccupied}
 use Rattle.usb_enum.specs.PresentDevices.{IsInOrder}
+use Rattle.usb_enum.specs.TextLengths.{HasPlanWithin}
+use Rattle.usb_host.specs.BulkPipes.{KeepsBulk}
 use Rattle.usb_host.specs.Hosting.{Hosting}
 use Rattle.usb_host.specs.Ownership.{IsOwned, KeepsPort, FinishesPort, BaresPort, BaresUpward, KeepsDisabled}
 use Rattle.usb_host.specs.Soundness.{IsSound, IsSoundBut, IsDroppable, IsFairTo, Causes, CausesBut}
@@ -50,11 +54,13 @@ abbrev pub IsLost : HubPort → List ℕ → World → Type 0
 IsLost port p w = (hub : Target) (number : ℕ) → port ≡ External hub number → 8 ≤ hub.max → (serves : Serves hub number w) → p ≡ path_to serves.spot ++ (number ∷ [])
     → pend w.roots (path_to serves.spot) ≡ true
 
--- a status was asked: each device stays as it was, and nothing is asked of any port
+-- a status was asked: each device stays as it was, nothing is asked of any port, and the status is the port's at a moment of the call; no more is left to do, but by events
 pub record Watches (port : HubPort) (old : World) (result : Result PortStatus EnumFault) (new : World) : Type 0 where
   pub addresses : KeepsAddresses old new
   pub devices : KeepsDevices old new
   pub rests : LetsGoOn result → AllRest old new
+  pub backlog : LetsGoOn result → KeepsAll old new
+  pub told : (f : Claims) (p : List ℕ) → IsAt f port p → TillFault (Owned f) old → (status : PortStatus) → result ≡ Ok status → PortTold p status old new
   pub lost : (p : List ℕ) → HasWay old p → NoThreeDamaged old → new.fault ≡ None → new.shared ≡ false → result ≡ Err ParentLost → IsLost port p new
 
 -- what is known of a port stays so; what pends there pends; and where it is powered on its whole way, it stands as it stood, or a change is pending
@@ -70,6 +76,8 @@ pub record Tidies (port : HubPort) (old : World) (result : Result (Unit {0}) Enu
   pub others : (f : Claims) (p : List ℕ) → IsAt f port p → TillFault (Owned f) old → LetsGoOn result → RestElsewhere p old new
   pub stays : (f : Claims) (p : List ℕ) → IsAt f port p → TillFault (Owned f) old → result ≡ Ok tt
       → (x : List ℕ) → is_way p x ≡ true → HoldsAt x old new
+  -- no more is left to do, but by events
+  pub backlog : (f : Claims) (p : List ℕ) → IsAt f port p → TillFault (Owned f) old → LetsGoOn result → KeepsAll old new
   pub lost : (p : List ℕ) → NoThreeDamaged old → new.fault ≡ None → new.shared ≡ false → result ≡ Err ParentLost → IsLost port p new
 
 -- what a status decides: a device stands there, or none; or a change of connection is pending
@@ -84,6 +92,8 @@ pub record ClearsChange (port : HubPort) (old : World) (result : Result PortStat
   pub others : (f : Claims) (p : List ℕ) → IsAt f port p → TillFault (Owned f) old → LetsGoOn result → RestElsewhere p old new
   pub decides : (f : Claims) (p : List ℕ) → IsAt f port p → TillFault (Owned f) old → HasWay old p → IsInOrder old → new.fault ≡ None
       → IfOk result (λ status. Decides status.connected new p)
+  -- no more is left to do, but by events
+  pub backlog : (f : Claims) (p : List ℕ) → IsAt f port p → TillFault (Owned f) old → LetsGoOn result → KeepsAll old new
   pub lost : (f : Claims) (p : List ℕ) → IsAt f port p → TillFault (Owned f) old → HasWay old p → NoThreeDamaged old → new.fault ≡ None → new.shared ≡ false → result ≡ Err ParentLost → IsLost port p new
 
 -- At a port whose hub may be lost
@@ -105,6 +115,7 @@ PortCaused path (Err Memory) new = ⊤
 -- a port is served
 pub record ServesSound (path : List ℕ) (old : Hosting) (result : Result (Unit {0}) EnumFault) (new : Hosting) : Type 0 where
   pub sound : IsSound old → PortSound path result new
+  pub bulk : IsSound old → LetsGoOn result → new.world.fault ≡ None → KeepsBulk old new
   pub caused : IsSound old → IsFairTo old.world new.world → Causes old.world old.entries → PortCaused path result new
 
 -- a look at a port
@@ -121,12 +132,20 @@ pub record IsOpen (path : List ℕ) (h : Hosting) : Type 0 where
 -- what is there is found and entered
 pub record FindsSound (path : List ℕ) (old : Hosting) (result : Result (Unit {0}) EnumFault) (new : Hosting) : Type 0 where
   pub sound : IsOpen path old → PortSound path result new
+  pub bulk : IsOpen path old → LetsGoOn result → new.world.fault ≡ None → KeepsBulk old new
+  -- no more is left to do, but by events, where the ports of the device and the port's reset are marked
+  pub backlog : IsOpen path old → new.world.fault ≡ None → KeepsFound path old.world new.world
+  -- where the plan plugs no device whose texts say more bytes, so few attempts are made
+  pub few : IsOpen path old → (most : ℕ) → (old.world.fault ≡ None → HasPlanWithin most old.world) → new.world.attempts ≤ old.world.attempts + (250000 + 100 * most)
   pub caused : IsOpen path old → IsFairTo old.world new.world → CausesBut path old.world old.entries → PortCaused path result new
 
 -- the hub of a port that was served is dropped, where it is lost
 pub record DropsLost (path : List ℕ) (served : Result (Unit {0}) EnumFault) (old : Hosting) (result : Result (Unit {0}) HostFault) (new : Hosting) : Type 0 where
   pub owned : FinishesPort path served old result new
   pub sound : PortSound path served old → OnOk result (IsSound new)
+  -- no more is left to do, but by events
+  pub backlog : PortSound path served old → OnOk result (new.world.fault ≡ None → KeepsAll old.world new.world)
+  pub bulk : PortSound path served old → OnOk result (new.world.fault ≡ None → KeepsBulk old new)
   pub caused : PortSound path served old → IsFairTo old.world new.world → PortCaused path served old → OnOk result (Causes new.world new.entries)
 
 -- Where a hub is dropped
@@ -144,14 +163,20 @@ Disabled false path new = IsSomeAnd (parent_of path) (λ hub. (pend new.world.ro
 -- a port on the way is told to pass nothing on: it does; or, where it could not be told, the hub above it may be dropped
 pub record DisablesOnWay (path : List ℕ) (old : Hosting) (result : Result Bool HostFault) (new : Hosting) : Type 0 where
   pub owned : KeepsDisabled path old result new
+  pub devices : KeepsDevices old.world new.world
   pub done : IsDroppable path old → result ≡ Ok true → IsDroppedAt path new
   pub failed : IsDroppable path old → result ≡ Ok false → IsSomeAnd (parent_of path) (λ hub. IsDroppable hub new)
+  -- no more is left to do, but by events
+  pub backlog : IsDroppable path old → new.world.fault ≡ None → KeepsAll old.world new.world
   pub caused : IsDroppable path old → IsFairTo old.world new.world → pend old.world.roots path ≡ true → CausesBut path old.world old.entries
       → IfOk result (λ done. Disabled done path new)
 
 -- the first port on the way up that can be told passes nothing on
 pub record Climbs (first : List ℕ) (old : Hosting) (result : Result (List ℕ) HostFault) (new : Hosting) : Type 0 where
   pub bares : BaresUpward first old result new
+  pub devices : KeepsDevices old.world new.world
   pub sound : IsDroppable first old → IfOk result (λ path. IsDroppedAt path new)
+  -- no more is left to do, but by events
+  pub backlog : IsDroppable first old → new.world.fault ≡ None → KeepsAll old.world new.world
   pub caused : IsDroppable first old → IsFairTo old.world new.world → pend old.world.roots first ≡ true → CausesBut first old.world old.entries
       → IfOk result (λ path. (pend new.world.roots path ≡ true) × CausesBut path new.world new.entries)

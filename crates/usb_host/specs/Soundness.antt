@@ -14,6 +14,7 @@ use Rattle.usb_enum.specs.declared.cause.Cause.TheVariants.{NoAddress}
 use Rattle.usb_enum.specs.declared.finding.Accepted.{Accepted}
 use Rattle.usb_enum.specs.declared.finding.Finding.TheVariants.{Device, Refused}
 use Rattle.usb_enum.specs.declared.hub.HubFacts.{HubFacts}
+use Rattle.usb_backlog.specs.Marks.{KeepsAll}
 use Rattle.usb_hub.specs.Requests.{AllRest}
 use Rattle.usb_enum.specs.Verdicts.{IsFindingOf, IsRight, IsSet}
 use Rattle.usb_enum.specs.Places.{IsKnownAs, IsOccupied}
@@ -28,6 +29,7 @@ use Rattle.usb_transaction.specs.Failures.{NoThreeDamaged}
 use Rattle.usb_enum.specs.Losses.{FewLosses}
 use Rattle.usb_enum.specs.PresentDevices.{IsInOrder, IsOrderly}
 use Rattle.usb_host.specs.Agreement.{Agrees}
+use Rattle.usb_host.specs.BulkPipes.{KeepsBulk}
 use Rattle.usb_host.specs.Hosting.{Hosting}
 use Rattle.usb_host.specs.Transfers.{table_in}
 use Rattle.usb_host.specs.Ownership.{IsOwned, IsOwnedBut, IsRooted, KeepsOwned, Owning}
@@ -141,8 +143,13 @@ pub record StaysSound (old new : Hosting) : Type 0 where
   pub sound : IsSound old → IsSound new
   pub caused : IsSound old → IsFairTo old.world new.world → Causes old.world old.entries → Causes new.world new.entries
 
+-- the same over a part of a round, which leaves bulk pipes and their endpoints alone, but where a device is found anew
+pub record PartStays (old new : Hosting) : Type 0 where
+  pub sound : StaysSound old new
+  pub bulk : IsSound old → new.world.fault ≡ None → KeepsBulk old new
+
 abbrev pub KeepsSound : {A : Type 0} → Hosting → Result A HostFault → Hosting → Type 0
-KeepsSound old result new = OnOk result (StaysSound old new)
+KeepsSound old result new = OnOk result (PartStays old new)
 
 -- a hub that is listed may be dropped: what is known elsewhere is so, and a device stands at its port, or a change is pending there
 pub record IsDroppable (hub : List ℕ) (h : Hosting) : Type 0 where
@@ -153,6 +160,9 @@ pub record IsDroppable (hub : List ℕ) (h : Hosting) : Type 0 where
 -- a hub that failed is dropped: what is known elsewhere is known, and so is what is at the port now; where damage is fair, a change was pending there
 pub record DropsSound (hub : List ℕ) (old : Hosting) (result : Result (Unit {0}) HostFault) (new : Hosting) : Type 0 where
   pub sound : IsDroppable hub old → OnOk result (IsSound new)
+  -- no more is left to do, but by events
+  pub backlog : IsDroppable hub old → OnOk result (new.world.fault ≡ None → KeepsAll old.world new.world)
+  pub bulk : IsDroppable hub old → OnOk result (new.world.fault ≡ None → KeepsBulk old new)
   pub caused : IsDroppable hub old → IsFairTo old.world new.world → pend old.world.roots hub ≡ true → CausesBut hub old.world old.entries → OnOk result (Causes new.world new.entries)
 
 -- a round keeps what is known; a quiet one in which no event came leaves nothing to do, as long as the bus is at work
@@ -213,6 +223,8 @@ pub record RoundKeeps (old : Hosting) (result : Result Round HostFault) (new : H
 pub record TransferKeeps (old new : Hosting) : Type 0 where
   pub owning : Owning old → Owning new
   pub sound : StaysSound old new
+  -- no more is left to do, but by events
+  pub backlog : new.world.fault ≡ None → KeepsAll old.world new.world
 
 -- a world before anything came: no root port has power
 pub record IsUnpowered (w : World) : Type 0 where

@@ -7,8 +7,9 @@ ghost use Rattle.usb_transaction.specs.Transactions.{transaction_bound};
 ghost use Rattle.usb_host.specs.Agreement.{Agrees};
 ghost use Rattle.usb_host.specs.Bounds.{round_bound, clear_bound};
 ghost use Rattle.usb_host.specs.Hosting.{Hosting, opening_host};
-ghost use Rattle.usb_host.specs.Progress.{DidRound, HostWent};
+ghost use Rattle.usb_host.specs.Progress.{HostWent};
 ghost use Rattle.usb_host.specs.Ownership.{Owning, IsUntouched};
+ghost use Rattle.usb_host.specs.Service.{DidParts};
 ghost use Rattle.usb_host.specs.Soundness.{IsSound, IsUnpowered, RoundKeeps, TransferKeeps};
 ghost use Rattle.usb_host.specs.ToldFaults.{RoundTold, TransferTold, StopsAsRound, StopsAsTransfer, host_told, is_final};
 ghost use Rattle.usb_host.specs.Transfers.{SentAt, ReceivedAt, ClearedAt};
@@ -152,7 +153,7 @@ impl<B: Bus> Host<B> {
         ensures stopped { StopsAsRound self.old result self.new }
         ensures went { HostWent round_bound self.old self.new }
         ensures told { IfErr result (λ fault. RoundTold fault self.new.world) }
-        ensures did { IfOk result (λ round. DidRound round self.old self.new) }
+        ensures did { IfOk result (λ round. DidParts round self.old self.new) }
         ensures keeps { RoundKeeps self.old result self.new }
     {
         if self.stopped {

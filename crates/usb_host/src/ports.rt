@@ -1,5 +1,5 @@
 //! What the host does at a port.
-ghost use Rattle.std.specs.Prelude.{◌≡◌, ◌⊎◌, ◌*◌, [], ◌∷◌, true, false, length, IsTrue, OnOk, IfOk, IfErr, IfSome, IfNone, IsSome};
+ghost use Rattle.std.specs.Prelude.{◌≡◌, ◌≤◌, ◌⊎◌, ◌+◌, ◌*◌, [], ◌∷◌, true, false, length, IsTrue, OnOk, IfOk, IfErr, IfSome, IfNone, IsSome};
 ghost use Rattle.std.specs.BTreeMap.{insert_entry};
 ghost use Rattle.usb_port.specs.Order.{path_cmp};
 ghost use Rattle.usb_port.specs.Path.{IsPath, IsPortNumber};
@@ -8,16 +8,17 @@ ghost use Rattle.usb_hub.specs.Port.{IsPort};
 ghost use Rattle.usb_resources.specs.Pool.{IsFull};
 ghost use Rattle.usb_enum.specs.Bounds.{widest_enumeration, read_bound};
 ghost use Rattle.usb_enum.specs.Stop.{FaultAt};
-ghost use Rattle.usb_table.specs.Entries.{Replaced, has_at, without};
+ghost use Rattle.usb_table.specs.Entries.{has_at, without};
 ghost use Rattle.usb_table.specs.KnownPorts.{IsAskable, known_port};
 ghost use Rattle.usb_table.specs.Listing.{tier_of};
 ghost use Rattle.usb_pipe.specs.Control.{write_bound};
 ghost use Rattle.usb_host.specs.Bounds.{clearing_bound, look_bound, drop_bound, handling_bound, serving_bound};
 ghost use Rattle.usb_host.specs.Agreement.{Agrees};
-ghost use Rattle.usb_host.specs.PortHandling.{Watches, Tidies, ClearsChange, ServesSound, Looks, FindsSound, DropsLost, DisablesOnWay, Climbs};
+ghost use Rattle.usb_host.specs.PortHandling.{Watches, Tidies, ServesSound, Looks, FindsSound, DisablesOnWay, Climbs};
 ghost use Rattle.usb_host.specs.Ownership.{KeepsOwned, KeepsPort, DropsHub};
-ghost use Rattle.usb_host.specs.Ports.{StandsAt, StandsNowhere, IsDue, Waits, Served, Shown, Gains, Broke, EndsAs, Entered, Forgets, Looked};
-ghost use Rattle.usb_host.specs.Progress.{HostGoes, Advances, AddsNoWork, Rests, Did};
+ghost use Rattle.usb_host.specs.Ports.{StandsAt, StandsNowhere, IsDue, Waits, Served, Shown, Gains, Broke, EndsAs, Entered, Forgets};
+ghost use Rattle.usb_host.specs.Progress.{HostGoes, AddsNoWork, Rests};
+ghost use Rattle.usb_host.specs.Service.{ClearsPort, DropsOne, FinishesAt, HandlesAt, HandlesBelow, LooksAnew, LooksOnceMore, ServesPort, TidiesTold};
 ghost use Rattle.usb_host.specs.Soundness.{KeepsSound, DropsSound, PartKeeps};
 ghost use Rattle.usb_host.specs.ToldFaults.{PartTold};
 
@@ -47,9 +48,8 @@ impl<B: Bus> Host<B> {
         requires number { IsPortNumber number }
         ensures goes { HostGoes handling_bound self.old self.new }
         ensures told { IfErr result (λ fault. PartTold fault self.new.world) }
-        ensures advances { OnOk result
-            ((root_port_at self.old.world number).connection_changed ≡ true
-            → Advances self.old self.new) }
+        ensures handles { OnOk result (HandlesAt (number ∷ [])
+            ((root_port_at self.old.world number).connection_changed ≡ true) self.old self.new) }
         ensures owned { KeepsOwned self.old result self.new }
         ensures sound { KeepsSound self.old result self.new }
     {
@@ -66,7 +66,8 @@ impl<B: Bus> Host<B> {
         requires { IsPath hub.now }
         ensures goes { HostGoes handling_bound self.old self.new }
         ensures told { IfErr result (λ fault. PartTold fault self.new.world) }
-        ensures did { IfOk result (λ round. Did round self.old self.new) }
+        ensures handles { IfOk result (λ round.
+            HandlesBelow hub.now number round self.old self.new) }
         ensures owned { KeepsOwned self.old result self.new }
         ensures sound { KeepsSound self.old result self.new }
     {
@@ -87,7 +88,7 @@ impl<B: Bus> Host<B> {
         ensures path { IsPath path.now }
         ensures goes { HostGoes handling_bound self.old self.new }
         ensures told { IfErr result (λ fault. PartTold fault self.new.world) }
-        ensures did { IfOk result (λ round. Looked round self.old self.new) }
+        ensures looks { IfOk result (λ round. LooksOnceMore path.now round self.old self.new) }
         ensures keeps { PartKeeps self.old result self.new }
     {
         let _numbers = path.numbers();
@@ -117,8 +118,8 @@ impl<B: Bus> Host<B> {
         requires { StandsAt path.now port self.old }
         ensures goes { HostGoes handling_bound self.old self.new }
         ensures told { IfErr result (λ fault. PartTold fault self.new.world) }
-        ensures advances { OnOk result (IsDue self.old.world port.port
-            → Advances self.old self.new) }
+        ensures handles { OnOk result
+            (HandlesAt path.now (IsDue self.old.world port.port) self.old self.new) }
         ensures owned { KeepsOwned self.old result self.new }
         ensures sound { KeepsSound self.old result self.new }
     {
@@ -133,7 +134,7 @@ impl<B: Bus> Host<B> {
         ensures told { IfErr result (λ fault. PartTold fault self.new.world) }
         ensures holds { AddsNoWork self.old self.new }
         ensures ends { EndsAs served result }
-        ensures finishes { DropsLost path.now served self.old result self.new }
+        ensures finishes { FinishesAt path.now served self.old result self.new }
     {
         match served {
             Ok(()) => Ok(()),
@@ -153,9 +154,10 @@ impl<B: Bus> Host<B> {
         requires { StandsAt path.now port self.old }
         ensures goes { HostGoes serving_bound self.old self.new }
         ensures told { IfErr result (λ fault. FaultAt port.port fault self.new.world) }
-        ensures served { IsDue self.old.world port.port → Served result self.old self.new }
         ensures owned { KeepsPort path.now self.old result self.new }
         ensures sound { ServesSound path.now self.old result self.new }
+        ensures serves { ServesPort path.now (IsDue self.old.world port.port)
+            self.old result self.new }
     {
         let status = self.status(port.port)?;
         if status.connection_changed {
@@ -186,6 +188,7 @@ impl<B: Bus> Host<B> {
         ensures told { IfErr result (λ fault. FaultAt port fault self.new.world) }
         ensures rests { Rests self.old self.new }
         ensures tidies { Tidies port self.old.world result self.new.world }
+        ensures clears { TidiesTold port status self.old result self.new }
     {
         if status.enable_changed {
             clear_port(&mut self.bus, port, C_PORT_ENABLE)?;
@@ -204,9 +207,8 @@ impl<B: Bus> Host<B> {
         ensures told { IfErr result (λ fault. FaultAt port.port fault self.new.world) }
         ensures served { IsDue self.old.world port.port ⊎ Waits path.now self.old
             → Served result self.old self.new }
-        ensures renewed { OnOk result
-            (Replaced path.now (without path.now self.old.entries) self.new.entries) }
         ensures looks { Looks path.now self.old result self.new }
+        ensures anew { LooksAnew path.now self.old result self.new }
     {
         let status = self.clear_change(port.port)?;
         self.forget(path);
@@ -224,7 +226,7 @@ impl<B: Bus> Host<B> {
         ensures told { IfErr result (λ fault. FaultAt port fault self.new.world) }
         ensures rests { Rests self.old self.new }
         ensures gains { IsDue self.old.world port → Gains result self.old.world self.new.world }
-        ensures clears { ClearsChange port self.old.world result self.new.world }
+        ensures clears { ClearsPort port self.old.world result self.new.world }
     {
         clear_port(&mut self.bus, port, C_PORT_CONNECTION)?;
         let status = port_status(self.alloc, &mut self.bus, port)?;
@@ -260,7 +262,7 @@ impl<B: Bus> Host<B> {
     pub(crate) fn drop_hub(&mut self, hub: PortPath) -> Result<(), HostFault>
         ensures goes { HostGoes drop_bound self.old self.new }
         ensures told { IfErr result (λ fault. PartTold fault self.new.world) }
-        ensures holds { AddsNoWork self.old self.new }
+        ensures counts { DropsOne hub self.old result self.new }
         ensures owned { DropsHub hub self.old result self.new }
         ensures sound { DropsSound hub self.old result self.new }
     {

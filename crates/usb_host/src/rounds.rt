@@ -1,6 +1,6 @@
 //! The parts of a round.
-ghost use Rattle.std.specs.Prelude.{◌≡◌, ◌≢◌, ◌≤◌, ◌<◌, ◌+◌, ◌*◌, true, false, IfOk, IfErr, ◌⊎◌, IfSome, IfNone, IsSome, OnOk, Ok};
-ghost use Rattle.usb_world.specs.World.{root_row, changes, IsRootPort};
+ghost use Rattle.std.specs.Prelude.{◌≡◌, ◌≢◌, ◌≤◌, ◌<◌, ◌+◌, ◌*◌, true, false, None, IfOk, IfErr, ◌⊎◌, IfSome, IfNone, IsSome, OnOk, Ok};
+ghost use Rattle.usb_world.specs.World.{IsRootPort};
 ghost use Rattle.usb_port.specs.Path.{IsPath};
 ghost use Rattle.usb_table.specs.Listing.{hub_facts_at};
 ghost use Rattle.usb_table.specs.Findings.{is_hub, is_waiting};
@@ -8,9 +8,11 @@ ghost use Rattle.usb_table.specs.NextEntries.{ComesAfter, IsNext, IsLast};
 ghost use Rattle.usb_resources.specs.Pool.{IsFull};
 ghost use Rattle.usb_host.specs.Agreement.{Agrees};
 ghost use Rattle.usb_host.specs.Bounds.{round_bound, roots_bound, hubs_bound, hub_poll_bound, told_bound, looks_bound};
-ghost use Rattle.usb_host.specs.Soundness.{PartKeeps, PartsKeep, RootsRest, HubKeeps, HubsKeep, LooksKeep};
+ghost use Rattle.usb_host.specs.Ownership.{IsOwned};
+ghost use Rattle.usb_host.specs.Soundness.{IsSound, PartKeeps, PartsKeep, HubKeeps, HubsKeep, LooksKeep};
 ghost use Rattle.usb_host.specs.Ports.{Waits};
 ghost use Rattle.usb_host.specs.Progress.{HostGoes, Did, AddsNoWork, either};
+ghost use Rattle.usb_host.specs.Service.{EachLookedAgain, EachPolled, PollsHub, ServedTold, ServesRoots, WentByParts, first_byte};
 ghost use Rattle.usb_host.specs.ToldFaults.{PartTold};
 
 use crate::HostFault;
@@ -38,7 +40,7 @@ impl<B: Bus> Host<B> {
         ensures goes { HostGoes round_bound self.old self.new }
         ensures told { IfErr result (λ fault. PartTold fault self.new.world) }
         ensures did { IfOk result (λ round. Did round self.old self.new) }
-        ensures none { result ≡ Ok Round.Quiet → changes (root_row self.old.world) ≡ 0 }
+        ensures parts { WentByParts self.old result self.new }
         ensures keeps { PartsKeep self.old result self.new }
     {
         let roots = self.serve_roots()?;
@@ -53,7 +55,7 @@ impl<B: Bus> Host<B> {
         ensures goes { HostGoes roots_bound self.old self.new }
         ensures told { IfErr result (λ fault. PartTold fault self.new.world) }
         ensures did { IfOk result (λ round. Did round self.old self.new) }
-        ensures none { result ≡ Ok Round.Quiet → RootsRest self.old self.new }
+        ensures roots { IfOk result (λ round. ServesRoots round self.old self.new) }
         ensures keeps { PartKeeps self.old result self.new }
     {
         let mut round = Round::Quiet;
@@ -73,6 +75,8 @@ impl<B: Bus> Host<B> {
         ensures told { IfErr result (λ fault. PartTold fault self.new.world) }
         ensures did { IfOk result (λ round. Did round self.old self.new) }
         ensures keeps { HubsKeep self.old result self.new }
+        ensures polls { IfOk result (λ round. IsSound self.old → self.new.world.fault ≡ None
+            → EachPolled round self.old self.new) }
     {
         let mut round = Round::Quiet;
         let mut last: Option<PortPath> = None;
@@ -89,7 +93,7 @@ impl<B: Bus> Host<B> {
         ensures path { IsPath hub.now }
         ensures goes { HostGoes hub_poll_bound self.old self.new }
         ensures told { IfErr result (λ fault. PartTold fault self.new.world) }
-        ensures did { IfOk result (λ round. Did round self.old self.new) }
+        ensures polls { IfOk result (λ round. PollsHub hub.now round self.old self.new) }
         ensures keeps { HubKeeps hub.now self.old result self.new }
     {
         let _numbers = hub.numbers();
@@ -115,6 +119,8 @@ impl<B: Bus> Host<B> {
         ensures told { IfErr result (λ fault. PartTold fault self.new.world) }
         ensures holds { OnOk result (AddsNoWork self.old self.new) }
         ensures keeps { PartKeeps self.old result self.new }
+        ensures serves { OnOk result (IsOwned self.old
+            → ServedTold hub.now bits 8 self.old self.new) }
     {
         'ports: for number in 1..8u8 {
             if bits >> number & 1 == 1 {
@@ -130,6 +136,8 @@ impl<B: Bus> Host<B> {
         ensures told { IfErr result (λ fault. PartTold fault self.new.world) }
         ensures did { IfOk result (λ round. Did round self.old self.new) }
         ensures keeps { LooksKeep self.old result self.new }
+        ensures looks { IfOk result (λ round. IsSound self.old
+            → EachLookedAgain round self.old self.new) }
     {
         let mut round = Round::Quiet;
         let mut last: Option<PortPath> = None;
@@ -164,7 +172,9 @@ impl<B: Bus> Host<B> {
 }
 
 /// The first byte of a status change, which has a bit for each of a hub's ports (11.12.4).
-fn first_byte(bits: &[u8]) -> u8 {
+fn first_byte(bits: &[u8]) -> u8
+    ensures { result ≡ first_byte bits.now }
+{
     match bits.first() {
         Some(byte) => *byte,
         None => 0,

@@ -1,15 +1,16 @@
-use Rattle.std.proofs.Common.{refl, sym, subst}
+use Rattle.std.proofs.Common.{refl, sym, subst, Err}
 use Rattle.usb_request.specs.Features.{PORT_ENABLE}
 use Rattle.usb_pipe.specs.Control.{write_bound}
 use Rattle.usb_host.specs.Hosting.{Hosting}
 use Rattle.usb_port.specs.Calls.{clear_call}
 use Rattle.usb_hub.specs.Addresses.{KeepsCleared}
+use Rattle.usb_hub.proofs.Interface.{stays_none}
 use Rattle.usb_hub.specs.Moments.{CallsPort}
 use Rattle.usb_host.specs.declared.fault.HostFault.TheVariants.{Bus}
 use Rattle.usb_host.specs.Ports.{StandsAt}
 use Rattle.usb_host.proofs.Handlings.{none_disabled, port_disabled, port_failed, not_disabled}
 use Rattle.usb_host.proofs.Causes.{told_caused, untold_caused}
-use Rattle.usb_host.proofs.DroppedHubs.{told_dropped, untold_droppable, nowhere_dropped}
+use Rattle.usb_host.proofs.DroppedHubs.{still_sound, told_backlog, told_dropped, untold_droppable, nowhere_dropped}
 use Rattle.usb_host.proofs.Joins.{goes_none}
 use Rattle.usb_host.proofs.host.Host.disable.Goals as goal
 use Rattle.usb_host.proofs.host.Host.disable.Goals.{in-Ok, in-Err-Bus, in-Err}
@@ -22,8 +23,10 @@ returns-in_default-clause-disables g c =
     let none = nowhere_dropped c.args.path.now c.args.self.now c.in_default.ensures.none in
     record {
       owned = none_disabled c.args.path.now c.args.self.now c.in_default.ensures.none;
+      devices = stays_none c.args.self.now.world;
       done = λ d e. absurd (cc e);
       failed = λ d e. absurd (none d);
+      backlog = λ d still. absurd (none d);
       caused = λ d fair pends caused. absurd (none d);
     }
 
@@ -39,20 +42,28 @@ returns-clause-disables g c =
     rw (← c.self.view_is) (elim c.match-clear_port.branch [
       | in-Ok w ↦ rw w.result-is (record {
         owned = port_disabled c.args.path.now c.in-Some.port _ _ s refl (subst (λ r. KeepsCleared port PORT_ENABLE old r new) w.in-Ok.is c.clear_port.ensures.addresses);
+        devices = devices;
         done = λ d e. told_dropped _ c.args.path.now c.in-Some.port _ _ s refl went keeps devices d (subst (λ r. CallsPort port (clear_call PORT_ENABLE) old r new) w.in-Ok.is c.clear_port.ensures.ports);
         failed = λ d e. absurd (cc e);
+        backlog = λ d still. told_backlog _ c.args.path.now c.in-Some.port _ _ s refl went keeps devices d _ (subst (λ r. CallsPort port (clear_call PORT_ENABLE) old r new) w.in-Ok.is c.clear_port.ensures.ports) tt;
         caused = λ d fair pends caused. told_caused _ c.args.path.now c.in-Some.port _ _ s refl went keeps devices d fair (subst (λ r. CallsPort port (clear_call PORT_ENABLE) old r new) w.in-Ok.is c.clear_port.ensures.ports) pends caused;
       })
       | in-Err-Bus w ↦ rw w.result-is (record {
         owned = not_disabled c.args.path.now _ _ (Bus w.in-Err-Bus.fault) keeps;
+        devices = devices;
         done = λ d e. absurd (cc e);
         failed = λ d e. absurd (cc e);
+        backlog = λ d still. told_backlog _ c.args.path.now c.in-Some.port _ _ s refl went keeps devices d (Err w.in-Err-Bus.field-0) (subst (λ r. CallsPort port (clear_call PORT_ENABLE) old r new) w.in-Err-Bus.is c.clear_port.ensures.ports)
+            (still_sound (Unit {0}) w.in-Err-Bus.field-0 old new w.in-Err-Bus.ensures.fault still);
         caused = λ d fair pends caused. tt;
       })
       | in-Err w ↦ rw w.result-is (record {
         owned = port_failed c.args.path.now c.in-Some.port _ _ 1 w.in-Err.field-0 s w.in-Err.ensures.effect keeps;
+        devices = devices;
         done = λ d e. absurd (cc e);
         failed = λ d e. untold_droppable _ c.args.path.now c.in-Some.port _ _ s refl went keeps devices d w.in-Err.field-0 (subst (λ r. CallsPort port (clear_call PORT_ENABLE) old r new) w.in-Err.is c.clear_port.ensures.ports) w.in-Err.ensures.fault w.in-Err.ensures.effect;
+        backlog = λ d still. told_backlog _ c.args.path.now c.in-Some.port _ _ s refl went keeps devices d (Err w.in-Err.field-0) (subst (λ r. CallsPort port (clear_call PORT_ENABLE) old r new) w.in-Err.is c.clear_port.ensures.ports)
+            (still_sound (Unit {0}) w.in-Err.field-0 old new w.in-Err.ensures.fault still);
         caused = λ d fair pends caused. untold_caused _ c.args.path.now c.in-Some.port _ _ s refl went keeps devices d fair w.in-Err.field-0 (subst (λ r. CallsPort port (clear_call PORT_ENABLE) old r new) w.in-Err.is c.clear_port.ensures.ports) w.in-Err.ensures.fault w.in-Err.ensures.effect caused;
       })
     ])

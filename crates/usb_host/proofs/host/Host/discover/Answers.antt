@@ -9,7 +9,7 @@ use Rattle.usb_enum.specs.declared.finding.Finding.{Finding}
 use Rattle.usb_enum.specs.Findings.{Enumerates}
 use Rattle.usb_enum.specs.Stop.{FaultAt}
 use Rattle.std.specs.Prelude.{IfErr}
-use Rattle.usb_host.proofs.Causes.{entered_finds, unfound_finds}
+use Rattle.usb_host.proofs.Causes.{entered_finds, unentered_finds, unfound_finds}
 use Rattle.usb_host.specs.Hosting.{Hosting}
 use Rattle.usb_host.specs.Ports.{StandsAt}
 use Rattle.usb_host.proofs.Agreements.{nested_entered, known_some}
@@ -91,3 +91,13 @@ returns-clause-sound g c =
     rw (← c.self.view_is)
     (entered_finds _ c.args.path.now c.args.port _ _ s away c.self.invariant.accounts c.enumerate.ensures.went c.in_ok-finding.finding found (rw c.duplicate.ensures at c.in_ok-enter.ensures.ok.0)
     (found_ends c.args.path.now c.args.port _ _ c.in_ok-finding.finding c.self.inside.pool kept s away c.self.invariant.accounts entered c.enumerate.ensures.went.spends.roots))
+
+pub returns-in_err-enter-clause-sound : goal.returns-in_err-enter-clause-sound
+returns-in_err-enter-clause-sound g c =
+    let told = err_from_is_err_and c.from_residual-in_err-enter.result c.from_residual-in_err-enter.ensures.1 in
+    let s = subst (λ (h : Hosting). StandsAt c.args.path.now c.args.port h) (sym c.self.view_is) c.requires.port in
+    let away = subst (λ (h : Hosting). has_at c.args.path.now h.entries ≡ false) (sym c.self.view_is) c.requires.away in
+    let tier = c.tier.ensures in
+    let found = subst (λ m. Enumerates c.args.port.port c.self.inside.pool m c.args.port.supply (g.B.Bus.world c.self.inside.bus) (Ok c.in_ok-finding.finding) (g.B.Bus.world c.enumerate.new.bus)) tier
+    (subst (λ r. Enumerates c.args.port.port c.self.inside.pool c.tier.result c.args.port.supply (g.B.Bus.world c.self.inside.bus) r (g.B.Bus.world c.enumerate.new.bus)) c.in_ok-finding.was c.enumerate.ensures.ends) in
+    rw (← c.self.view_is, told.1, told.2) (unentered_finds _ c.args.path.now c.args.port _ _ s away c.self.invariant.accounts c.enumerate.ensures.went c.in_ok-finding.finding found)

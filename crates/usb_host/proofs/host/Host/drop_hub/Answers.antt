@@ -19,23 +19,40 @@ use Rattle.usb_host.specs.PortHandling.{Climbs}
 use Rattle.usb_host.proofs.Causes.{lost_drops}
 use Rattle.usb_host.proofs.Joins.{dropped}
 use Rattle.usb_host.proofs.WaitingDevices.{waiting-entered_other}
+use Rattle.usb_host.proofs.HubCounts.{hubs-dropped}
+use Rattle.usb_host.proofs.Roots.{on_failed}
+use Rattle.usb_host.proofs.ServedWork.{rests_holds}
 use Rattle.usb_host.proofs.host.Host.drop_hub.Goals as goal
 
-pub returns-in_err-insert-clause-holds : goal.returns-in_err-insert-clause-holds
-returns-in_err-insert-clause-holds g c =
+pub returns-in_err-lost-clause-counts : goal.returns-in_err-lost-clause-counts
+returns-in_err-lost-clause-counts g c =
+    record { holds = rests_holds _ c.args.self.now c.disable_upward.new.self c.disable_upward.ensures.goes c.in_err-lost.ensures.rests; hubs = on_failed c.from_residual.result _ c.from_residual.ensures.0 }
+
+pub returns-in_err-insert-clause-counts : goal.returns-in_err-insert-clause-counts
+returns-in_err-insert-clause-counts g c =
     let same = ap waiting (ap (λ (t : Table). t.entries) c.in_err-insert.ensures.err ∙ ap (λ (h : Hosting). h.entries) c.self.view_is) in
     let fewer : waiting c.insert.new.self.entries ≤ waiting c.forget.new.self.entries = omega (arith, same) in
-    dropped _ c.in_ok-lost.lost c.args.self.now c.disable_upward.new.self c.forget.new.self (g.B.Bus.world c.self.inside.bus) (g.B.Bus.trace c.self.inside.bus) c.insert.new.self.entries c.disable_upward.ensures.goes c.in_ok-lost.ensures.rests
-    c.forget.ensures.others c.forget.ensures.rest (ap (λ (h : Hosting). h.world) c.self.view_is) fewer
+    record {
+      holds = dropped _ c.in_ok-lost.lost c.args.self.now c.disable_upward.new.self c.forget.new.self (g.B.Bus.world c.self.inside.bus) (g.B.Bus.trace c.self.inside.bus) c.insert.new.self.entries c.disable_upward.ensures.goes c.in_ok-lost.ensures.rests
+          c.forget.ensures.others c.forget.ensures.rest (ap (λ (h : Hosting). h.world) c.self.view_is) fewer;
+      hubs = on_failed c.from_residual-in_err-insert.result _ c.from_residual-in_err-insert.ensures.0;
+    }
 
-pub returns-clause-holds : goal.returns-clause-holds
-returns-clause-holds g c =
+pub returns-clause-counts : goal.returns-clause-counts
+returns-clause-counts g c =
+    let path = c.in_ok-lost.lost in
     let table = ap (λ (h : Hosting). waiting h.entries) c.self.view_is in
-    let more = waiting-entered_other c.in_ok-lost.lost (Refused Lost) c.self.inside.table.entries refl in
-    let entered = ap (λ (t : Table). waiting t.entries) c.in_ok-insert.ensures.ok in
-    let fewer : waiting c.insert.new.self.entries ≤ waiting c.forget.new.self.entries = omega (arith, table, more, entered) in
-    dropped _ c.in_ok-lost.lost c.args.self.now c.disable_upward.new.self c.forget.new.self (g.B.Bus.world c.self.inside.bus) (g.B.Bus.trace c.self.inside.bus) c.insert.new.self.entries c.disable_upward.ensures.goes c.in_ok-lost.ensures.rests
-    c.forget.ensures.others c.forget.ensures.rest (ap (λ (h : Hosting). h.world) c.self.view_is) fewer
+    let more = waiting-entered_other path (Refused Lost) c.self.inside.table.entries refl in
+    let entry = ap (λ (t : Table). waiting t.entries) c.in_ok-insert.ensures.ok in
+    let fewer : waiting c.insert.new.self.entries ≤ waiting c.forget.new.self.entries = omega (arith, table, more, entry) in
+    let left = c.forget.ensures.rest ∙ ap (λ (h : Hosting). without path h.entries) c.in_ok-lost.ensures.rests in
+    let entered = ap (λ (t : Table). t.entries) c.in_ok-insert.ensures.ok ∙ ap (λ (h : Hosting). insert_entry path_cmp h.entries path (Refused Lost)) c.self.view_is in
+    let climbs = subst (λ r. Climbs c.args.hub c.args.self.now r c.disable_upward.new.self) c.in_ok-lost.was c.disable_upward.ensures.climbs in
+    record {
+      holds = dropped _ path c.args.self.now c.disable_upward.new.self c.forget.new.self (g.B.Bus.world c.self.inside.bus) (g.B.Bus.trace c.self.inside.bus) c.insert.new.self.entries c.disable_upward.ensures.goes c.in_ok-lost.ensures.rests
+          c.forget.ensures.others c.forget.ensures.rest (ap (λ (h : Hosting). h.world) c.self.view_is) fewer;
+      hubs = λ some. hubs-dropped path c.args.hub c.args.self.now.entries c.forget.new.self.entries _ climbs.bares.on left entered some;
+    }
 
 pub invariant_of-self-2 : goal.invariant_of-self-2
 invariant_of-self-2 g c =
@@ -67,4 +84,4 @@ returns-clause-sound g c =
     let drops = drop_ends c.args.hub c.in_ok-lost.lost c.args.self.now c.disable_upward.new.self c.forget.new.self _ c.numbers-numbers.ensures.path c.in_ok-lost.ensures.rests c.disable_upward.ensures.goes.went.spends.roots c.in_ok-lost.ensures.climbs.bares c.forget.ensures.others c.forget.ensures.rest c.forget.ensures.gone here entered in
     let table = c.in_ok-insert.ensures.ok ∙ ap (λ (h : Hosting). with_entry c.in_ok-lost.lost (Refused Lost) (table_in h)) c.self.view_is in
     let climbs = subst (λ r. Climbs c.args.hub c.args.self.now r c.disable_upward.new.self) c.in_ok-lost.was c.disable_upward.ensures.climbs in
-    lost_drops c.in_ok-lost.lost c.disable_upward.new.self c.forget.new.self _ c.numbers-numbers.ensures.path.0 c.forget.ensures.others c.forget.ensures.rest c.forget.ensures.freed.pipes c.forget.ensures.gone here table c.args.hub c.args.self.now climbs drops
+    lost_drops c.in_ok-lost.lost c.disable_upward.new.self c.forget.new.self _ c.numbers-numbers.ensures.path.0 c.forget.ensures.others c.forget.ensures.rest c.forget.ensures.freed.pipes c.forget.ensures.gone here table c.args.hub c.args.self.now c.in_ok-lost.ensures.rests climbs drops

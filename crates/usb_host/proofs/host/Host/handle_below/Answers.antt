@@ -1,6 +1,12 @@
-use Rattle.std.proofs.Common.{◌≡◌, ◌∙◌, ap, subst, ◌++◌, ◌∷◌, [], Some}
+use Rattle.std.proofs.Common.{◌≡◌, ◌∙◌, ap, refl, subst, sym, ◌++◌, ◌∷◌, [], false, length, ℕ, List, ◌<◌, None, Some}
+use Rattle.std.specs.Prelude.{IsSome, IsTrue}
+use Rattle.usb_port.specs.Order.{parent_of}
+use Rattle.usb_port.specs.Path.{IsPortNumber}
+use Rattle.usb_port.proofs.Interface.{parent}
+use Rattle.usb_host.specs.Service.{ServedAt, port_known, port_unknown}
+use Rattle.usb_host.proofs.Services.{pushed_part}
 use Rattle.usb_table.specs.KnownPorts.{known_port}
-use Rattle.usb_host.proofs.Soundness.{sound_none}
+use Rattle.usb_host.proofs.Soundness.{part_none}
 use Rattle.usb_host.proofs.Hubs.{below_due}
 use Rattle.usb_host.proofs.Joins.{goes_none}
 use Rattle.usb_host.proofs.host.Host.handle_below.Goals as goal
@@ -11,14 +17,35 @@ returns-then-not-push-clause-goes g c = goes_none _ _
 pub returns-in_default-clause-goes : goal.returns-in_default-clause-goes
 returns-in_default-clause-goes g c = goes_none _ _
 
-pub returns-clause-did : goal.returns-clause-did
-returns-clause-did g c =
+pub returns-then-not-push-clause-handles : goal.returns-then-not-push-clause-handles
+returns-then-not-push-clause-handles g c = record {
+  did = refl;
+  served = λ o. port_unknown (λ is.
+      let not : c.push.result ≡ false = c.if-not-push.true in
+      let yes : IsTrue c.push.result = c.push.ensures.pushed.1 (subst (λ (l : List ℕ). IsPortNumber c.args.number × (length l < 7)) (sym c.duplicate-path.ensures) (pushed_part c.args.hub.now c.args.number c.requires.0 is)) in
+      absurd (cc (not, yes))) refl;
+}
+
+pub returns-in_default-clause-handles : goal.returns-in_default-clause-handles
+returns-in_default-clause-handles g c =
     let path = c.push.ensures.yes c.if-not-push.false ∙ ap (λ hub. hub ++ c.args.number ∷ []) c.duplicate-path.ensures in
-    let known = subst (λ p. known_port p c.args.self.now.entries ≡ Some c.in-Some.port) path c.in-Some.ensures.some.known in
-    c.in_ok-handle.ensures.advances (below_due c.args.hub.now c.args.number c.args.self.now.entries c.in-Some.port c.args.self.now.world c.requires.0 known)
+    record {
+      did = refl;
+      served = λ o. port_unknown (λ is.
+          subst (λ p. known_port p c.args.self.now.entries ≡ None) path (c.in_default.ensures.none.unknown (subst (λ p. IsSome (parent_of p)) (sym path) (subst IsSome (sym (parent c.args.hub.now c.args.number c.requires.0)) refl)))) refl;
+    }
+
+pub returns-clause-handles : goal.returns-clause-handles
+returns-clause-handles g c =
+    let path = c.push.ensures.yes c.if-not-push.false ∙ ap (λ hub. hub ++ c.args.number ∷ []) c.duplicate-path.ensures in
+    let known_at = subst (λ p. known_port p c.args.self.now.entries ≡ Some c.in-Some.port) path c.in-Some.ensures.some.known in
+    record {
+      did = c.in_ok-handle.ensures.handles.advances (below_due c.args.hub.now c.args.number c.args.self.now.entries c.in-Some.port c.args.self.now.world c.requires.0 known_at);
+      served = λ o. port_known (subst (λ p. ServedAt p c.args.self.now c.handle.new.self) path (c.in_ok-handle.ensures.handles.served o));
+    }
 
 pub returns-then-not-push-clause-sound : goal.returns-then-not-push-clause-sound
-returns-then-not-push-clause-sound g c = sound_none c.args.self.now
+returns-then-not-push-clause-sound g c = part_none c.args.self.now
 
 pub returns-in_default-clause-sound : goal.returns-in_default-clause-sound
-returns-in_default-clause-sound g c = sound_none c.args.self.now
+returns-in_default-clause-sound g c = part_none c.args.self.now

@@ -7,13 +7,15 @@ use Rattle.usb_host.specs.Bounds.{handling_bound}
 use Rattle.usb_host.proofs.Owners.{stays_then, stays_none}
 use Rattle.usb_host.proofs.Parts.{looks_fail}
 use Rattle.usb_host.proofs.RestingRounds.{ok_is, quiet_second, none_waits}
-use Rattle.usb_host.proofs.Soundness.{sound_none, sound_then}
+use Rattle.usb_host.proofs.Soundness.{part_none, part_then}
 use Rattle.usb_host.proofs.Joins.{did_then, goes_none}
 use Rattle.usb_host.proofs.Ranks.{rank_goes, rank_within, rank_rises, rank_most, rank_after_most}
+use Rattle.usb_host.specs.Service.{no_device}
+use Rattle.usb_host.proofs.RoundServices.{looked_then}
 use Rattle.usb_host.proofs.host.Host.look_again.Goals as goal
 
 pub waiting-init : goal.waiting-init
-waiting-init g c = record { goes = goes_none 0 _; did = refl; owned = stays_none _; sound = sound_none _; none = λ r quiet. (refl, refl); path = tt }
+waiting-init g c = record { goes = goes_none 0 _; did = refl; owned = stays_none _; sound = part_none _; none = λ r quiet. (refl, refl); looked = λ s. no_device _; path = tt }
 
 pub returns-in_err-look_once_more-clause-goes : goal.returns-in_err-look_once_more-clause-goes
 returns-in_err-look_once_more-clause-goes g c =
@@ -27,10 +29,13 @@ waiting-smaller g c =
 pub waiting-preserved : goal.waiting-preserved
 waiting-preserved g c = record {
   goes = rank_goes handling_bound c.waiting.last c.in-Some.path _ _ _ c.waiting.invariant.path c.look_once_more.ensures.path c.in-Some.ensures.some.1 c.waiting.invariant.goes c.look_once_more.ensures.goes;
-  did = rw c.and-round.ensures (did_then _ _ c.waiting.round c.in_ok-look_once_more.field-0 c.args.self.now c.waiting.self c.look_once_more.new.self c.waiting.invariant.goes c.look_once_more.ensures.goes c.waiting.invariant.did c.in_ok-look_once_more.ensures.did.did);
+  did = rw c.and-round.ensures (did_then _ _ c.waiting.round c.in_ok-look_once_more.field-0 c.args.self.now c.waiting.self c.look_once_more.new.self c.waiting.invariant.goes c.look_once_more.ensures.goes c.waiting.invariant.did c.in_ok-look_once_more.ensures.looks.did.did);
   owned = stays_then _ _ _ c.waiting.invariant.owned c.in_ok-look_once_more.ensures.keeps.owned;
-  sound = sound_then _ _ _ _ _ c.waiting.invariant.goes.went c.look_once_more.ensures.goes.went c.waiting.invariant.sound c.in_ok-look_once_more.ensures.keeps.sound;
-  none = λ r quiet. absurd (c.in_ok-look_once_more.ensures.did.some (c.waiting.invariant.owned.rooted r) (quiet_second c.waiting.round c.in_ok-look_once_more.field-0 (sym c.and-round.ensures ∙ quiet)));
+  sound = part_then _ _ _ _ _ c.waiting.invariant.goes.went c.look_once_more.ensures.goes.went c.waiting.invariant.sound c.in_ok-look_once_more.ensures.keeps.sound;
+  none = λ r quiet. absurd (c.in_ok-look_once_more.ensures.looks.did.some (c.waiting.invariant.owned.rooted r) (quiet_second c.waiting.round c.in_ok-look_once_more.field-0 (sym c.and-round.ensures ∙ quiet)));
+  looked = λ s.
+      let x = c.in_ok-look_once_more.ensures.looks.looked (c.waiting.invariant.sound.sound.sound s) in
+      rw c.and-round.ensures (looked_then c.waiting.last c.in-Some.path c.waiting.round c.in_ok-look_once_more.field-0 c.args.self.now c.waiting.self c.look_once_more.new.self (c.waiting.invariant.looked s) c.in-Some.ensures.some.0 c.in-Some.ensures.some.1 x.0 x.1);
   path = c.look_once_more.ensures.path;
 }
 
@@ -48,3 +53,6 @@ returns-clause-keeps g c = record {
       let x = c.waiting.invariant.none r (ok_is c.waiting.round Quiet is) in
       (x.0, none_waits c.waiting.self.entries c.waiting.self.addresses c.in_default.ensures.agree (subst (λ l. IsFull c.waiting.self.addresses ⊎ IsLast is_waiting l c.waiting.self.entries) x.1 c.in_default.ensures.none));
 }
+
+pub returns-clause-looks : goal.returns-clause-looks
+returns-clause-looks g c = λ s. record { last = c.waiting.last; looked = c.waiting.invariant.looked s; all = c.in_default.ensures.none }

@@ -4,7 +4,8 @@ use Rattle.usb_port.specs.Path.{IsPath}
 use Rattle.usb_host.specs.Bounds.{handling_bound}
 use Rattle.usb_host.specs.Ownership.{IsRooted, StaysOwned}
 use Rattle.usb_host.specs.Progress.{HostGoes, Did}
-use Rattle.usb_host.specs.Soundness.{StaysSound}
+use Rattle.usb_host.specs.Service.{LookedAgain}
+use Rattle.usb_host.specs.Soundness.{IsSound, PartStays}
 use Rattle.usb_host.specs.declared.host.Round.TheVariants.{Quiet}
 use Rattle.usb_host.proofs.Ranks.{rank_after}
 use Rattle.usb_host.proofs.host.Host.look_again.Given as goal
@@ -14,8 +15,9 @@ invariant-waiting g l = record {
   goes : HostGoes (rank_after l.last * handling_bound) l.initial.self l.self;
   did : Did l.round l.initial.self l.self;
   owned : StaysOwned l.initial.self l.self;
-  sound : StaysSound l.initial.self l.self;
+  sound : PartStays l.initial.self l.self;
   none : IsRooted l.initial.self → l.round ≡ Quiet → (l.self ≡ l.initial.self) × (l.last ≡ None);
+  looked : IsSound l.initial.self → LookedAgain l.last l.round l.initial.self l.self;
   path : IfSome l.last IsPath;
 }
 

@@ -1,4 +1,4 @@
-use Rattle.std.proofs.Common.{◌≡◌, ◌∙◌, ◌-◌, ◌+◌, ℕ, ap, arith, refl, sym, subst, inr}
+use Rattle.std.proofs.Common.{◌≡◌, ◌∙◌, ◌-◌, ◌+◌, ℕ, ap, arith, refl, sym, subst}
 use Rattle.usb_request.specs.Features.{PORT_POWER}
 use Rattle.usb_world.specs.World.{World, roots_of}
 use Rattle.usb_bus.specs.Traces.{Traced, still}

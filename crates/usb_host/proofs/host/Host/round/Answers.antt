@@ -1,9 +1,12 @@
 use Rattle.std.proofs.Common.{ap, sym, subst, ◌∙◌}
+use Rattle.std.specs.Prelude.{IfOk}
 use Rattle.usb_host.specs.Bounds.{round_bound}
 use Rattle.usb_host.specs.Hosting.{Hosting}
+use Rattle.usb_host.specs.Service.{DidParts}
 use Rattle.usb_host.specs.Soundness.{RoundsSound}
 use Rattle.usb_host.proofs.Joins.{goes_none}
 use Rattle.usb_host.proofs.Owners.{round_owning}
+use Rattle.usb_host.proofs.RoundServices.{parts_done}
 use Rattle.usb_host.proofs.Soundness.{rounds_stopped}
 use Rattle.usb_host.proofs.host.Host.round.Goals as goal
 
@@ -20,3 +23,9 @@ returns-clause-keeps g c = record {
   sound = rounds_stopped c.parts-round.result c.args.self.now _ c.is_err-self-inside.result
       (subst (λ (h : Hosting). RoundsSound c.args.self.now c.parts-round.result h) (sym c.self-2.view_is) c.parts-round.ensures.keeps.sound);
 }
+
+pub returns-clause-did : goal.returns-clause-did
+returns-clause-did g c =
+    subst (λ (h : Hosting). IfOk c.parts-round.result (λ round. DidParts round c.args.self.now (record h { stopped = c.is_err-self-inside.result }))) (sym c.self-2.view_is)
+    (parts_done c.parts-round.result c.args.self.now c.parts-round.new.self c.is_err-self-inside.result (ap (λ (h : Hosting). h.stopped) (sym c.self.view_is) ∙ c.if-self.false) c.parts-round.ensures.goes c.is_err-self-inside.ensures.value
+    c.parts-round.ensures.did c.parts-round.ensures.parts c.parts-round.ensures.keeps.owned)

@@ -1,14 +1,22 @@
-use Rattle.std.proofs.Common.{◌∙◌, arith, subst}
+use Rattle.std.proofs.Common.{◌∙◌, arith, subst, Err, Ok}
 use Rattle.std.proofs.lemmas.Result.{err_from_is_err_and}
 use Rattle.std.specs.Prelude.{IfErr}
 use Rattle.usb_enum.specs.Stop.{FaultAt}
 use Rattle.usb_host.specs.PortHandling.{Watches}
+use Rattle.usb_host.specs.Ports.{Shown}
+use Rattle.usb_host.proofs.ServedWork.{looked_on, status_lost_on, tidied_on}
+use Rattle.usb_host.proofs.Services.{serves_looked, serves_tidied, status_failed}
 use Rattle.usb_host.proofs.Causes.{causes_rests, watched_caused, tidied_caused}
 use Rattle.usb_host.proofs.Fairness.{fair_before, fair_after}
-use Rattle.usb_host.proofs.ServedPorts.{watched_sound, watched_lost, rests_stands, tidied_port}
+use Rattle.usb_host.proofs.BulkPipes.{bulk_stays, bulk_then, stay_joined}
+use Rattle.usb_host.proofs.ServedPorts.{watched_sound, watched_lost, watched_stay, rests_stands, tidied_port, tidied_stay}
 use Rattle.usb_address.proofs.Interface.{keeps_then}
 use Rattle.usb_host.proofs.Handlings.{port_rests, port_then, stays_rests}
 use Rattle.usb_host.proofs.Joins.{rests_then, goes_then}
+use Rattle.usb_enum.proofs.Interface.{went_sound}
+use Rattle.usb_host.proofs.ServePayments.{after_look, after_tidy, status_lost, told_there}
+use Rattle.usb_host.proofs.HubCounts.{hubs-rest}
+use Rattle.usb_host.proofs.LookPayments.{within_on}
 use Rattle.usb_host.proofs.host.Host.serve.Goals as goal
 
 pub returns-then-status-clause-goes : goal.returns-then-status-clause-goes
@@ -35,6 +43,7 @@ returns-in_err-status-clause-sound g c =
     let watches = subst (λ r. Watches c.args.port.port c.args.self.now.world r c.status.new.self.world) c.in_err-status.was c.status.ensures.watches in
     rw (told.1, told.2) (record {
       sound = watched_lost _ c.args.path.now c.args.port c.args.self.now c.status.new.self c.requires c.in_err-status.ensures.rests c.status.ensures.goes.went c.in_err-status.field-0.0 watches fault;
+      bulk = λ i on still. bulk_stays _ _ (watched_stay _ c.args.path.now c.args.port c.args.self.now c.status.new.self c.requires c.in_err-status.ensures.rests c.status.ensures.goes.went (Err c.in_err-status.field-0.0) watches i);
       caused = watched_caused _ c.args.path.now c.args.port c.args.self.now c.status.new.self c.requires c.in_err-status.ensures.rests c.status.ensures.goes.went c.in_err-status.field-0.0 watches fault;
     })
 
@@ -43,6 +52,10 @@ returns-then-status-clause-sound g c =
     let watches = subst (λ r. Watches c.args.port.port c.args.self.now.world r c.status.new.self.world) c.in_ok-status.was c.status.ensures.watches in
     record {
       sound = λ i. c.look.ensures.looks.sound.sound (watched_sound _ c.args.path.now c.args.port c.args.self.now c.status.new.self c.requires c.in_ok-status.ensures.rests c.status.ensures.goes.went c.in_ok-status.status watches i);
+      bulk = λ i on still.
+          bulk_then _ _ c.args.self.now c.status.new.self c.look.new.self c.status.ensures.goes.went c.look.ensures.goes.went still
+          (bulk_stays _ _ (watched_stay _ c.args.path.now c.args.port c.args.self.now c.status.new.self c.requires c.in_ok-status.ensures.rests c.status.ensures.goes.went (Ok c.in_ok-status.status) watches i))
+          (c.look.ensures.looks.sound.bulk (watched_sound _ c.args.path.now c.args.port c.args.self.now c.status.new.self c.requires c.in_ok-status.ensures.rests c.status.ensures.goes.went c.in_ok-status.status watches i) on still);
       caused = λ i fair caused.
           let half = fair_before _ c.args.self.now.world c.status.new.self.world c.look.new.self.world c.look.ensures.goes.went fair in
           c.look.ensures.looks.sound.caused (watched_sound _ c.args.path.now c.args.port c.args.self.now c.status.new.self c.requires c.in_ok-status.ensures.rests c.status.ensures.goes.went c.in_ok-status.status watches i)
@@ -57,10 +70,66 @@ returns-else-status-clause-sound g c =
     record {
       sound = λ i. tidied_port _ c.args.path.now c.args.port c.status.new.self c.tidy.new.self stands c.tidy.ensures.rests c.tidy.ensures.goes.went c.tidy.result c.tidy.ensures.tidies c.tidy.ensures.told
           (watched_sound _ c.args.path.now c.args.port c.args.self.now c.status.new.self c.requires c.in_ok-status.ensures.rests c.status.ensures.goes.went c.in_ok-status.status watches i);
+      bulk = λ i on still.
+          bulk_stays _ _ (stay_joined c.args.self.now c.status.new.self c.tidy.new.self (watched_stay _ c.args.path.now c.args.port c.args.self.now c.status.new.self c.requires c.in_ok-status.ensures.rests c.status.ensures.goes.went (Ok c.in_ok-status.status) watches i)
+          (tidied_stay _ c.args.path.now c.args.port c.status.new.self c.tidy.new.self stands c.tidy.ensures.rests c.tidy.ensures.goes.went c.tidy.result c.tidy.ensures.tidies
+          (watched_sound _ c.args.path.now c.args.port c.args.self.now c.status.new.self c.requires c.in_ok-status.ensures.rests c.status.ensures.goes.went c.in_ok-status.status watches i)));
       caused = λ i fair caused.
           let half = fair_before _ c.args.self.now.world c.status.new.self.world c.tidy.new.self.world c.tidy.ensures.goes.went fair in
           tidied_caused _ c.args.path.now c.args.port c.status.new.self c.tidy.new.self stands c.tidy.ensures.rests c.tidy.ensures.goes.went c.tidy.result c.tidy.ensures.tidies c.tidy.ensures.told
           (watched_sound _ c.args.path.now c.args.port c.args.self.now c.status.new.self c.requires c.in_ok-status.ensures.rests c.status.ensures.goes.went c.in_ok-status.status watches i)
           (fair_after _ c.args.self.now.world c.status.new.self.world c.tidy.new.self.world c.status.ensures.goes.went fair)
           (causes_rests _ c.args.self.now c.status.new.self c.in_ok-status.ensures.rests c.status.ensures.goes.went c.requires.agrees half.still (watches.rests tt) i caused);
+    }
+
+pub returns-in_err-status-clause-serves : goal.returns-in_err-status-clause-serves
+returns-in_err-status-clause-serves g c =
+    let told = err_from_is_err_and c.from_residual.result c.from_residual.ensures.1 in
+    let watches = subst (λ r. Watches c.args.port.port c.args.self.now.world r c.status.new.self.world) c.in_err-status.was c.status.ensures.watches in
+    let shown = subst (λ r. Shown c.args.port.port r c.args.self.now.world c.status.new.self.world) c.in_err-status.was c.status.ensures.shown in
+    rw (told.1, told.2) (record {
+      on = λ due. status_lost_on c.args.port.port c.args.self.now c.status.new.self c.in_err-status.ensures.rests c.in_err-status.field-0.0 shown;
+      pays = record {
+        pays = λ i ports still. status_lost c.args.path.now c.args.port c.args.self.now c.status.new.self c.requires c.in_err-status.ensures.rests c.status.ensures.goes.went i ports c.in_err-status.field-0.0 watches;
+        few = λ i most plan. omega (arith, c.status.ensures.goes.went.spends.most);
+      };
+      hubs = omega (arith, hubs-rest c.args.self.now c.status.new.self c.in_err-status.ensures.rests);
+      served = λ o. status_failed c.args.path.now c.args.port c.args.self.now c.status.new.self c.requires c.in_err-status.ensures.rests _ c.status.ensures.goes.went o c.in_err-status.field-0.0;
+    })
+
+pub returns-then-status-clause-serves : goal.returns-then-status-clause-serves
+returns-then-status-clause-serves g c =
+    let watches = subst (λ r. Watches c.args.port.port c.args.self.now.world r c.status.new.self.world) c.in_ok-status.was c.status.ensures.watches in
+    let shown = subst (λ r. Shown c.args.port.port r c.args.self.now.world c.status.new.self.world) c.in_ok-status.was c.status.ensures.shown in
+    record {
+      on = λ due. looked_on _ c.args.port.port c.args.self.now c.status.new.self c.look.new.self c.look.result c.in_ok-status.status c.in_ok-status.ensures.rests shown c.status.ensures.goes c.look.ensures.served due;
+      pays = record {
+        pays = λ i ports still.
+            let now = watched_sound _ c.args.path.now c.args.port c.args.self.now c.status.new.self c.requires c.in_ok-status.ensures.rests c.status.ensures.goes.went c.in_ok-status.status watches i in
+            let told = told_there c.args.path.now c.args.port c.args.self.now c.status.new.self c.requires c.in_ok-status.ensures.rests c.status.ensures.goes.went i ports c.in_ok-status.status watches in
+            after_look c.args.path.now c.args.port c.args.self.now c.status.new.self c.requires c.in_ok-status.ensures.rests c.status.ensures.goes.went i ports c.in_ok-status.status watches c.look.result c.look.new.self
+            (c.look.ensures.anew.pays.pays now still c.args.self.now.world c.in_ok-status.status ports told c.if-status.true);
+        few = λ i most plan.
+            let now = watched_sound _ c.args.path.now c.args.port c.args.self.now c.status.new.self c.requires c.in_ok-status.ensures.rests c.status.ensures.goes.went c.in_ok-status.status watches i in
+            omega (arith, c.status.ensures.goes.went.spends.most, c.look.ensures.anew.pays.few now most (within_on most _ c.args.self.now c.status.new.self c.status.ensures.goes.went plan));
+      };
+      hubs = omega (arith, hubs-rest c.args.self.now c.status.new.self c.in_ok-status.ensures.rests, c.look.ensures.anew.hubs);
+      served = λ o. serves_looked c.args.path.now c.args.port c.args.self.now c.status.new.self c.requires c.in_ok-status.ensures.rests _ c.status.ensures.goes.went o c.in_ok-status.status watches c.if-status.true c.look.result c.look.new.self c.look.ensures.anew.looked;
+    }
+
+pub returns-else-status-clause-serves : goal.returns-else-status-clause-serves
+returns-else-status-clause-serves g c =
+    let watches = subst (λ r. Watches c.args.port.port c.args.self.now.world r c.status.new.self.world) c.in_ok-status.was c.status.ensures.watches in
+    let shown = subst (λ r. Shown c.args.port.port r c.args.self.now.world c.status.new.self.world) c.in_ok-status.was c.status.ensures.shown in
+    record {
+      on = λ due. tidied_on _ c.args.port.port c.args.self.now c.status.new.self c.tidy.new.self c.tidy.result c.in_ok-status.status c.in_ok-status.ensures.rests c.tidy.ensures.rests shown c.tidy.ensures.goes c.if-status.false due;
+      pays = record {
+        pays = λ i ports still.
+            let order = i.order (went_sound _ c.args.self.now.world c.status.new.self.world c.status.ensures.goes.went (went_sound _ c.status.new.self.world c.tidy.new.self.world c.tidy.ensures.goes.went still)) in
+            after_tidy c.args.path.now c.args.port c.args.self.now c.status.new.self c.requires c.in_ok-status.ensures.rests c.status.ensures.goes.went i ports c.in_ok-status.status watches c.if-status.false c.tidy.new.self c.tidy.ensures.goes.went
+            order c.tidy.result c.tidy.ensures.tidies c.tidy.ensures.clears.reset c.tidy.ensures.clears.calm;
+        few = λ i most plan. omega (arith, c.status.ensures.goes.went.spends.most, c.tidy.ensures.goes.went.spends.most);
+      };
+      hubs = omega (arith, hubs-rest c.args.self.now c.status.new.self c.in_ok-status.ensures.rests, hubs-rest c.status.new.self c.tidy.new.self c.tidy.ensures.rests);
+      served = λ o. serves_tidied c.args.path.now c.args.port c.args.self.now c.status.new.self c.requires c.in_ok-status.ensures.rests _ c.status.ensures.goes.went o c.in_ok-status.status watches c.if-status.false c.tidy.result c.tidy.new.self c.tidy.ensures.rests c.tidy.ensures.clears;
     }

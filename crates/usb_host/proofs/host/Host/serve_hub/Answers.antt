@@ -1,4 +1,5 @@
-use Rattle.std.proofs.Common.{ℕ, List, arith, refl, sym, subst, Err}
+use Rattle.std.proofs.Common.{◌∙◌, ℕ, List, ap, arith, refl, rules, sym, subst, Err}
+use Rattle.std.proofs.lemmas.Grind.{common_steps}
 use Rattle.std.specs.Prelude.{IsSome}
 use Rattle.usb_table.specs.Entries.{Entries}
 use Rattle.usb_table.specs.Listing.{finding_at, hub_facts_at}
@@ -7,6 +8,8 @@ use Rattle.usb_host.proofs.Handlings.{hub_lost, lost_single}
 use Rattle.usb_host.proofs.Owners.{stays_none, stays_kept, single_kept}
 use Rattle.usb_host.proofs.Joins.{goes_after}
 use Rattle.usb_host.proofs.Parts.{hub_fails, hub_stopped, hub_quiet, hub_told, hub_gone, hub_listed, unserved}
+use Rattle.usb_host.specs.Service.{first_byte}
+use Rattle.usb_host.proofs.HubServices.{failed_more, polls_lost, polls_quiet, polls_told}
 use Rattle.usb_host.proofs.host.Host.serve_hub.Goals as goal
 
 pub returns-in_err-drop_hub-in-Err-clause-goes : goal.returns-in_err-drop_hub-in-Err-clause-goes
@@ -23,11 +26,11 @@ returns-in_ok-drop_hub-in-Err-clause-goes g c = rw (← c.self.view_is) (goes_af
 
 pub returns-in-Ok-None-clause-keeps : goal.returns-in-Ok-None-clause-keeps
 returns-in-Ok-None-clause-keeps g c =
-    rw (← c.self.view_is) (hub_quiet c.args.hub.now _ _ _ c.self.invariant c.poll.ensures.through.entries refl refl c.poll.ensures.went c.in-Ok-None.ensures.keeps _ _ refl c.poll.ensures.through.fits (rw c.in-Ok-None.field-0-is at c.in-Ok-None.ensures.polled))
+    rw (← c.self.view_is) (hub_quiet c.args.hub.now _ _ _ c.self.invariant c.poll.ensures.through.entries refl refl c.poll.ensures.went c.in-Ok-None.ensures.keeps c.poll.ensures.through c.in-Ok-None.ensures.polled _ _ refl c.poll.ensures.through.fits (rw c.in-Ok-None.field-0-is at c.in-Ok-None.ensures.polled))
 
 pub returns-in_ok-serve_told-in-Ok-Some-clause-keeps : goal.returns-in_ok-serve_told-in-Ok-Some-clause-keeps
 returns-in_ok-serve_told-in-Ok-Some-clause-keeps g c =
-    rw (← c.self.view_is) (hub_told c.args.hub.now _ _ _ c.self.invariant c.poll.ensures.through.entries refl refl c.poll.ensures.went c.in-Ok-Some.ensures.keeps _ _ refl c.serve_told.ensures.goes c.in_ok-serve_told-in-Ok-Some.ensures.keeps)
+    rw (← c.self.view_is) (hub_told c.args.hub.now _ _ _ c.self.invariant c.poll.ensures.through.entries refl refl c.poll.ensures.went c.in-Ok-Some.ensures.keeps c.poll.ensures.through c.in-Ok-Some.ensures.polled _ _ refl c.serve_told.ensures.goes c.in_ok-serve_told-in-Ok-Some.ensures.keeps)
 
 pub returns-in_err-serve_told-in-Ok-Some-clause-keeps : goal.returns-in_err-serve_told-in-Ok-Some-clause-keeps
 returns-in_err-serve_told-in-Ok-Some-clause-keeps g c =
@@ -48,5 +51,25 @@ pub returns-in_ok-drop_hub-in-Err-clause-keeps : goal.returns-in_ok-drop_hub-in-
 returns-in_ok-drop_hub-in-Err-clause-keeps g c =
     let listed = subst (λ (h : Hosting). IsSome (hub_facts_at c.args.hub.now h.entries)) (sym c.self.view_is) c.requires in
     let failed = unserved _ _ c.in-Err.field-0 _ _ c.in-Err.ensures.polled in
-    rw (← c.self.view_is) (hub_gone c.args.hub.now (Err c.in-Err.field-0) _ _ c.self.invariant c.poll.ensures.through.entries refl refl c.poll.ensures.went c.in-Err.ensures.keeps _ _ failed listed c.drop_hub.ensures.goes
+    rw (← c.self.view_is) (hub_gone c.args.hub.now (Err c.in-Err.field-0) _ _ c.self.invariant c.poll.ensures.through.entries refl refl c.poll.ensures.went c.in-Err.ensures.keeps c.poll.ensures.through c.in-Err.ensures.polled _ _ failed listed c.drop_hub.ensures.goes
     (rw c.duplicate.ensures at c.in_ok-drop_hub-in-Err.ensures.owned) (rw c.duplicate.ensures at c.in_ok-drop_hub-in-Err.ensures.sound))
+
+pub returns-in-Ok-None-clause-polls : goal.returns-in-Ok-None-clause-polls
+returns-in-Ok-None-clause-polls g c =
+    let listed = subst (λ (h : Hosting). IsSome (hub_facts_at c.args.hub.now h.entries)) (sym c.self.view_is) c.requires in
+    rw (← c.self.view_is) (polls_quiet c.args.hub.now _ _ c.poll.ensures.through.entries refl refl c.poll.ensures.went listed _ c.in-Ok-None.ensures.polled c.in-Ok-None.ensures.keeps c.in-Ok-None.field-0-is)
+
+pub returns-in_ok-serve_told-in-Ok-Some-clause-polls : goal.returns-in_ok-serve_told-in-Ok-Some-clause-polls
+returns-in_ok-serve_told-in-Ok-Some-clause-polls g c =
+    let listed = subst (λ (h : Hosting). IsSome (hub_facts_at c.args.hub.now h.entries)) (sym c.self.view_is) c.requires in
+    let more = (rw c.in-Ok-Some.field-0-is at c.in-Ok-Some.ensures.ends).least in
+    rw (← c.self.view_is) (polls_told c.args.hub.now _ _ c.poll.ensures.through.entries refl refl c.poll.ensures.went listed _ c.in-Ok-Some.ensures.polled c.in-Ok-Some.ensures.keeps c.in-Ok-Some.bits c.first_byte.result _ c.serve_told.new.self c.in-Ok-Some.field-0-is (c.first_byte.ensures ∙ ap first_byte c.as_slice.ensures.value)
+    c.serve_told.ensures.goes more c.in_ok-serve_told-in-Ok-Some.ensures.holds c.in_ok-serve_told-in-Ok-Some.ensures.serves)
+
+pub returns-in_ok-drop_hub-in-Err-clause-polls : goal.returns-in_ok-drop_hub-in-Err-clause-polls
+returns-in_ok-drop_hub-in-Err-clause-polls g c =
+    let listed = subst (λ (h : Hosting). IsSome (hub_facts_at c.args.hub.now h.entries)) (sym c.self.view_is) c.requires in
+    let failed = unserved _ _ c.in-Err.field-0 _ _ c.in-Err.ensures.polled in
+    let more = failed_more _ _ c.in-Err.field-0 (λ told is. first_of (search rules, grind (arith, common_steps))) c.in-Err.ensures.ends in
+    rw (← c.self.view_is) (polls_lost c.args.hub.now _ _ c.poll.ensures.through.entries refl refl c.poll.ensures.went listed c.in-Err.field-0 c.in-Err.ensures.polled c.in-Err.ensures.keeps _ c.drop_hub.new.self failed
+    c.drop_hub.ensures.goes more c.drop_hub.ensures.counts.holds (rw c.duplicate.ensures at c.in_ok-drop_hub-in-Err.ensures.owned.lost))

@@ -5,13 +5,15 @@ use Rattle.usb_host.proofs.Owners.{stays_then, stays_none}
 use Rattle.usb_host.proofs.Parts.{hubs_fail}
 use Rattle.usb_host.proofs.RestingRounds.{ok_is, next_listed, calm_then, polled_then, polled_all}
 use Rattle.usb_host.specs.declared.host.Round.TheVariants.{Quiet}
-use Rattle.usb_host.proofs.Soundness.{sound_none, sound_then}
+use Rattle.usb_host.proofs.Soundness.{part_none, part_then}
 use Rattle.usb_host.proofs.Joins.{did_then, goes_none}
 use Rattle.usb_host.proofs.Ranks.{rank_goes, rank_within, rank_rises, rank_most, rank_after_most}
+use Rattle.usb_host.specs.Service.{next_hub, no_hub}
+use Rattle.usb_enum.proofs.Interface.{went_sound}
 use Rattle.usb_host.proofs.host.Host.serve_hubs.Goals as goal
 
 pub hubs-init : goal.hubs-init
-hubs-init g c = record { goes = goes_none 0 _; did = refl; owned = stays_none _; sound = sound_none _; calm = λ quiet still x. here _; polled = λ s quiet still taken hub first. absurd (first tt); path = tt }
+hubs-init g c = record { goes = goes_none 0 _; did = refl; owned = stays_none _; sound = part_none _; calm = λ quiet still x. here _; polled = λ s quiet still taken hub first. absurd (first tt); polls = λ s still. no_hub _; path = tt }
 
 pub returns-in_err-serve_hub-clause-goes : goal.returns-in_err-serve_hub-clause-goes
 returns-in_err-serve_hub-clause-goes g c =
@@ -28,14 +30,17 @@ hubs-smaller g c =
 pub hubs-preserved : goal.hubs-preserved
 hubs-preserved g c = record {
   goes = rank_goes hub_poll_bound c.hubs.last c.in-Some.hub _ _ _ c.hubs.invariant.path c.serve_hub.ensures.path c.in-Some.ensures.some.stands.after c.hubs.invariant.goes c.serve_hub.ensures.goes;
-  did = rw c.and-round.ensures (did_then _ _ c.hubs.round c.in_ok-serve_hub.field-0 c.args.self.now c.hubs.self c.serve_hub.new.self c.hubs.invariant.goes c.serve_hub.ensures.goes c.hubs.invariant.did c.in_ok-serve_hub.ensures.did);
+  did = rw c.and-round.ensures (did_then _ _ c.hubs.round c.in_ok-serve_hub.field-0 c.args.self.now c.hubs.self c.serve_hub.new.self c.hubs.invariant.goes c.serve_hub.ensures.goes c.hubs.invariant.did c.in_ok-serve_hub.ensures.polls.did);
   owned = stays_then _ _ _ c.hubs.invariant.owned c.in_ok-serve_hub.ensures.keeps.owned;
-  sound = sound_then _ _ _ _ _ c.hubs.invariant.goes.went c.serve_hub.ensures.goes.went c.hubs.invariant.sound c.in_ok-serve_hub.ensures.keeps.sound;
+  sound = part_then _ _ _ _ _ c.hubs.invariant.goes.went c.serve_hub.ensures.goes.went c.hubs.invariant.sound c.in_ok-serve_hub.ensures.keeps.sound;
   calm = λ quiet still.
       calm_then _ _ c.hubs.round c.in_ok-serve_hub.field-0 c.args.self.now c.hubs.self c.serve_hub.new.self c.hubs.invariant.goes c.serve_hub.ensures.goes (sym c.and-round.ensures ∙ quiet) still c.hubs.invariant.calm c.in_ok-serve_hub.ensures.keeps.calm;
   polled = λ s quiet still taken.
       polled_then _ _ c.hubs.round c.in_ok-serve_hub.field-0 c.args.self.now c.hubs.self c.serve_hub.new.self c.hubs.invariant.goes c.serve_hub.ensures.goes (sym c.and-round.ensures ∙ quiet) still c.hubs.last c.in-Some.hub c.in-Some.ensures.some taken s
-      c.hubs.invariant.sound c.in_ok-serve_hub.ensures.did c.hubs.invariant.polled c.in_ok-serve_hub.ensures.keeps;
+      c.hubs.invariant.sound.sound c.in_ok-serve_hub.ensures.polls.did c.hubs.invariant.polled c.in_ok-serve_hub.ensures.keeps;
+  polls = λ s still.
+      rw c.and-round.ensures (next_hub c.hubs.last c.in-Some.hub c.hubs.round c.in_ok-serve_hub.field-0 (c.hubs.invariant.polls s (went_sound _ c.hubs.self.world c.serve_hub.new.self.world c.serve_hub.ensures.goes.went still)) c.in-Some.ensures.some
+      (c.in_ok-serve_hub.ensures.polls.polled (c.hubs.invariant.sound.sound.sound s) still));
   path = c.serve_hub.ensures.path;
 }
 
@@ -53,3 +58,6 @@ returns-clause-keeps g c = record {
   silent = λ s is still taken. polled_all c.hubs.last c.hubs.self c.in_default.ensures.none (c.hubs.invariant.polled s (ok_is c.hubs.round Quiet is) still taken);
   agrees = c.in_default.ensures.agree;
 }
+
+pub returns-clause-polls : goal.returns-clause-polls
+returns-clause-polls g c = λ s still. record { last = c.hubs.last; polled = c.hubs.invariant.polls s still; all = c.in_default.ensures.none }

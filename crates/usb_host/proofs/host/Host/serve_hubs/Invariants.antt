@@ -5,7 +5,8 @@ use Rattle.usb_hub.specs.Requests.{AllRest}
 use Rattle.usb_host.specs.Bounds.{hub_poll_bound}
 use Rattle.usb_host.specs.Ownership.{StaysOwned}
 use Rattle.usb_host.specs.Progress.{HostGoes, Did}
-use Rattle.usb_host.specs.Soundness.{IsSound, StaysSound}
+use Rattle.usb_host.specs.Service.{HubsPolled}
+use Rattle.usb_host.specs.Soundness.{IsSound, PartStays}
 use Rattle.usb_host.specs.declared.host.Round.TheVariants.{Quiet}
 use Rattle.usb_host.proofs.Ranks.{rank_after}
 use Rattle.usb_host.proofs.RestingRounds.{Polled}
@@ -16,9 +17,10 @@ invariant-hubs g l = record {
   goes : HostGoes (rank_after l.last * hub_poll_bound) l.initial.self l.self;
   did : Did l.round l.initial.self l.self;
   owned : StaysOwned l.initial.self l.self;
-  sound : StaysSound l.initial.self l.self;
+  sound : PartStays l.initial.self l.self;
   calm : l.round ≡ Quiet → l.self.world.fault ≡ None → AllRest l.initial.self.world l.self.world;
   polled : IsSound l.initial.self → l.round ≡ Quiet → l.self.world.fault ≡ None → l.self.world.taken ≡ l.initial.self.world.taken → Polled l.last l.self;
+  polls : IsSound l.initial.self → l.self.world.fault ≡ None → HubsPolled l.last l.round l.initial.self l.self;
   path : IfSome l.last IsPath;
 }
 

@@ -1,8 +1,9 @@
 use Rattle.std.proofs.Common.{◌-◌, ◌*◌}
 use Rattle.usb_host.specs.Bounds.{handling_bound}
-use Rattle.usb_host.specs.Ownership.{StaysOwned}
+use Rattle.usb_host.specs.Ownership.{IsOwned, StaysOwned}
 use Rattle.usb_host.specs.Progress.{HostGoes, AddsNoWork}
-use Rattle.usb_host.specs.Soundness.{StaysSound}
+use Rattle.usb_host.specs.Service.{ServedTold}
+use Rattle.usb_host.specs.Soundness.{PartStays}
 use Rattle.usb_host.proofs.host.Host.serve_told.Given as goal
 
 abbrev pub invariant-ports : goal.invariant-ports
@@ -10,5 +11,6 @@ invariant-ports g l = record {
   goes : HostGoes ((l.number - 1) * handling_bound) l.initial.self l.self;
   holds : AddsNoWork l.initial.self l.self;
   owned : StaysOwned l.initial.self l.self;
-  sound : StaysSound l.initial.self l.self;
+  sound : PartStays l.initial.self l.self;
+  serves : IsOwned l.initial.self → ServedTold l.hub l.bits l.number l.initial.self l.self;
 }

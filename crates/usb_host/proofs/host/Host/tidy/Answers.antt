@@ -1,6 +1,14 @@
-use Rattle.std.proofs.Common.{◌≡◌, arith, refl, subst, Ok}
+use Rattle.std.proofs.Common.{◌≡◌, arith, false, refl, subst, Ok, ℕ, List}
 use Rattle.std.proofs.lemmas.Result.{err_from_is_err_and}
 use Rattle.usb_request.specs.Features.{C_PORT_ENABLE, C_PORT_RESET}
+use Rattle.usb_port.specs.Calls.{clear_call}
+use Rattle.usb_port.specs.declared.call.PortCall.TheVariants.{ClearEnableChange, ClearResetChange}
+use Rattle.usb_address.specs.Claims.{Claims}
+use Rattle.usb_address.specs.Ownership.{Owned, TillFault}
+use Rattle.usb_hub.specs.Addresses.{IsAt}
+use Rattle.usb_host.specs.Service.{DoneWhere}
+use Rattle.usb_host.proofs.Services.{call_done, done_so, done_not}
+use Rattle.usb_hub.specs.Moments.{CallsPort}
 use Rattle.usb_bus.specs.Traces.{WentOn}
 use Rattle.usb_bus.proofs.Interface.{went_none, went_then, went_wider}
 use Rattle.usb_enum.proofs.Interface.{order_most as order_fits}
@@ -8,7 +16,7 @@ use Rattle.usb_enum.specs.Stop.{at_port}
 use Rattle.usb_pipe.specs.Control.{write_bound}
 use Rattle.usb_host.specs.PortHandling.{Tidies}
 use Rattle.usb_host.proofs.TidiedPorts.{enable, reset}
-use Rattle.usb_host.proofs.Requests.{call_tidies, clears_enable_change, clears_reset_change, tidies_none, tidies_then}
+use Rattle.usb_host.proofs.Requests.{call_tidies, clears_enable_change, clears_reset_change, resets_done, tidies_none, tidies_then}
 use Rattle.usb_host.proofs.Joins.{goes_by}
 use Rattle.usb_host.proofs.host.Host.tidy.Given.{Over}
 use Rattle.usb_host.proofs.host.Host.tidy.Goals as goal
@@ -71,3 +79,57 @@ returns-in_ok-clear_port-2-clause-tidies g c =
 
 pub returns-else-status-2-clause-tidies : goal.returns-else-status-2-clause-tidies
 returns-else-status-2-clause-tidies g c = rw (← c.self.view_is) (first_tidies g (goal.at.returns-else-status-2-clause-tidies g c).Joined-status)
+
+first_clears : (g : Over) (c : goal.Joined-status g) (f : Claims) (p : List ℕ) → IsAt f c.args.port p → TillFault (Owned f) (g.B.Bus.world c.self.inside.bus)
+    → DoneWhere c.args.status.enable_changed p ClearEnableChange (g.B.Bus.world c.self.inside.bus) (g.B.Bus.world c.if-status.self-inside.bus)
+first_clears g c f p at owned = elim c.if-status.branch [
+  | then-status+in_ok-clear_port w ↦
+      let calls = subst (λ r. CallsPort c.args.port (clear_call C_PORT_ENABLE) (g.B.Bus.world c.self.inside.bus) r (g.B.Bus.world w.clear_port.new.bus)) w.in_ok-clear_port.was w.clear_port.ensures.ports in
+      rw w.self-inside-is (done_so c.args.status.enable_changed p ClearEnableChange _ _ w.if-status.true (call_done c.args.port ClearEnableChange _ _ (λ resets. absurd (cc resets)) calls f p at owned))
+  | else-status w ↦ rw w.self-inside-is (done_not c.args.status.enable_changed p ClearEnableChange _ _ w.if-status.false refl)
+]
+
+-- where no change is told, nothing is done
+still_by : (g : Over) (c : goal.Joined-status g) → c.args.status.enable_changed ≡ false → c.if-status.self-inside ≡ c.self.inside
+still_by g c off = elim c.if-status.branch [
+  | then-status+in_ok-clear_port w ↦ absurd (cc (off, w.if-status.true))
+  | else-status w ↦ w.self-inside-is
+]
+
+pub returns-in_err-clear_port-clause-clears : goal.returns-in_err-clear_port-clause-clears
+returns-in_err-clear_port-clause-clears g c =
+    let told = err_from_is_err_and c.from_residual.result c.from_residual.ensures.1 in
+    rw (told.1, told.2) (record { reset = tt; calm = λ off none. absurd (cc (off, c.if-status.true)); clears = λ f p at owned. tt })
+
+pub returns-in_err-clear_port-2-clause-clears : goal.returns-in_err-clear_port-2-clause-clears
+returns-in_err-clear_port-2-clause-clears g c =
+    let told = err_from_is_err_and c.from_residual-in_err-clear_port-2.result c.from_residual-in_err-clear_port-2.ensures.1 in
+    rw (told.1, told.2) (record { reset = tt; calm = λ off none. absurd (cc (none, c.if-status-2.true)); clears = λ f p at owned. tt })
+
+pub returns-in_ok-clear_port-2-clause-clears : goal.returns-in_ok-clear_port-2-clause-clears
+returns-in_ok-clear_port-2-clause-clears g c =
+    let joined = (goal.at.returns-in_ok-clear_port-2-clause-clears g c).Joined-status in
+    let first = first_tidies g joined in
+    let calls = subst (λ r. CallsPort c.args.port (clear_call C_PORT_RESET) (g.B.Bus.world c.if-status.self-inside.bus) r (g.B.Bus.world c.clear_port-then-status-2.new.bus)) c.in_ok-clear_port-2.was c.clear_port-then-status-2.ensures.ports in
+    rw (← c.self.view_is) (record {
+      reset = λ told. resets_done c.args.port _ _ _ first calls;
+      calm = λ off none. absurd (cc (none, c.if-status-2.true));
+      clears = λ f p at owned. record {
+        mid = g.B.Bus.world c.if-status.self-inside.bus;
+        enable = first_clears g joined f p at owned;
+        reset = done_so c.args.status.reset_changed p ClearResetChange _ _ c.if-status-2.true (call_done c.args.port ClearResetChange _ _ (λ resets. absurd (cc resets)) calls f p at (first.addresses.kept f owned));
+      };
+    })
+
+pub returns-else-status-2-clause-clears : goal.returns-else-status-2-clause-clears
+returns-else-status-2-clause-clears g c =
+    let joined = (goal.at.returns-else-status-2-clause-clears g c).Joined-status in
+    rw (← c.self.view_is) (record {
+      reset = λ told. absurd (cc (told, c.if-status-2.false));
+      calm = λ off none. (refl, rw (still_by g joined off) refl);
+      clears = λ f p at owned. record {
+        mid = g.B.Bus.world c.if-status.self-inside.bus;
+        enable = first_clears g joined f p at owned;
+        reset = done_not c.args.status.reset_changed p ClearResetChange _ _ c.if-status-2.false refl;
+      };
+    })

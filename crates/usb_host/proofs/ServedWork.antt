@@ -1,0 +1,57 @@
+-- That the host gets on where a port is served, and where a hub is polled.
+use Rattle.std.proofs.Common.{◌≡◌, ◌⊎◌, inl, sym, ap, subst, arith, true, false, ℕ, Result, Ok, Err}
+use Rattle.usb_port.specs.Status.{seen}
+use Rattle.usb_port.specs.declared.status.PortStatus.{PortStatus}
+use Rattle.usb_world.specs.World.{World, root_port_at}
+use Rattle.usb_hub.specs.declared.port.HubPort.{HubPort}
+use Rattle.usb_hub.specs.declared.port.HubPort.TheVariants.{Root, External}
+use Rattle.usb_enum.specs.declared.fault.EnumFault.{EnumFault}
+use Rattle.usb_enum.specs.declared.fault.EnumFault.TheVariants.{ParentLost, Bus, Memory}
+use Rattle.usb_host.specs.Hosting.{Hosting}
+use Rattle.usb_host.specs.Ports.{Gained, IsDue, Served, Shown}
+use Rattle.usb_host.specs.Progress.{AddsNoWork, Advances, HostGoes, Rests, waiting}
+use Rattle.usb_host.proofs.Joins.{advances_after, advances_then}
+use Rattle.usb_host.proofs.Looks.{served_any}
+
+pub rests_holds : (n : ℕ) (a b : Hosting) → HostGoes n a b → Rests a b → AddsNoWork a b
+rests_holds n a b g r =
+    let same : waiting b.entries ≡ waiting a.entries = ap (λ (h : Hosting). waiting h.entries) r in
+    omega (arith, same, g.went.spends.served, g.went.spends.later)
+
+gained_on : (a b : Hosting) → Rests a b → Gained a.world b.world → Advances a b
+gained_on a b r gained =
+    let same : waiting b.entries ≡ waiting a.entries = ap (λ (h : Hosting). waiting h.entries) r in
+    omega (arith, same, gained)
+
+served_after : (result : Result (Unit {0}) EnumFault) (a b c : Hosting) → AddsNoWork a b → Served result b c → Served result a c
+served_after (Ok done) a b c holds on = advances_after a b c holds on
+served_after (Err ParentLost) a b c holds on = advances_after a b c holds on
+served_after (Err (Bus fault)) a b c holds on = tt
+served_after (Err Memory) a b c holds on = tt
+
+-- a request for the status failed: a hub was asked
+pub status_lost_on : (port : HubPort) (a b : Hosting) → Rests a b → (fault : EnumFault) → Shown port (Err fault) a.world b.world → Served (Err fault) a b
+status_lost_on (Root number) a b r fault shown = absurd (cc (shown.0))
+status_lost_on (External hub number) a b r ParentLost shown = gained_on a b r shown
+status_lost_on (External hub number) a b r (Bus fault) shown = tt
+status_lost_on (External hub number) a b r Memory shown = tt
+
+due_on : (port : HubPort) (a b : Hosting) (status : PortStatus) → Shown port (Ok status) a.world b.world → IsDue a.world port → IsDue b.world port
+due_on (Root number) a b status shown due = subst (λ (w : World). (root_port_at w number).connection_changed ≡ true) (sym shown.1) due
+due_on (External hub number) a b status shown due = tt
+
+-- a status told of a change, and the port was looked at
+pub looked_on : (n : ℕ) (port : HubPort) (a b c : Hosting) (result : Result (Unit {0}) EnumFault) (status : PortStatus) → Rests a b → Shown port (Ok status) a.world b.world → HostGoes n a b → {Waits : Type 0} → (IsDue b.world port ⊎ Waits → Served result b c)
+    → IsDue a.world port → Served result a c
+looked_on n port a b c result status r shown g looks due = served_after result a b c (rests_holds n a b g r) (looks (inl (due_on port a b status shown due)))
+
+off_absurd : {A : Type 0} (w : World) (number : ℕ) (status : PortStatus) → status ≡ seen (root_port_at w number) → status.connection_changed ≡ false → (root_port_at w number).connection_changed ≡ true → A
+off_absurd w number status is off due =
+    let told : status.connection_changed ≡ (root_port_at w number).connection_changed = ap (λ (s : PortStatus). s.connection_changed) is in
+    absurd (cc (told, off, due))
+
+-- it told of none: then a root port was not due, and a hub was asked
+pub tidied_on : (n : ℕ) (port : HubPort) (a b c : Hosting) (result : Result (Unit {0}) EnumFault) (status : PortStatus) → Rests a b → Rests b c → Shown port (Ok status) a.world b.world → HostGoes n b c → status.connection_changed ≡ false
+    → IsDue a.world port → Served result a c
+tidied_on n (Root number) a b c result status r q shown g off due = off_absurd a.world number status (cc (shown.0)) off due
+tidied_on n (External hub number) a b c result status r q shown g off due = served_any result a c (advances_then a b c (gained_on a b r shown) (rests_holds n b c g q))

@@ -1,0 +1,278 @@
+-- What a round does, part by part (11.12): how each port was served, how each hub was polled, and in which order.
+use Rattle.std.specs.Prelude.{◌≡◌, ◌⊎◌, ◌≤◌, ◌+◌, ⊤, ℕ, List, [], ◌∷◌, ◌++◌, Bool, true, false, Option, None, Some, Result, Ok, Err, OnOk, IfOk, IsSome}
+use Rattle.std.specs.BTreeMap.{insert_entry}
+use Rattle.arrayvec.specs.ArrayVec.{ArrayVec}
+use Rattle.usb_port.specs.Order.{path_cmp, parent_of}
+use Rattle.usb_port.specs.Path.{IsPath}
+use Rattle.usb_port.specs.Status.{has_bit}
+use Rattle.usb_port.specs.declared.call.PortCall.{PortCall}
+use Rattle.usb_port.specs.declared.call.PortCall.TheVariants.{ClearEnable, ClearConnectionChange, ClearEnableChange, ClearResetChange}
+use Rattle.usb_port.specs.declared.status.PortStatus.{PortStatus}
+use Rattle.usb_world.specs.World.{World, changes, root_port_at, root_row, roots_of}
+use Rattle.usb_address.specs.Claims.{Claims}
+use Rattle.usb_address.specs.Ownership.{Owned, TillFault}
+use Rattle.usb_transaction.specs.Failures.{NoThreeDamaged}
+use Rattle.usb_pipe.specs.declared.fault.PipeFault.{PipeFault}
+use Rattle.usb_pipe.specs.Leaves.{ByteTold}
+use Rattle.usb_hub.specs.declared.port.HubPort.{HubPort}
+use Rattle.usb_hub.specs.Addresses.{IsAt}
+use Rattle.usb_hub.specs.Moments.{PortDone, PortTold}
+use Rattle.usb_enum.specs.declared.fault.EnumFault.{EnumFault}
+use Rattle.usb_enum.specs.declared.fault.EnumFault.TheVariants.{ParentLost, Bus, Memory}
+use Rattle.usb_enum.specs.declared.finding.Accepted.{Accepted}
+use Rattle.usb_enum.specs.declared.finding.Finding.{Finding}
+use Rattle.usb_table.specs.Entries.{Entries, Replaced, without}
+use Rattle.usb_table.specs.Findings.{is_hub, is_waiting, accepted_device_at}
+use Rattle.usb_table.specs.KnownPorts.{known_port}
+use Rattle.usb_table.specs.Levels.{BitsOf, Heard}
+use Rattle.usb_table.specs.NextEntries.{ComesAfter, IsNext, IsLast}
+use Rattle.usb_table.specs.Listing.{hub_facts_at}
+use Rattle.usb_table.specs.Table.{pipes_at}
+use Rattle.usb_table.specs.Transfers.{PipesPolled}
+use Rattle.usb_resources.specs.Pool.{IsFull}
+use Rattle.usb_host.specs.Backlog.{hubs, ClearsConnection, ClearsReset, PaysAtLook, PaysAtServe, RestsCalm}
+use Rattle.usb_host.specs.Hosting.{Hosting}
+use Rattle.usb_host.specs.Ownership.{HasLost, IsOwned}
+use Rattle.usb_host.specs.PortHandling.{ClearsChange, DropsLost}
+use Rattle.usb_host.specs.Ports.{Looked, Served, Waits}
+use Rattle.usb_host.specs.Progress.{AddsNoWork, Advances, Did, DidRound, Remains, Rests, either}
+use Rattle.usb_host.specs.Soundness.{IsSound, RootsRest}
+use Rattle.usb_host.specs.Transfers.{table_in}
+use Rattle.usb_host.specs.declared.fault.HostFault.{HostFault}
+use Rattle.usb_host.specs.declared.host.Round.{Round}
+use Rattle.usb_host.specs.declared.host.Round.TheVariants.{Worked, Quiet}
+
+-- Requests to a port
+
+-- a request was done at a port where it was asked for; where it was not, nothing was done
+abbrev pub DoneWhere : Bool → List ℕ → PortCall → World → World → Type 0
+DoneWhere true path call old new = PortDone path call old new
+DoneWhere false path call old new = new ≡ old
+
+-- ClearPortFeature (11.24.2.2) for each change of enable and of reset that a status told, and for no other
+pub record ClearsTold (path : List ℕ) (status : PortStatus) (old new : World) : Type 0 where
+  pub mid : World
+  pub enable : DoneWhere status.enable_changed path ClearEnableChange old mid
+  pub reset : DoneWhere status.reset_changed path ClearResetChange mid new
+
+-- the change of connection was cleared, then the status was read, and a port that was enabled was disabled
+pub record ClearsAndReads (path : List ℕ) (status : PortStatus) (old new : World) : Type 0 where
+  pub mid : World
+  pub cleared : PortDone path ClearConnectionChange old mid
+  pub now : World
+  pub told : PortTold path status mid now
+  pub disabled : DoneWhere status.enabled path ClearEnable now new
+
+-- A port
+
+-- its status told of no change of connection: each other change that it told was cleared, and what is known of the ports stays
+pub record Tidied (path : List ℕ) (old new : Hosting) : Type 0 where
+  pub status : PortStatus
+  pub mid : World
+  pub told : PortTold path status old.world mid
+  pub steady : status.connection_changed ≡ false
+  pub clears : ClearsTold path status mid new.world
+  pub rests : Rests old new
+
+-- what was found at a port and below it is forgotten; where a device is connected, one finding is entered
+abbrev pub Renews : Bool → List ℕ → Entries → Entries → Type 0
+Renews true path old new = (finding : Finding) × (new ≡ insert_entry path_cmp (without path old) path finding)
+Renews false path old new = new ≡ without path old
+
+-- its change of connection was cleared, and what a status then showed was found
+pub record LookedAt (path : List ℕ) (old new : Hosting) : Type 0 where
+  pub status : PortStatus
+  pub mid : World
+  pub cleared : ClearsAndReads path status old.world mid
+  pub renewed : Renews status.connected path old.entries new.entries
+
+-- a request to its hub failed: that hub, or one above it, is listed as lost
+pub record LosesParent (path : List ℕ) (old new : Entries) : Type 0 where
+  pub hub : List ℕ
+  pub parent : parent_of path ≡ Some hub
+  pub loses : HasLost hub old new
+
+-- a port was served: tidied, looked at where its status told of a change of connection, or its hub was lost
+pub data ServedAt (path : List ℕ) (old new : Hosting) : Type 0 where
+  was_tidied : Tidied path old new → ServedAt path old new
+  was_looked_at : (status : PortStatus) (mid : Hosting) → PortTold path status old.world mid.world → status.connection_changed ≡ true → Rests old mid → LookedAt path mid new → ServedAt path old new
+  was_lost : LosesParent path old.entries new.entries → ServedAt path old new
+
+-- a device that waits was looked at again, or its hub was lost
+pub data LookedOnce (path : List ℕ) (old new : Hosting) : Type 0 where
+  looked_once : LookedAt path old new → LookedOnce path old new
+  lost_once : LosesParent path old.entries new.entries → LookedOnce path old new
+
+-- A hub
+
+-- the first byte of a status change, which has a bit for each of a hub's ports (11.12.4)
+abbrev pub first_byte : List ℕ → ℕ
+first_byte [] = 0
+first_byte (byte ∷ rest) = byte
+
+-- a port of a hub was served, where one that is known has that path; else nothing was done
+pub data ServedBelow (hub : List ℕ) (number : ℕ) (old new : Hosting) : Type 0 where
+  port_known : ServedAt (hub ++ (number ∷ [])) old new → ServedBelow hub number old new
+  port_unknown : (IsPath (hub ++ (number ∷ [])) → known_port (hub ++ (number ∷ [])) old.entries ≡ None) → new ≡ old → ServedBelow hub number old new
+
+-- by rising number, each port of a hub below a number whose bit is set was served, and no other
+pub data ServedTold (hub : List ℕ) (bits : ℕ) : ℕ → Hosting → Hosting → Type 0 where
+  none_yet : (h : Hosting) → ServedTold hub bits 1 h h
+  bit_set : (n : ℕ) {old mid new : Hosting} → ServedTold hub bits n old mid → has_bit bits n ≡ true → ServedBelow hub n mid new → ServedTold hub bits (n + 1) old new
+  bit_clear : (n : ℕ) {old new : Hosting} → ServedTold hub bits n old new → has_bit bits n ≡ false → ServedTold hub bits (n + 1) old new
+
+-- where no three attempts running are damaged, no accepted device at the path heard the poll
+abbrev pub NoneHears : List ℕ → Hosting → World → Type 0
+NoneHears hub old mid = NoThreeDamaged old.world → (device : Accepted) → accepted_device_at hub old.entries ≡ Some device → Heard hub device mid → ⊥
+
+-- one poll of the hub through its status pipe, with its answer; nothing else that is known changed
+pub record PolledOnce (hub : List ℕ) (old : Hosting) (answer : Result (Option (ArrayVec ℕ)) PipeFault) (new : Hosting) : Type 0 where
+  pub through : PipesPolled (pipes_at hub (table_in old)) old.world answer (pipes_at hub (table_in new)) new.world
+  pub remains : Remains old new
+
+-- a hub was polled: none of its ports had changed; or they told these bits, of which one at least is set, and each port of which they tell was served;
+-- or it did not answer, and was dropped
+pub data HubPolled (hub : List ℕ) (old new : Hosting) : Round → Type 0 where
+  told_none : PolledOnce hub old (Ok None) new → BitsOf hub old.world new.world 0 → HubPolled hub old new Quiet
+  told_some : (packet : ArrayVec ℕ) (mid : Hosting) → PolledOnce hub old (Ok (Some packet)) mid → (byte : ByteTold (BitsOf hub old.world mid.world) packet.items) → ServedTold hub byte.bits 8 mid new → HubPolled hub old new Worked
+  not_heard : (fault : PipeFault) (mid : Hosting) → PolledOnce hub old (Err fault) mid → NoneHears hub old mid.world → HasLost hub mid.entries new.entries → HubPolled hub old new Worked
+
+-- A round
+
+-- by rising number, each root port below a number whose connection had changed was served, and no other
+pub data RootsServed : ℕ → Round → Hosting → Hosting → Type 0 where
+  no_root : (h : Hosting) → RootsServed 1 Quiet h h
+  root_changed : (n : ℕ) (round : Round) {old mid new : Hosting} → RootsServed n round old mid → (root_port_at mid.world n).connection_changed ≡ true → ServedAt (n ∷ []) mid new → RootsServed (n + 1) Worked old new
+  root_steady : (n : ℕ) (round : Round) {old new : Hosting} → RootsServed n round old new → (root_port_at new.world n).connection_changed ≡ false → RootsServed (n + 1) round old new
+
+-- hubs were polled up to a path, each the next one that was known, by rising path
+pub data HubsPolled : Option (List ℕ) → Round → Hosting → Hosting → Type 0 where
+  no_hub : (h : Hosting) → HubsPolled None Quiet h h
+  next_hub : (last : Option (List ℕ)) (hub : List ℕ) (before round : Round) {old mid new : Hosting} → HubsPolled last before old mid → IsNext is_hub last mid.entries hub → HubPolled hub mid new round → HubsPolled (Some hub) (either before round) old new
+
+-- devices that wait were looked at up to a path, by rising path
+pub data LookedAgain : Option (List ℕ) → Round → Hosting → Hosting → Type 0 where
+  no_device : (h : Hosting) → LookedAgain None Quiet h h
+  next_device : (last : Option (List ℕ)) (path : List ℕ) (before : Round) {old mid new : Hosting} → LookedAgain last before old mid → Waits path mid → ComesAfter last path → LookedOnce path mid new → LookedAgain (Some path) Worked old new
+
+-- each hub that is known, once
+pub record EachPolled (round : Round) (old new : Hosting) : Type 0 where
+  pub last : Option (List ℕ)
+  pub polled : HubsPolled last round old new
+  pub all : IsLast is_hub last new.entries
+
+-- each device that waits, once, while an address is free
+pub record EachLookedAgain (round : Round) (old new : Hosting) : Type 0 where
+  pub last : Option (List ℕ)
+  pub looked : LookedAgain last round old new
+  pub all : IsFull new.addresses ⊎ IsLast is_waiting last new.entries
+
+-- the root ports, then the hubs, then the devices that wait
+pub record RoundParts (round : Round) (old new : Hosting) : Type 0 where
+  pub roots : Round
+  pub first : Hosting
+  pub served : RootsServed (roots_of old.world + 1) roots old first
+  pub hubs : Round
+  pub second : Hosting
+  pub polled : EachPolled hubs first second
+  pub looks : Round
+  pub looked : EachLookedAgain looks second new
+  pub is : round ≡ either (either roots hubs) looks
+
+-- What the calls of a host tell of it, where it is as it knows
+
+-- the changes of a port that a status told were cleared
+pub record TidiesTold (port : HubPort) (status : PortStatus) (old : Hosting) (result : Result (Unit {0}) EnumFault) (new : Hosting) : Type 0 where
+  pub reset : OnOk result (status.reset_changed ≡ true → ClearsReset port old.world new.world)
+  pub calm : RestsCalm status old result new
+  pub clears : (f : Claims) (p : List ℕ) → IsAt f port p → TillFault (Owned f) old.world → OnOk result (ClearsTold p status old.world new.world)
+
+-- a change of connection was cleared
+pub record ClearsPort (port : HubPort) (old : World) (result : Result PortStatus EnumFault) (new : World) : Type 0 where
+  pub keeps : ClearsChange port old result new
+  pub paid : IfOk result (λ status. ClearsConnection port status old new)
+  pub reads : (f : Claims) (p : List ℕ) → IsAt f port p → TillFault (Owned f) old → IfOk result (λ status. ClearsAndReads p status old new)
+
+-- what is known stays, or what was found at the port and below it is forgotten
+abbrev pub StaysOrForgets : List ℕ → Entries → Entries → Type 0
+StaysOrForgets path old new = (new ≡ old) ⊎ (new ≡ without path old)
+
+-- a port was looked at, or its hub is lost
+abbrev pub LookedOrLost : List ℕ → Hosting → Result (Unit {0}) EnumFault → Hosting → Type 0
+LookedOrLost path old (Ok done) new = LookedAt path old new
+LookedOrLost path old (Err ParentLost) new = StaysOrForgets path old.entries new.entries
+LookedOrLost path old (Err (Bus fault)) new = ⊤
+LookedOrLost path old (Err Memory) new = ⊤
+
+-- a port was served, or its hub is lost
+abbrev pub ServedOrLost : List ℕ → Hosting → Result (Unit {0}) EnumFault → Hosting → Type 0
+ServedOrLost path old (Ok done) new = ServedAt path old new
+ServedOrLost path old (Err ParentLost) new = StaysOrForgets path old.entries new.entries
+ServedOrLost path old (Err (Bus fault)) new = ⊤
+ServedOrLost path old (Err Memory) new = ⊤
+
+-- after a port was served nothing more is done, but where its hub is lost
+abbrev pub EndsAt : List ℕ → Result (Unit {0}) EnumFault → Hosting → Result (Unit {0}) HostFault → Hosting → Type 0
+EndsAt path (Ok done) old result new = new ≡ old
+EndsAt path (Err ParentLost) old result new = OnOk result (LosesParent path old.entries new.entries)
+EndsAt path (Err (Bus fault)) old result new = ⊤
+EndsAt path (Err Memory) old result new = ⊤
+
+-- what a look leaves
+pub record LooksAnew (path : List ℕ) (old : Hosting) (result : Result (Unit {0}) EnumFault) (new : Hosting) : Type 0 where
+  pub renewed : OnOk result (Replaced path (without path old.entries) new.entries)
+  pub pays : PaysAtLook path old result new
+  pub hubs : hubs new.entries ≤ hubs old.entries + 1
+  pub looked : IsOwned old → LookedOrLost path old result new
+
+-- what the serving of a port leaves; where it was due, the host got on
+pub record ServesPort (path : List ℕ) (due : Type 0) (old : Hosting) (result : Result (Unit {0}) EnumFault) (new : Hosting) : Type 0 where
+  pub on : due → Served result old new
+  pub pays : PaysAtServe path old result new
+  pub hubs : hubs new.entries ≤ hubs old.entries + 1
+  pub served : IsOwned old → ServedOrLost path old result new
+
+-- how the handling of a port ends
+pub record FinishesAt (path : List ℕ) (served : Result (Unit {0}) EnumFault) (old : Hosting) (result : Result (Unit {0}) HostFault) (new : Hosting) : Type 0 where
+  pub drops : DropsLost path served old result new
+  pub left : EndsAt path served old result new
+
+-- a hub is dropped: no more is left to do, and where it was listed, one hub fewer is
+pub record DropsOne (hub : List ℕ) (old : Hosting) (result : Result (Unit {0}) HostFault) (new : Hosting) : Type 0 where
+  pub holds : AddsNoWork old new
+  pub hubs : OnOk result (IsSome (hub_facts_at hub old.entries) → hubs new.entries + 1 ≤ hubs old.entries)
+
+-- a port was handled; where it was due, the host got on
+pub record HandlesAt (path : List ℕ) (due : Type 0) (old new : Hosting) : Type 0 where
+  pub advances : due → Advances old new
+  pub served : IsOwned old → ServedAt path old new
+
+-- a port of a hub was handled
+pub record HandlesBelow (hub : List ℕ) (number : ℕ) (round : Round) (old new : Hosting) : Type 0 where
+  pub did : Did round old new
+  pub served : IsOwned old → ServedBelow hub number old new
+
+-- a device that waits was looked at again
+pub record LooksOnceMore (path : List ℕ) (round : Round) (old new : Hosting) : Type 0 where
+  pub did : Looked round old new
+  pub looked : IsSound old → (round ≡ Worked) × LookedOnce path old new
+
+-- a hub was polled
+pub record PollsHub (hub : List ℕ) (round : Round) (old new : Hosting) : Type 0 where
+  pub did : Did round old new
+  pub polled : IsSound old → new.world.fault ≡ None → HubPolled hub old new round
+
+-- the parts of a round; where it is quiet no root port had changed
+pub record WentByParts (old : Hosting) (result : Result Round HostFault) (new : Hosting) : Type 0 where
+  pub none : result ≡ Ok Quiet → changes (root_row old.world) ≡ 0
+  pub parts : IfOk result (λ round. IsSound old → new.world.fault ≡ None → RoundParts round old new)
+
+-- the root ports were served
+pub record ServesRoots (round : Round) (old new : Hosting) : Type 0 where
+  pub none : round ≡ Quiet → RootsRest old new
+  pub served : IsOwned old → RootsServed (roots_of old.world + 1) round old new
+
+-- what a round did, part by part
+pub record DidParts (round : Round) (old new : Hosting) : Type 0 where
+  pub did : DidRound round old new
+  pub parts : IsSound old → new.world.fault ≡ None → RoundParts round old new
