@@ -1,5 +1,5 @@
 -- Where a plan's run ends.
-use Rattle.std.proofs.Common.{◌≡◌, ◌∙◌, refl, sym, ap, ap₂, subst, Ok, IsErrAnd, arith, ℕ, ◌+◌, zero, suc, length, List, Option, Result, Err, false}
+use Rattle.std.proofs.Common.{◌≡◌, ◌∙◌, refl, sym, ap, ap₂, subst, Ok, IsErrAnd, ℕ, zero, suc, List, Option, Result, Err, false}
 use Rattle.std.proofs.lemmas.List.Elements.{All-cons, All-nil}
 use Rattle.std.specs.Prelude.{All, IfErr}
 use Rattle.usb_device.specs.Tree.{new_ports, row_of}
@@ -9,10 +9,9 @@ use Rattle.usb_world.specs.Steps.{opening}
 use Rattle.usb_enum.proofs.Interface.{opening_in_order}
 use Rattle.usb_world.specs.declared.types.BusFault.{BusFault}
 use Rattle.usb_world.specs.declared.types.BusFault.TheVariants.{LimitReached, Memory, TraceFailed}
-use Rattle.usb_world.specs.World.{World, Failed, changes, change_of}
-use Rattle.usb_host.specs.Hosting.{Hosting, opening_host as host_opening, with_power}
+use Rattle.usb_world.specs.World.{World, Failed}
+use Rattle.usb_host.specs.Hosting.{Hosting, opening_host as host_opening}
 use Rattle.usb_host.specs.Ownership.{IsUntouched}
-use Rattle.usb_host.specs.Progress.{HostWent}
 use Rattle.usb_host.specs.Soundness.{IsSound, IsUnpowered, Causes}
 use Rattle.usb_serve.specs.declared.runs.RunFault.{RunFault}
 use Rattle.usb_serve.specs.declared.runs.RunFault.TheVariants.{Memory as NoMemory}
@@ -22,59 +21,55 @@ use Rattle.usb_pipe.specs.declared.fault.PipeFault.{PipeFault}
 use Rattle.usb_pipe.specs.declared.fault.PipeFault.TheVariants as pipe
 use Rattle.usb_host.specs.declared.fault.HostFault.{HostFault}
 use Rattle.usb_host.specs.declared.fault.HostFault.TheVariants as host
-use Rattle.usb_host.specs.ToldFaults.{IsOfPipe, TransferTold, is_final}
-use Rattle.usb_bus.specs.Traces.{Traced, WentOn}
-use Rattle.usb_serve.specs.RunSegments.{Works}
-use Rattle.usb_serve.specs.Run.{IsCaused, RunsOn, WorksOn, run_fault}
-use Rattle.usb_serve.specs.ServedRuns.{Opens, unpowered}
-use Rattle.usb_serve.proofs.Moments.{SoFar}
-use Rattle.usb_serve.proofs.RunCourses.{traced_onward}
+use Rattle.usb_host.specs.ToldFaults.{IsOfPipe, RoundTold, TransferTold, is_final}
+use Rattle.usb_bus.specs.Traces.{Traced}
+use Rattle.usb_serve.specs.RunSegments.{Knows, OneRound, RoundTells}
+use Rattle.usb_serve.proofs.RunParts.{round_running}
+use Rattle.usb_host.specs.declared.host.Round.{Round}
+use Rattle.usb_serve.specs.Run.{IsCaused, RunsOn, round_fault, run_fault}
+use Rattle.usb_serve.specs.ServedRuns.{Opens}
 use Rattle.usb_serve.proofs.Ownership.{untouched}
-
-powered_length : (n : ℕ) → length (row_of (with_power (new_ports n))) ≡ length (row_of (new_ports n))
-unfolding new_ports row_of with_power
-powered_length zero = refl
-powered_length (suc n) = ap (λ m. suc m) (powered_length n)
-
--- nothing is attached yet, so power changes no connection
-powered_changes : (n : ℕ) → changes (row_of (with_power (new_ports n))) ≡ changes (row_of (new_ports n))
-unfolding new_ports row_of with_power changes change_of
-powered_changes zero = refl
-powered_changes (suc n) = ap (λ m. 0 + m) (powered_changes n)
-
--- a plan's run begins with power at the root ports
-powered_went : (plan : PlanData) {t s : Option (List ℕ)} → Traced (opening plan) t (record (opening plan) { roots = with_power (new_ports plan.roots) }) s
-    → WentOn 0 (opening plan) t (record (opening plan) { roots = with_power (new_ports plan.roots) }) s
-powered_went plan traced = record {
-  spends = record {
-    limit = refl;
-    roots = powered_length plan.roots;
-    later = omega arith;
-    most = omega arith;
-    within = λ le. le;
-    events = refl;
-    onward = omega arith;
-    served = omega (arith, powered_changes plan.roots);
-  };
-  traced = traced;
-}
 
 -- a fault that a bus told has its cause
 pub caused_by : (fault : BusFault) (w : World) → Failed fault w → IsCaused (run_fault fault) w
-caused_by LimitReached w failed = failed.at_limit refl
+caused_by LimitReached w failed = (failed.at_limit refl, failed.told)
 caused_by Memory w failed = tt
 caused_by TraceFailed w failed = failed.told
 
--- a part of a run that ends with a fault
-pub failed_on : {A : Type 0} {old new : Hosting} (result : Result A RunFault) (fault : RunFault) → IsErrAnd result (λ e. e ≡ fault) → Works old new → IsCaused fault new.world → RunsOn WorksOn old result new
-failed_on (Ok x) fault is goes caused = absurd is
-failed_on {A} {old} {new} (Err e) fault is goes caused = record { goes = goes; running = tt; caused = subst (λ f. IsCaused f new.world) (sym is) caused }
+-- and so has that of a round
+pub round_caused : (why : HostFault) (w : World) → RoundTold why w → IsCaused (round_fault why) w
+round_caused host.Stopped w told = tt
+round_caused host.NoDevice w told = tt
+round_caused host.NoEndpoint w told = tt
+round_caused (host.Pipe fault) w told = tt
+round_caused (host.Bus fault) w told = caused_by fault w told
+round_caused host.Memory w told = tt
 
--- a part of a run with events that ends with a fault
-pub stopped_on : {A : Type 0} (Goes : Hosting → Result A RunFault → Hosting → Type 0) {old new : Hosting} (result : Result A RunFault) (fault : RunFault) → IsErrAnd result (λ e. e ≡ fault)
-    → ((e : RunFault) → Goes old (Err e) new) → IsCaused fault new.world → RunsOn Goes old result new
-stopped_on Goes (Ok x) fault is stops caused = absurd is
-stopped_on Goes {old} {new} (Err e) fault is stops caused = record { goes = stops e; running = tt; caused = subst (λ f. IsCaused f new.world) (sym is) caused }
+abbrev part_failed : {A : Type 0} → RunFault → Result A RunFault
+part_failed fault = Err fault
+
+-- a part of a run that ends with a fault
+pub failed_on : {A : Type 0} (Goes : Hosting → Result A RunFault → Hosting → Type 0) {old new : Hosting} (result : Result A RunFault) (fault : RunFault) → IsErrAnd result (λ e. e ≡ fault)
+    → Goes old (Err fault) new → IsCaused fault new.world → RunsOn Goes old result new
+failed_on Goes (Ok x) fault is stops caused = absurd is
+failed_on {A} Goes {old} {new} (Err e) fault is stops caused =
+    subst (λ f. RunsOn Goes old (part_failed {A = A} f) new) (sym is) (record { goes = stops; running = tt; caused = caused })
+
+-- One round
+
+pub round_runs : (old new : Hosting) (result : Result Round HostFault) (round : Round) → result ≡ Ok round → RoundTells old result new → RunsOn OneRound old (Ok round) new
+round_runs old new result round is tells =
+    let done : RoundTells old (Ok round) new = subst (λ r. RoundTells old r new) is tells in
+    record { goes = done; running = round_running done; caused = tt }
+
+pub round_fails : (old new : Hosting) (result : Result Round HostFault) (why : HostFault) → result ≡ Err why → RoundTells old result new → (fault : RunFault) → fault ≡ round_fault why → RunsOn OneRound old (Err fault) new
+round_fails old new result why is tells fault same =
+    let failed : RoundTells old (Err why) new = subst (λ r. RoundTells old r new) is tells in
+    record {
+      goes = record { why = why; tells = failed; ends = same };
+      running = tt;
+      caused = subst (λ f. IsCaused f new.world) (sym same) (round_caused why new.world failed.told);
+    }
 
 -- Transfers
 
@@ -128,7 +123,7 @@ opens_with plan w t h {before} same silent opens traced sound rules paths =
     record {
       is = opens ∙ ap₂ host_opening same silent;
       traced = subst Q silent (subst P same traced);
-      sound = sound (subst IsUntouched (sym same) (untouched plan)) (subst IsUnpowered (sym same) (record { off = off_new plan.roots; order = opening_in_order plan rules paths refl }));
+      sound = sound (subst IsUntouched (sym same) (untouched plan)) (subst IsUnpowered (sym same) (record { off = off_new plan.roots; order = opening_in_order plan rules refl }));
       rules = rules;
       paths = paths;
     }
@@ -137,15 +132,9 @@ opens_with plan w t h {before} same silent opens traced sound rules paths =
 opened_causes : (plan : PlanData) (h : Hosting) {before : Option (List ℕ)} → Opens plan before h → Causes h.world h.entries
 opened_causes plan h opens = subst (Causes h.world) (sym (ap (λ (k : Hosting). k.entries) opens.is)) (λ path cause state at stands. absurd (cc at))
 
-pub works_powered : (plan : PlanData) (h : Hosting) {before : Option (List ℕ)} → Opens plan before h → Works (unpowered plan before) h
-works_powered plan h {before} opens =
-    let R : Hosting → Type 0 = λ k. Traced (opening plan) before k.world k.trace in
-    record {
-      running = refl;
-      most = 0;
-      went = subst (λ k. HostWent 0 (unpowered plan before) k) (sym opens.is) (powered_went plan (subst R opens.is opens.traced));
-      stays = λ on. record { sound = λ s. opens.sound; caused = λ s fair causes. opened_causes plan h opens };
-    }
+-- and has the plan's limit
+pub limit_opened : (plan : PlanData) (h : Hosting) {before : Option (List ℕ)} → Opens plan before h → h.world.limit ≡ plan.limit
+limit_opened plan h opens = ap (λ (k : Hosting). k.world.limit) opens.is
 
-pub so_far_opened : (plan : PlanData) (h : Hosting) {before : Option (List ℕ)} → Opens plan before h → SoFar plan h
-so_far_opened plan h opens = record { onward = traced_onward opens.traced; sound = opens.sound; causes = λ fair. opened_causes plan h opens }
+pub knows_opened : (plan : PlanData) (h : Hosting) {before : Option (List ℕ)} → Opens plan before h → Knows h
+knows_opened plan h opens = record { sound = opens.sound; causes = λ fair. opened_causes plan h opens }

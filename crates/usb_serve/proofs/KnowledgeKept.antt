@@ -1,15 +1,28 @@
--- What a host knows stays so over the parts of a run.
-use Rattle.std.proofs.Common.{◌≡◌, ◌∙◌, sym, ap, false, Option, None, Ok}
+-- What a host knows stays so over the parts of a run, and a host that has settled lists what is plugged.
+use Rattle.std.proofs.Common.{◌≡◌, ◌∙◌, sym, ap, subst, Bool, false, ℕ, List, Option, None, Some, Result, Ok}
 use Rattle.std.specs.Prelude.{is_some}
+use Rattle.usb_device.specs.Tree.{Ports}
 use Rattle.usb_world.specs.declared.event.Due.{Due}
-use Rattle.usb_world.specs.World.{World}
+use Rattle.usb_world.specs.declared.event.Due.TheVariants.{Changed, Show, Send, Receive, Clear}
+use Rattle.usb_world.specs.Paths.{pend}
+use Rattle.usb_world.specs.Steps.{EventEnds}
+use Rattle.usb_world.specs.Wire.{AtMostTwoRunning}
+use Rattle.usb_world.specs.World.{World, roots_of}
 use Rattle.usb_address.proofs.Interface.{event_keeps}
 use Rattle.usb_enum.proofs.Interface.{course_later, few_before}
+use Rattle.usb_table.specs.Entries.{Entries}
+use Rattle.usb_table.specs.Listing.{IsListedPort}
+use Rattle.usb_host.specs.Agreement.{Agrees}
+use Rattle.usb_host.specs.declared.fault.HostFault.{HostFault}
 use Rattle.usb_host.specs.Hosting.{Hosting}
-use Rattle.usb_host.specs.Soundness.{IsSound, IsFairTo, StaysSound}
-use Rattle.usb_host.proofs.Interface.{sound_event}
-use Rattle.usb_serve.specs.RunSegments.{Ran, idle, worked, changed, Comes}
-use Rattle.usb_serve.proofs.RunCourses.{Onward}
+use Rattle.usb_host.specs.Soundness.{IsAtRest, IsFairTo, IsSound, StaysSound}
+use Rattle.usb_host.proofs.Interface.{accounted, settled_matches, sound_event, sound_none}
+use Rattle.usb_serve.specs.declared.runs.Item.{Item}
+use Rattle.usb_serve.specs.RunSegments.{Arrives, Comes, Knows, LeavesSettled, Ran, idle, changed, Reaches, Rounds, none, more, Settled, Settles}
+use Rattle.usb_serve.specs.Transcript.{AppendsText, Makes, asked, last}
+use Rattle.usb_serve.specs.Transfers.{IsItemOf, TransferTells}
+use Rattle.usb_serve.proofs.RunCourses.{Onward, called_onward, comes_onward, settles_onward}
+use Rattle.usb_serve.proofs.RunParts.{item_called, round_called, round_running, rounds_called}
 
 -- Damage that is fair up to a last world is fair up to one before it, and from one behind the first
 
@@ -19,6 +32,10 @@ fair_before w m v on fair = let work = on fair.still in record { still = work.so
 pub fair_after : (w m v : World) → Onward w m → m.fault ≡ None → IsFairTo w v → IsFairTo m v
 fair_after w m v on still fair = record { still = fair.still; few = rw (course_later (on still).course).damages fair.few; kept = fair.kept }
 
+-- and from the first
+fair_from : (w v : World) → Onward w v → IsFairTo v v → IsFairTo w v
+fair_from w v on fair = record { still = fair.still; few = subst AtMostTwoRunning (course_later (on fair.still).course).damages fair.few; kept = fair.kept }
+
 pub stays_then : (a b c : Hosting) → Onward a.world b.world → Onward b.world c.world → StaysSound a b → StaysSound b c → StaysSound a c
 stays_then a b c m n x y = record {
   sound = λ s. y.sound (x.sound s);
@@ -27,26 +44,121 @@ stays_then a b c m n x y = record {
       y.caused (x.sound s) (fair_after a.world b.world c.world m early.still fair) (x.caused s early causes);
 }
 
+-- where a part keeps what is known
+pub knows_then : (h k : Hosting) → Onward h.world k.world → StaysSound h k → Knows h → Knows k
+knows_then h k on stays s = record {
+  sound = stays.sound s.sound;
+  causes = λ fair.
+      let all = fair_from h.world k.world on fair in
+      let early = fair_before h.world h.world k.world on all in
+      stays.caused s.sound all (s.causes early);
+}
+
+-- Rounds
+
+rounds_stays : {a b : Hosting} → Rounds a b → StaysSound a b
+rounds_stays {a} none = sound_none a
+rounds_stays {a} (more {h} {k} round before tells goes) = stays_then a h k (called_onward (rounds_called before)) (called_onward (round_called tells)) (rounds_stays before) tells.keeps.sound.keeps.sound
+
+settles_stays : {a b : Hosting} → Settles a b → StaysSound a b
+settles_stays {a} {b} settles = stays_then a settles.before b (called_onward (rounds_called settles.rounds)) (called_onward (round_called settles.last)) (rounds_stays settles.rounds) settles.last.keeps.sound.keeps.sound
+
+pub settles_knows : {a b : Hosting} → Settles a b → Knows a → Knows b
+settles_knows {a} {b} settles s = knows_then a b (settles_onward settles) (settles_stays settles) s
+
+settles_rest : {a b : Hosting} → Settles a b → IsSound a → b.world.fault ≡ None → IsAtRest b.world b.entries
+settles_rest settles s still = settles.last.keeps.sound.rest ((rounds_stays settles.rounds).sound s) (ap Ok settles.ends.quiet) settles.ends.none still
+
+-- a host that knows its ports and has nothing left to do has settled
+settled_at : (h : Hosting) → h.stopped ≡ false → Agrees h.entries h.addresses → Knows h → (h.world.fault ≡ None → IsAtRest h.world h.entries) → Settled h
+settled_at h running agrees knows rest = record {
+  running = running;
+  knows = knows;
+  rest = rest;
+  matches = λ fair.
+      settled_matches h.world h.entries h.addresses (accounted h agrees knows.sound.rooted) (knows.sound.known fair.still) (knows.sound.truthful fair.still) (knows.causes fair) (rest fair.still);
+}
+
+pub settles_leaves : (a b : Hosting) → Settles a b → LeavesSettled a b
+settles_leaves a b settles = record {
+  rest = settles_rest settles;
+  settled = λ agrees s. settled_at b (round_running settles.last) agrees (settles_knows settles s) (settles_rest settles s.sound);
+}
+
 -- An event that came, and none that was left
 
-pub came_stays : (h k : Hosting) (due : Option Due) → Comes h (Ok due) k → StaysSound h k
+came_stays : (h k : Hosting) (due : Option Due) → Comes h (Ok due) k → StaysSound h k
 came_stays h k due comes =
     let takes = comes.takes in
     sound_event h k comes.agrees (ap (λ (x : Hosting). x.entries) comes.rests) (ap (λ (x : Hosting). x.pipes) comes.rests) takes.exact
     (event_keeps h.world (Ok due) k.world takes.took takes.exact takes.kept takes.cut (λ reached none. cc (ap is_some none, takes.limit reached)))
 
+came_knows : (h k : Hosting) (due : Option Due) → Comes h (Ok due) k → Knows h → Knows k
+came_knows h k due comes s = knows_then h k (comes_onward comes) (came_stays h k due comes) s
+
 pub came_running : (h k : Hosting) (due : Option Due) → Comes h (Ok due) k → k.stopped ≡ h.stopped
 came_running h k due comes = ap (λ (x : Hosting). x.stopped) comes.rests
 
--- Calls and events
+pub came_still : (due : Option Due) (w v : World) → EventEnds w (Ok due) v → v.fault ≡ None
+came_still None w v ends = ap (λ (x : World). x.fault) ends.same ∙ ends.sound
+came_still (Some due) w v ends = ends.still
 
--- a host that goes on in the end went on all along
-pub ran_running : {a b : Hosting} → Ran a b → b.stopped ≡ false → a.stopped ≡ false
-ran_running idle on = on
-ran_running (worked before works) on = ran_running before works.running
-ran_running (changed {h} {k} before comes) on = ran_running before (sym (came_running h k _ comes) ∙ on)
+rest_moved : (w v : World) (entries : Entries) → v.roots ≡ w.roots → IsAtRest w entries → IsAtRest v entries
+rest_moved w v entries same rest = record {
+  none_pending = λ path port. subst (λ (k : Ports). pend k path ≡ false) (sym same)
+      (rest.none_pending path (subst (λ (k : Ports). IsListedPort (roots_of (record w { roots = k })) entries path) same port));
+  none_waiting = rest.none_waiting;
+}
 
-pub ran_sound : {a b : Hosting} → Ran a b → b.stopped ≡ false → IsSound a → IsSound b
-ran_sound idle on s = s
-ran_sound (worked before works) on s = (works.stays on).sound (ran_sound before works.running s)
-ran_sound (changed {h} {k} before comes) on s = (came_stays h k _ comes).sound (ran_sound before (sym (came_running h k _ comes) ∙ on) s)
+-- it has settled still where nothing that is plugged changed
+pub came_settled : (h k : Hosting) (due : Option Due) → Comes h (Ok due) k → k.world.roots ≡ h.world.roots → Settled h → Settled k
+came_settled h k due comes calm settled =
+    let entries : k.entries ≡ h.entries = ap (λ (x : Hosting). x.entries) comes.rests in
+    let addresses : k.addresses ≡ h.addresses = ap (λ (x : Hosting). x.addresses) comes.rests in
+    settled_at k (came_running h k due comes ∙ settled.running)
+    (subst (λ x. Agrees x k.addresses) (sym entries) (subst (λ x. Agrees h.entries x) (sym addresses) comes.agrees))
+    (came_knows h k due comes settled.knows)
+    (λ still. subst (IsAtRest k.world) (sym entries) (rest_moved h.world k.world h.entries calm (settled.rest (comes_onward comes still).sound)))
+
+-- Up to an event
+
+pub arrives_knows : {a b : Hosting} {due : Option Due} → Arrives a (Ok due) b → Knows b
+arrives_knows {a} {b} {due} arrives = came_knows arrives.mid b due arrives.comes arrives.settled.knows
+
+pub ran_knows : {a b : Hosting} → Ran a b → Knows a → Knows b
+ran_knows idle s = s
+ran_knows (changed before arrives) s = arrives_knows arrives
+
+pub reaches_knows : {a b : Hosting} {due : Option Due} → Reaches a (Ok due) b → Knows b
+reaches_knows reaches = arrives_knows reaches.arrives
+
+pub reaches_running : {a b : Hosting} {due : Option Due} → Reaches a (Ok due) b → b.stopped ≡ false
+reaches_running {b = b} {due = due} reaches = came_running reaches.arrives.mid b due reaches.arrives.comes ∙ reaches.arrives.settled.running
+
+pub reaches_still : {a b : Hosting} {due : Option Due} → Reaches a (Ok due) b → b.world.fault ≡ None
+reaches_still {b = b} {due = due} reaches = came_still due reaches.arrives.mid.world b.world reaches.arrives.comes.takes.took.ends
+
+-- An item
+
+transfer_stays : {A : Type 0} {most : ℕ} {Did : Hosting → Result A HostFault → Hosting → Type 0} {a b : Hosting} {result : Result A HostFault} → TransferTells most Did a result b → StaysSound a b
+transfer_stays tells = tells.keeps.sound
+
+item_stays : (due : Due) (item : Option Item) (a b : Hosting) → IsItemOf due item a b → StaysSound a b
+item_stays Changed item a b is = subst (StaysSound a) (sym is.1) (sound_none a)
+item_stays Show item a b is = subst (StaysSound a) (sym is.1) (sound_none a)
+item_stays (Send path bytes) item a b is = transfer_stays is.2.call
+item_stays (Receive path packets) item a b is = transfer_stays is.2.call
+item_stays (Clear path) item a b is = transfer_stays is.2.call
+
+pub makes_knows : {a b : Hosting} {item : Item} {over : Bool} → Makes a item over b → Knows b
+makes_knows (asked {item} {mid} {new} due reaches is right) = knows_then mid new (called_onward (item_called due (Some item) mid new is)) (item_stays due (Some item) mid new is) (reaches_knows reaches)
+makes_knows (last reaches settled) = settled.knows
+
+pub puts_knows : {h k : Hosting} {text : List ℕ} → AppendsText text h k → Knows h → Knows k
+puts_knows {h} {k} puts s = subst Knows (sym puts.rest) so
+  where
+    so : Knows (record h { trace = k.trace })
+    so = record {
+      sound = record { owned = s.sound.owned; rooted = s.sound.rooted; order = s.sound.order; known = s.sound.known; truthful = s.sound.truthful; level = s.sound.level };
+      causes = s.causes;
+    }

@@ -1,5 +1,6 @@
 pub mod ToldTransfers
 pub mod Ends
+pub mod Causes
 pub mod RunParts
 pub mod KnowledgeKept
 pub mod LineEnds
@@ -10,3 +11,5 @@ pub mod ReportedItems
 pub mod ServedItems
 pub mod RoundEnds
 pub mod Transcripts
+pub mod Refused
+pub mod AskedItems

@@ -10,8 +10,11 @@ use Rattle.usb_world.proofs.Interface.{course_joined}
 use Rattle.usb_bus.specs.Traces.{Attempts, TakesEvent, Traced, still, attempted, called}
 use Rattle.usb_host.specs.Hosting.{Hosting}
 use Rattle.usb_serve.specs.declared.runs.Item.{Item}
-use Rattle.usb_serve.specs.RunSegments.{Ran, idle, worked, changed, Reaches, Works, Comes}
-use Rattle.usb_serve.specs.Transcript.{Makes, asked, last, Stops, between, at_event, AppendsText, CutsText}
+use Rattle.usb_serve.specs.declared.runs.RunFault.{RunFault}
+use Rattle.usb_serve.specs.declared.serving.Mode.{Mode}
+use Rattle.usb_serve.specs.RunSegments.{Arrives, Comes, Ran, idle, changed, Reaches, Settles}
+use Rattle.usb_serve.specs.Transcript.{Makes, asked, last, Stops, in_round, at_event, in_item, in_last, AppendsText, CutsText, Transcript, begun, told}
+use Rattle.usb_serve.proofs.RunParts.{Called, item_called, settles_called, stop_called, unsettled_called}
 
 -- the bus was at work, and these were its steps
 pub record AtWork (old new : World) : Type 0 where
@@ -59,30 +62,43 @@ takes_onward w v (Err fault) takes h = absurd (cc (h, takes.took.ends.told))
 abbrev pub GoesOn : Hosting → Hosting → Type 0
 GoesOn old new = Onward old.world new.world
 
-pub works_onward : {a b : Hosting} → Works a b → GoesOn a b
-works_onward works = traced_onward works.went.traced
+pub called_onward : {a b : Hosting} → Called a b → GoesOn a b
+called_onward calls = traced_onward calls.went.traced
 
 pub comes_onward : {a b : Hosting} {result : Result (Option Due) BusFault} → Comes a result b → GoesOn a b
 comes_onward {a} {b} {result} comes = takes_onward a.world b.world result comes.takes
 
+pub settles_onward : {a b : Hosting} → Settles a b → GoesOn a b
+settles_onward settles = called_onward (settles_called settles)
+
+pub arrives_onward : {a b : Hosting} {result : Result (Option Due) BusFault} → Arrives a result b → GoesOn a b
+arrives_onward {a} {b} arrives = onward_then a.world arrives.mid.world b.world (settles_onward arrives.settles) (comes_onward arrives.comes)
+
 pub ran_onward : {a b : Hosting} → Ran a b → GoesOn a b
 ran_onward {a} idle = onward_none a.world
-ran_onward {a} (worked {h} {k} before works) = onward_then a.world h.world k.world (ran_onward before) (works_onward works)
-ran_onward {a} (changed {h} {k} before comes) = onward_then a.world h.world k.world (ran_onward before) (comes_onward comes)
+ran_onward {a} (changed {h} {k} before arrives) = onward_then a.world h.world k.world (ran_onward before) (arrives_onward arrives)
 
 pub reaches_onward : {a b : Hosting} {result : Result (Option Due) BusFault} → Reaches a result b → GoesOn a b
-reaches_onward {a} {b} reaches = onward_then a.world reaches.mid.world b.world (ran_onward reaches.ran) (comes_onward reaches.comes)
+reaches_onward {a} {b} reaches = onward_then a.world reaches.behind.world b.world (ran_onward reaches.ran) (arrives_onward reaches.arrives)
 
 pub makes_onward : {a b : Hosting} {item : Item} {over : Bool} → Makes a item over b → GoesOn a b
-makes_onward {a} (asked {mid = mid} {new = new} due reaches works is) = onward_then a.world mid.world new.world (reaches_onward reaches) (works_onward works)
-makes_onward (last reaches) = reaches_onward reaches
+makes_onward {a} (asked {item} {mid} {new} due reaches is right) = onward_then a.world mid.world new.world (reaches_onward reaches) (called_onward (item_called due (Some item) mid new is))
+makes_onward (last reaches settled) = reaches_onward reaches
 
-pub stops_onward : {a b : Hosting} → Stops a b → GoesOn a b
-stops_onward (between ran) = ran_onward ran
-stops_onward {a} (at_event {mid} {new} result reaches works) = onward_then a.world mid.world new.world (reaches_onward reaches) (works_onward works)
+pub stops_onward : {a b : Hosting} {fault : RunFault} → Stops a fault b → GoesOn a b
+stops_onward {a} (in_round {behind} {new} ran unsettled) = onward_then a.world behind.world new.world (ran_onward ran) (called_onward (unsettled_called unsettled))
+stops_onward (at_event fault reaches) = reaches_onward reaches
+stops_onward {a} (in_item {mid} {new} {fault} due reaches stops) = onward_then a.world mid.world new.world (reaches_onward reaches) (called_onward (stop_called due fault mid new stops))
+stops_onward (in_last reaches) = reaches_onward reaches
 
 pub puts_onward : {h k : Hosting} {text : List ℕ} → AppendsText text h k → GoesOn h k
 puts_onward {h} puts = subst (Onward h.world) (sym (ap (λ (x : Hosting). x.world) puts.rest)) (onward_none h.world)
+
+-- a run up to its last world
+pub transcript_onward : {mode : Mode} {was : Bool} {old : Hosting} {items : List Item} {over : Bool} {new : Hosting} → Transcript mode was old items over new → GoesOn old new
+transcript_onward {old = old} begun = onward_none old.world
+transcript_onward {old = old} (told {h = h} {k = k} {new = new} t makes puts) =
+    onward_then old.world h.world new.world (transcript_onward t) (onward_then h.world k.world new.world (makes_onward makes) (puts_onward puts))
 
 -- where a line was not written whole, the bus told its fault
 pub cuts_onward : {h k : Hosting} {text : List ℕ} → CutsText text h k → GoesOn h k

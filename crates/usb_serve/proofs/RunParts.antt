@@ -1,5 +1,6 @@
 -- How the parts of a run join, and what they leave of the counts.
-use Rattle.std.proofs.Common.{◌≡◌, refl, subst, arith, ℕ, ◌+◌, ◌≤◌, List, Bool, false, Option, None, Some, Result, Ok, Err}
+use Rattle.std.proofs.Common.{◌≡◌, refl, sym, ap, subst, arith, ℕ, ◌+◌, ◌≤◌, ◌<◌, List, Bool, true, false, Option, None, Some, Result, Ok, Err}
+use Rattle.std.specs.Prelude.{IsSome, IsTrue}
 use Rattle.usb_world.specs.declared.event.Due.{Due}
 use Rattle.usb_world.specs.declared.event.Due.TheVariants.{Changed, Show, Send, Receive, Clear}
 use Rattle.usb_world.specs.declared.types.BusFault.{BusFault}
@@ -8,117 +9,161 @@ use Rattle.usb_world.proofs.Interface.{spends_none, spends_then}
 use Rattle.usb_bus.specs.Traces.{TakesEvent}
 use Rattle.usb_bus.proofs.Interface.{went_none, went_then}
 use Rattle.usb_host.specs.Agreement.{Agrees}
-use Rattle.usb_host.specs.Hosting.{Hosting}
-use Rattle.usb_host.specs.Progress.{HostWent, Rests}
-use Rattle.usb_host.specs.Soundness.{RoundKeeps, StaysSound}
-use Rattle.usb_host.specs.ToldFaults.{StopsAsRound}
+use Rattle.usb_host.specs.Bounds.{round_bound}
 use Rattle.usb_host.specs.declared.fault.HostFault.{HostFault}
 use Rattle.usb_host.specs.declared.host.Round.{Round}
-use Rattle.usb_host.proofs.Interface.{sound_none}
+use Rattle.usb_host.specs.Hosting.{Hosting}
+use Rattle.usb_host.specs.Progress.{HostWent, Rests}
 use Rattle.usb_serve.specs.declared.runs.Item.{Item}
 use Rattle.usb_serve.specs.declared.runs.RunFault.{RunFault}
-use Rattle.usb_serve.specs.RunSegments.{Ran, idle, worked, changed, Reaches, Settles, Works}
-use Rattle.usb_serve.specs.Transcript.{Makes, asked, last, NextAsked, Stops, between, at_event}
-use Rattle.usb_serve.specs.Transfers.{IsItemOf}
-use Rattle.usb_serve.proofs.RunCourses.{works_onward}
-use Rattle.usb_serve.proofs.KnowledgeKept.{ran_running, ran_sound, stays_then}
+use Rattle.usb_serve.specs.Run.{Spent}
+use Rattle.usb_serve.specs.RunSegments.{Arrives, Ran, idle, changed, Reaches, RoundTells, Rounds, none, more, Settled, Settles, Settling, Unsettled}
+use Rattle.usb_serve.specs.Transcript.{Makes, asked, last, Stops, in_round, at_event, in_item, in_last}
+use Rattle.usb_serve.specs.Transfers.{Does, IsItemOf, StopsAt, TransferTells}
 
-pub works_none : (h : Hosting) → h.stopped ≡ false → Works h h
-works_none h running = record { running = running; most = 0; went = went_none; stays = λ on. sound_none h }
+-- Calls of the host
 
-pub works_then : (a b c : Hosting) → Works a b → Works b c → Works a c
-works_then a b c v w = record {
-  running = v.running;
-  most = v.most + w.most;
-  went = went_then v.most w.most v.went w.went;
-  stays = λ on. stays_then a b c (works_onward v) (works_onward w) (v.stays w.running) (w.stays on);
-}
+-- some attempts, and their text
+pub record Called (old new : Hosting) : Type 0 where
+  pub most : ℕ
+  pub went : HostWent most old new
 
-pub works_from : (n : ℕ) (a b : Hosting) → a.stopped ≡ false → HostWent n a b → (b.stopped ≡ false → StaysSound a b) → Works a b
-works_from n a b running went stays = record { running = running; most = n; went = went; stays = stays }
+called_none : (h : Hosting) → Called h h
+called_none h = record { most = 0; went = went_none }
 
--- a round that failed stops the host
-pub round_stays : (old new : Hosting) (result : Result Round HostFault) → StopsAsRound old result new → RoundKeeps old result new → new.stopped ≡ false → StaysSound old new
-round_stays old new (Ok round) stops keeps on = keeps.sound.keeps
-round_stays old new (Err fault) stops keeps on = absurd (cc (on, stops.stops.1 refl))
+called_then : {a b c : Hosting} → Called a b → Called b c → Called a c
+called_then v w = record { most = v.most + w.most; went = went_then v.most w.most v.went w.went }
 
--- calls, and then those up to where the host has settled
-pub settles_after : (a b c : Hosting) → Works a b → b.stopped ≡ false → Settles b c → Settles a c
-settles_after a b c works on settles = record { running = settles.running; rest = λ s still. settles.rest ((works.stays on).sound s) still }
+called_same : (old new : Hosting) → new ≡ old → Called old new
+called_same old new same = subst (Called old) (sym same) (called_none old)
+
+pub round_called : {a b : Hosting} {result : Result Round HostFault} → RoundTells a result b → Called a b
+round_called tells = record { most = round_bound; went = tells.went }
+
+not_true : (b : Bool) → (IsTrue b → ⊥) → b ≡ false
+not_true true f = absurd (f refl)
+not_true false f = refl
+
+-- a host goes on after a round that was done
+pub round_running : {a b : Hosting} {round : Round} → RoundTells a (Ok round) b → b.stopped ≡ false
+round_running {b = b} tells = not_true b.stopped (λ stopped. cc (tells.stopped.stops.0 stopped))
+
+pub rounds_called : {a b : Hosting} → Rounds a b → Called a b
+rounds_called {a} none = called_none a
+rounds_called (more round before tells goes) = called_then (rounds_called before) (round_called tells)
+
+pub settles_called : {a b : Hosting} → Settles a b → Called a b
+settles_called settles = called_then (rounds_called settles.rounds) (round_called settles.last)
+
+pub unsettled_called : {a b : Hosting} {fault : RunFault} → Unsettled a fault b → Called a b
+unsettled_called unsettled = called_then (rounds_called unsettled.rounds) (round_called unsettled.last.tells)
+
+transfer_called : {A : Type 0} {most : ℕ} {Did : Hosting → Result A HostFault → Hosting → Type 0} {a b : Hosting} {result : Result A HostFault} → TransferTells most Did a result b → Called a b
+transfer_called {A} {most} tells = record { most = most; went = tells.went }
+
+pub item_called : (due : Due) (item : Option Item) (a b : Hosting) → IsItemOf due item a b → Called a b
+item_called Changed item a b is = called_same a b is.1
+item_called Show item a b is = called_same a b is.1
+item_called (Send path bytes) item a b is = transfer_called is.2.call
+item_called (Receive path packets) item a b is = transfer_called is.2.call
+item_called (Clear path) item a b is = transfer_called is.2.call
+
+pub stop_called : (due : Due) (fault : RunFault) (a b : Hosting) → StopsAt due fault a b → Called a b
+stop_called Changed fault a b stops = absurd stops
+stop_called Show fault a b stops = called_same a b stops.1
+stop_called (Send path bytes) fault a b stops = transfer_called stops.call
+stop_called (Receive path packets) fault a b stops = transfer_called stops.call
+stop_called (Clear path) fault a b stops = transfer_called stops.call
+
+-- Joins
 
 pub ran_then : {a b c : Hosting} → Ran a b → Ran b c → Ran a c
 ran_then x idle = x
-ran_then x (worked before works) = worked (ran_then x before) works
-ran_then x (changed {h} {k} before comes) = changed {h = h} {k = k} (ran_then x before) comes
+ran_then x (changed {h} {k} before arrives) = changed {h = h} {k = k} (ran_then x before) arrives
+
+pub reaches_after : {a b c : Hosting} {result : Result (Option Due) BusFault} → Ran a b → Arrives b result c → Reaches a result c
+reaches_after {b = b} before arrives = record { behind = b; ran = before; arrives = arrives }
+
+pub reaches_later : {a b c : Hosting} {result : Result (Option Due) BusFault} → Ran a b → Reaches b result c → Reaches a result c
+reaches_later before reaches = record { behind = reaches.behind; ran = ran_then before reaches.ran; arrives = reaches.arrives }
+
+pub stops_after : {a b c : Hosting} {fault : RunFault} → Ran a b → Stops b fault c → Stops a fault c
+stops_after before (in_round ran unsettled) = in_round (ran_then before ran) unsettled
+stops_after before (at_event fault reaches) = at_event fault (reaches_later before reaches)
+stops_after before (in_item due reaches stops) = in_item due (reaches_later before reaches) stops
+stops_after before (in_last reaches) = in_last (reaches_later before reaches)
 
 -- an event that makes no item asked for nothing
-pub due_changed : (due : Due) (h k : Hosting) → IsItemOf due None h k → due ≡ Changed
-due_changed Changed h k is = refl
+due_changed : (due : Due) (h k : Hosting) → IsItemOf due None h k → (due ≡ Changed) × (k ≡ h)
+due_changed Changed h k is = (refl, is.1)
 due_changed Show h k is = cc is.0
 due_changed (Send path bytes) h k is = cc is.1
 due_changed (Receive path packets) h k is = cc is.1
 due_changed (Clear path) h k is = cc is.1
 
 -- one event more that made no item
-pub ran_changed : {a b c : Hosting} (due : Due) (d : Hosting) → Ran a b → Reaches b (Ok (Some due)) c → Works c d → IsItemOf due None c d → Ran a d
-ran_changed {a} {b} {c} due d before reaches works is =
-    let plain : Reaches b (Ok (Some Changed)) c = subst (λ x. Reaches b (Ok (Some x)) c) (due_changed due c d is) reaches in
-    worked (changed {h = plain.mid} {k = c} (ran_then before plain.ran) plain.comes) works
+pub ran_changed : {a b c : Hosting} (due : Due) (d : Hosting) → Ran a b → Arrives b (Ok (Some due)) c → IsItemOf due None c d → Ran a d
+ran_changed {a} {b} {c} due d before arrives is =
+    let plain = due_changed due c d is in
+    subst (Ran a) (sym plain.1) (changed {h = b} {k = c} before (subst (λ x. Arrives b (Ok (Some x)) c) plain.0 arrives))
 
--- an event behind calls of the host, whose bus stands for its world
-pub reaches_taken : (old mid new : Hosting) (result : Result (Option Due) BusFault) {w : World} {t : Option (List ℕ)} → Works old mid → Settles old mid → Agrees mid.entries mid.addresses → Rests mid new
-    → w ≡ mid.world → t ≡ mid.trace → TakesEvent w t result new.world new.trace → Reaches old result new
-reaches_taken old mid new result {w} {t} works settles agrees rests same silent takes =
+-- an event behind settling, of a bus that stands for the host's world
+pub arrives_taken : (old mid new : Hosting) (result : Result (Option Due) BusFault) {w : World} {t : Option (List ℕ)} → Settles old mid → Settled mid → Agrees mid.entries mid.addresses → Rests mid new
+    → w ≡ mid.world → t ≡ mid.trace → TakesEvent w t result new.world new.trace → Arrives old result new
+arrives_taken old mid new result {w} {t} settles settled agrees rests same silent takes =
     let P : World → Type 0 = λ x. TakesEvent x mid.trace result new.world new.trace in
     let Q : Option (List ℕ) → Type 0 = λ x. TakesEvent w x result new.world new.trace in
-    record { mid = mid; ran = worked idle works; settles = settles; comes = record { takes = subst P same (subst Q silent takes); rests = rests; agrees = agrees } }
-
--- what comes after calls of the host and events that asked nothing
-pub reaches_after : {a b c : Hosting} {result : Result (Option Due) BusFault} → Ran a b → Reaches b result c → Reaches a result c
-reaches_after before reaches =
-    let running = ran_running reaches.ran reaches.settles.running in
-    record {
-      mid = reaches.mid;
-      ran = ran_then before reaches.ran;
-      settles = record { running = reaches.settles.running; rest = λ s still. reaches.settles.rest (ran_sound before running s) still };
-      comes = reaches.comes;
-    }
-
-pub stops_after : {a b c : Hosting} → Ran a b → Stops b c → Stops a c
-stops_after before (between ran) = between (ran_then before ran)
-stops_after before (at_event result reaches works) = at_event result (reaches_after before reaches) works
+    record { mid = mid; settles = settles; settled = settled; comes = record { takes = subst P same (subst Q silent takes); rests = rests; agrees = agrees } }
 
 -- Counts
 
-abbrev pub Spent : Hosting → Hosting → Type 0
-Spent old new = (n : ℕ) × Spends n old.world new.world
+pub spent_none : (h : Hosting) → Spent h h
+spent_none h = (0, spends_none h.world)
 
 pub spent_then : (a b c : Hosting) → Spent a b → Spent b c → Spent a c
 spent_then a b c (m, s) (n, t) = (m + n, spends_then m n a.world b.world c.world s t)
 
-pub works_spent : {a b : Hosting} → Works a b → Spent a b
-works_spent works = (works.most, works.went.spends)
+pub called_spent : {a b : Hosting} → Called a b → Spent a b
+called_spent calls = (calls.most, calls.went.spends)
 
-pub ran_spent : {a b : Hosting} → Ran a b → Spent a b
-ran_spent {a} idle = (0, spends_none a.world)
-ran_spent {a} (worked {h} {k} before works) = spent_then a h k (ran_spent before) (works_spent works)
-ran_spent {a} (changed {h} {k} before comes) = spent_then a h k (ran_spent before) (0, comes.takes.took.spends)
+pub does_spent : (due : Due) (a b : Hosting) (result : Result (Option Item) RunFault) → Does due a result b → Spent a b
+does_spent due a b (Ok item) is = called_spent (item_called due item a b is)
+does_spent due a b (Err fault) stops = called_spent (stop_called due fault a b stops)
 
-pub reaches_spent : {a b : Hosting} {result : Result (Option Due) BusFault} → Reaches a result b → Spent a b
-reaches_spent {a} {b} reaches = spent_then a reaches.mid b (ran_spent reaches.ran) (0, reaches.comes.takes.took.spends)
+pub settling_spent : (a b : Hosting) (result : Result (Unit {0}) RunFault) → Settling a result b → Spent a b
+settling_spent a b (Ok done) settles = called_spent (settles_called settles)
+settling_spent a b (Err fault) unsettled = called_spent (unsettled_called unsettled)
+
+-- and an event behind it
+pub taken_spent : (a b : Hosting) (v : World) (result : Result (Option Due) BusFault) {w : World} {t s : Option (List ℕ)} → Spent a b → w ≡ b.world → TakesEvent w t result v s → (n : ℕ) × Spends n a.world v
+taken_spent a b v result (m, spent) same takes = (m + 0, spends_then m 0 a.world b.world v spent (subst (λ w. Spends 0 w v) same takes.took.spends))
+
+pub taken_fewer : (a b : Hosting) (v : World) (due : Option Due) {w : World} {t s : Option (List ℕ)} → Spent a b → w ≡ b.world → TakesEvent w t (Ok due) v s → IsSome due → to_come v < to_come a.world
+taken_fewer a b v None spent same takes some = absurd (cc some)
+taken_fewer a b v (Some due) (n, s) same takes some =
+    let left = ap to_come same in
+    let came = ap (λ (w : World). w.taken) same in
+    omega (arith, left, came, s.events, s.onward, takes.took.spends.events, takes.took.ends.one)
+
+arrives_spent : {a b : Hosting} {result : Result (Option Due) BusFault} → Arrives a result b → Spent a b
+arrives_spent {a} {b} arrives = spent_then a arrives.mid b (called_spent (settles_called arrives.settles)) (0, arrives.comes.takes.took.spends)
+
+ran_spent : {a b : Hosting} → Ran a b → Spent a b
+ran_spent {a} idle = spent_none a
+ran_spent {a} (changed {h} {k} before arrives) = spent_then a h k (ran_spent before) (arrives_spent arrives)
+
+reaches_spent : {a b : Hosting} {result : Result (Option Due) BusFault} → Reaches a result b → Spent a b
+reaches_spent {a} {b} reaches = spent_then a reaches.behind b (ran_spent reaches.ran) (arrives_spent reaches.arrives)
 
 pub makes_spent : {a b : Hosting} {item : Item} {over : Bool} → Makes a item over b → Spent a b
-makes_spent {a} (asked {mid = mid} {new = new} due reaches works is) = spent_then a mid new (reaches_spent reaches) (works_spent works)
-makes_spent (last reaches) = reaches_spent reaches
+makes_spent {a} (asked {item} {mid} {new} due reaches is right) = spent_then a mid new (reaches_spent reaches) (called_spent (item_called due (Some item) mid new is))
+makes_spent (last reaches settled) = reaches_spent reaches
 
-pub stops_spent : {a b : Hosting} → Stops a b → Spent a b
-stops_spent (between ran) = ran_spent ran
-stops_spent {a} (at_event {mid} {new} result reaches works) = spent_then a mid new (reaches_spent reaches) (works_spent works)
-
-pub asked_spent : (a b : Hosting) (result : Result (Option Item) RunFault) → NextAsked a result b → Spent a b
-asked_spent a b (Ok None) reaches = reaches_spent reaches
-asked_spent a b (Ok (Some item)) makes = makes_spent makes
-asked_spent a b (Err fault) stops = stops_spent stops
+pub stops_spent : {a b : Hosting} {fault : RunFault} → Stops a fault b → Spent a b
+stops_spent {a} (in_round {behind} {new} ran unsettled) = spent_then a behind new (ran_spent ran) (called_spent (unsettled_called unsettled))
+stops_spent (at_event fault reaches) = reaches_spent reaches
+stops_spent {a} (in_item {mid} {new} {fault} due reaches stops) = spent_then a mid new (reaches_spent reaches) (called_spent (stop_called due fault mid new stops))
+stops_spent (in_last reaches) = reaches_spent reaches
 
 -- a run that began within its limit ends within it
 pub within_limit : (a b : Hosting) → Spent a b → a.world.attempts ≤ a.world.limit → b.world.attempts ≤ a.world.limit

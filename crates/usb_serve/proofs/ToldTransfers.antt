@@ -1,7 +1,7 @@
 -- What a run tells of a transfer is what the device at its path did.
 use Rattle.std.proofs.Common.{◌≡◌, ◌≢◌, ◌∙◌, refl, sym, ap, subst, Bool, false, ℕ, List, None, Result, Ok, Err}
 use Rattle.std.specs.Global.{Vec}
-use Rattle.std.specs.Prelude.{is_ok, IfOk}
+use Rattle.std.specs.Prelude.{is_ok}
 use Rattle.usb_world.specs.declared.types.BusFault.{BusFault}
 use Rattle.usb_world.specs.World.{World}
 use Rattle.usb_pipe.specs.declared.fault.PipeFault.TheVariants as pipe_fault
@@ -15,10 +15,10 @@ use Rattle.usb_host.specs.Hosting.{Hosting}
 use Rattle.usb_host.specs.Ownership.{claims}
 use Rattle.usb_host.specs.Soundness.{IsSound}
 use Rattle.usb_host.specs.ToldFaults.{host_told}
-use Rattle.usb_host.specs.Transfers.{SentAt, ReceivedAt, ClearedAt, HandsOn, table_in}
+use Rattle.usb_host.specs.Transfers.{HandsOn, table_in}
 use Rattle.usb_serve.specs.declared.runs.RunFault.{RunFault}
 use Rattle.usb_serve.specs.declared.transfer.TransferFault.{TransferFault}
-use Rattle.usb_serve.specs.Transfers.{Transfers, transfer_ended, failed, sent_count}
+use Rattle.usb_serve.specs.Transfers.{ClearTells, ReceiveTells, SendTells, Transfers, transfer_ended, failed, sent_count}
 
 -- What is told of an answer of the table's
 
@@ -57,23 +57,23 @@ module _ (path : List ℕ) (old new : Hosting) (sound : IsSound old) (still : ol
       → transfer_ended (host_told x.answer) ≡ Ok told
   ended told x e = sym (ap transfer_ended x.told) ∙ e
 
-  pub told_sent : (bytes : List ℕ) (told : Result (Unit {0}) TransferFault) → Transfers (SentAt path bytes) old told new → Delivered path (is_ok told) bytes (table_in old) old.world (table_in new) new.world
+  pub told_sent : (bytes : List ℕ) (told : Result (Unit {0}) TransferFault) → Transfers (SendTells path bytes) old told new → Delivered path (is_ok told) bytes (table_in old) old.world (table_in new) new.world
   told_sent bytes told x =
-      let h = x.done running in
+      let h = x.call.did running in
       subst (λ (b : Bool). Delivered path b bytes (table_in old) old.world (table_in new) new.world) (done_told h.answer told (answer_told h.answer told (ended told h x.tells)))
       (sent_delivers path bytes (table_in old) (table_in new) old.world new.world h.answer (sound.owned.so still) (sound.level still path) (single h) h.through.fits h.moves)
 
-  pub told_received : (packets : ℕ) (told : Result (Vec ℕ) TransferFault) → Transfers (ReceivedAt path packets) old told new → Collected path (is_ok told) packets (bytes_in told) (table_in old) old.world (table_in new) new.world
+  pub told_received : (packets : ℕ) (told : Result (Vec ℕ) TransferFault) → Transfers (ReceiveTells path packets) old told new → Collected path (is_ok told) packets (bytes_in told) (table_in old) old.world (table_in new) new.world
   told_received packets told x =
-      let h = x.done running in
+      let h = x.call.did running in
       let e : transfer_ended (host_told h.answer) ≡ Ok told = ended told h x.tells in
       subst (λ (b : Bool). Collected path b packets (bytes_in told) (table_in old) old.world (table_in new) new.world) (done_told h.answer told (answer_told h.answer told e))
       (subst (λ (bytes : List ℕ). Collected path (is_ok h.answer) packets bytes (table_in old) old.world (table_in new) new.world) (bytes_told h.answer told (answer_told h.answer told e))
       (received_collects path packets (table_in old) (table_in new) old.world new.world h.answer (no_bus_fault h.answer told e) (sound.owned.so still) (sound.level still path) (single h) h.through.fits h.moves))
 
-  pub told_cleared : (told : Result (Unit {0}) TransferFault) → Transfers (ClearedAt path) old told new → Restarted path (is_ok told) (table_in old) old.world (table_in new) new.world
+  pub told_cleared : (told : Result (Unit {0}) TransferFault) → Transfers (ClearTells path) old told new → Restarted path (is_ok told) (table_in old) old.world (table_in new) new.world
   told_cleared told x =
-      let h = x.done running in
+      let h = x.call.did running in
       let e : transfer_ended (host_told h.answer) ≡ Ok told = ended told h x.tells in
       subst (λ (b : Bool). Restarted path b (table_in old) old.world (table_in new) new.world) (done_told h.answer told (answer_told h.answer told e))
       (cleared_restarts path (table_in old) old.world new.world (table_in new) h.answer (no_bus_fault h.answer told e) (sound.owned.so still) (sound.level still path) (single h) h.through.fits h.moves)
@@ -83,7 +83,3 @@ module _ (path : List ℕ) (old new : Hosting) (sound : IsSound old) (still : ol
 pub count_done : (n : ℕ) (sent : Result (Unit {0}) TransferFault) → is_ok sent ≡ is_ok (sent_count n sent)
 count_done n (Ok done) = refl
 count_done n (Err why) = refl
-
-pub count_told : (n : ℕ) (sent : Result (Unit {0}) TransferFault) → IfOk (sent_count n sent) (λ count. count ≡ n)
-count_told n (Ok done) = refl
-count_told n (Err why) = tt

@@ -7,25 +7,16 @@ use Rattle.usb_bus.specs.Watch.{AppendsFront}
 use Rattle.usb_bus.proofs.Interface.{front_after}
 use Rattle.usb_world.specs.World.{World}
 use Rattle.usb_world.specs.declared.types.BusFault.{BusFault}
-use Rattle.usb_world.specs.PlanData.{PlanData}
 use Rattle.usb_host.specs.Hosting.{Hosting}
 use Rattle.usb_host.specs.Progress.{Rests}
 use Rattle.usb_serve.specs.declared.runs.Item.{Item}
 use Rattle.usb_serve.specs.declared.runs.RunFault.{RunFault}
 use Rattle.usb_serve.specs.declared.serving.Mode.{Mode}
-use Rattle.usb_serve.specs.RunSegments.{Works, idle, worked}
-use Rattle.usb_serve.specs.ServedRuns.{unpowered}
-use Rattle.usb_serve.specs.Transcript.{CutsText, RunsTo, Next, AppendsText, StoppedRun, Stops, Transcript, begun, ran, told, behind, on_the_way, in_text, shown}
+use Rattle.usb_serve.specs.Transcript.{CutsText, RunsTo, Next, AppendsText, StoppedRun, Stops, Transcript, told, on_the_way, unwritten, in_text, shown}
 
 -- nothing is written
 pub puts_none : (h : Hosting) → AppendsText [] h h
 puts_none h = record { all = Appends-nil h.trace; rest = refl }
-
-pub front_none : (t : Option (List ℕ)) (text : List ℕ) → AppendsFront t t text
-front_none t text = record { gone = []; rest = text; split = refl; appended = Appends-nil t }
-
-pub cuts_none : (text : List ℕ) (h : Hosting) → CutsText text h h
-cuts_none text h = record { front = front_none h.trace text; rest = refl; still = λ none. refl }
 
 -- the next item
 
@@ -33,46 +24,31 @@ pub told_next : {mode : Mode} {was : Bool} {old : Hosting} {items : List Item} {
     → AppendsText (shown mode items item) k new → Transcript mode was old (item ∷ items) on new
 told_next {mode} {was} {old} {items} {h = h} t (at_work, makes) puts = told (subst (λ o. Transcript mode was old items o h) at_work t) makes puts
 
-pub cut_next : {mode : Mode} {was : Bool} {old : Hosting} {items : List Item} {item : Item} {over on : Bool} {h k new : Hosting} → Transcript mode was old items over h → Next over h (Ok (Some item)) on k
-    → CutsText (shown mode items item) k new → StoppedRun mode was old (item ∷ items) new
-cut_next {mode} {was} {old} {items} {h = h} t (at_work, makes) cuts = in_text (subst (λ o. Transcript mode was old items o h) at_work t) makes cuts
+pub cut_next : {mode : Mode} {IsOf : RunFault → Type 0} {IsCut : Type 0} {was : Bool} {old : Hosting} {items : List Item} {item : Item} {over on : Bool} {h k new : Hosting} → IsCut → Transcript mode was old items over h
+    → Next over h (Ok (Some item)) on k → CutsText (shown mode items item) k new → StoppedRun mode IsOf IsCut was old (item ∷ items) new
+cut_next {mode} {was = was} {old = old} {items = items} {h = h} cut t (at_work, makes) cuts = in_text cut (subst (λ o. Transcript mode was old items o h) at_work t) makes cuts
 
-pub stopped_next : {mode : Mode} {was : Bool} {old : Hosting} {items : List Item} {over : Bool} {h k : Hosting} (on : Bool) (fault : RunFault) → Transcript mode was old items over h → Next over h (Err fault) on k
-    → StoppedRun mode was old items k
-stopped_next {mode} {was} {old} {items} {h = h} on fault t (at_work, stops) = on_the_way (subst (λ o. Transcript mode was old items o h) at_work t) stops
+-- nothing was written of an item
+pub unwritten_next : {mode : Mode} {IsOf : RunFault → Type 0} {IsCut : Type 0} {was : Bool} {old : Hosting} {items : List Item} {item : Item} {over on : Bool} {h k : Hosting} → (IsCut → ⊥) → Transcript mode was old items over h
+    → Next over h (Ok (Some item)) on k → StoppedRun mode IsOf IsCut was old items k
+unwritten_next {mode} {was = was} {old = old} {items = items} {h = h} whole t (at_work, makes) = unwritten whole (subst (λ o. Transcript mode was old items o h) at_work t) makes
+
+pub stopped_next : {mode : Mode} {IsOf : RunFault → Type 0} {IsCut : Type 0} {was : Bool} {old : Hosting} {items : List Item} {over : Bool} {h k : Hosting} (on : Bool) (fault : RunFault) → IsOf fault
+    → Transcript mode was old items over h → Next over h (Err fault) on k → StoppedRun mode IsOf IsCut was old items k
+stopped_next {mode} {was = was} {old = old} {items = items} {h = h} on fault of t (at_work, stops) = on_the_way of (subst (λ o. Transcript mode was old items o h) at_work t) stops
 
 pub over_next : {mode : Mode} {was : Bool} {old : Hosting} {items : List Item} {over on : Bool} (h k : Hosting) → Transcript mode was old items over h → Next over h (Ok None) on k → Transcript mode was old items true k
 over_next {mode} {was} {old} {items} h k t (done, still, same) = subst (λ x. Transcript mode was old items true x) (sym same) (subst (λ o. Transcript mode was old items o h) done t)
 
-pub next_failed : {was : Bool} {old new : Hosting} (over : Bool) (result : Result (Option Item) RunFault) (fault : RunFault) → IsErrAnd result (λ e. e ≡ fault) → was ≡ false → Stops old new → Next was old result over new
+pub next_failed : {was : Bool} {old new : Hosting} (over : Bool) (result : Result (Option Item) RunFault) (fault : RunFault) → IsErrAnd result (λ e. e ≡ fault) → was ≡ false → Stops old fault new → Next was old result over new
 next_failed over (Ok item) fault is at_work stops = absurd is
-next_failed over (Err e) fault is at_work stops = (at_work, stops)
+next_failed {old = old} {new = new} over (Err e) fault is at_work stops = (at_work, subst (λ f. Stops old f new) (sym is) stops)
 
 -- what is told of a run that stopped
-pub ends_failed : {A E : Type 0} {mode : Mode} {was : Bool} {old new : Hosting} {items : List Item} (result : Result A E) (fault : E) → IsErrAnd result (λ e. e ≡ fault) → StoppedRun mode was old items new → RunsTo mode was old items result new
-ends_failed (Ok done) fault is stopped = absurd is
-ends_failed (Err e) fault is stopped = stopped
-
--- a run that goes on from where another has come without an item
-
-transcript_then : {mode : Mode} {was : Bool} {old h : Hosting} {items : List Item} {over : Bool} {new : Hosting} → Transcript mode was old [] false h → Transcript mode false h items over new → Transcript mode was old items over new
-transcript_then x begun = x
-transcript_then x (ran t r) = ran (transcript_then x t) r
-transcript_then x (told t makes puts) = told (transcript_then x t) makes puts
-
-stopped_then : {mode : Mode} {was : Bool} {old h : Hosting} {items : List Item} {new : Hosting} → Transcript mode was old [] false h → StoppedRun mode false h items new → StoppedRun mode was old items new
-stopped_then x (behind t) = behind (transcript_then x t)
-stopped_then x (on_the_way t stops) = on_the_way (transcript_then x t) stops
-stopped_then x (in_text t makes cuts) = in_text (transcript_then x t) makes cuts
-
-pub ends_then : {A E : Type 0} {mode : Mode} {was : Bool} {old h : Hosting} (items : List Item) (new : Hosting) (result : Result A E) → Transcript mode was old [] false h → RunsTo mode false h items result new
-    → RunsTo mode was old items result new
-ends_then items new (Ok done) x t = transcript_then x t
-ends_then items new (Err fault) x s = stopped_then x s
-
--- a plan's run, from a host whose bus was just given power
-pub powered : (mode : Mode) (plan : PlanData) (before : Option (List ℕ)) (h : Hosting) → Works (unpowered plan before) h → Transcript mode false (unpowered plan before) [] false h
-powered mode plan before h works = ran begun (worked idle works)
+pub ends_failed : {A E : Type 0} {mode : Mode} (words : RunFault → E) (CutsAt : E → Type 0) {was : Bool} {old new : Hosting} {items : List Item} (result : Result A E) (fault : E) → IsErrAnd result (λ e. e ≡ fault)
+    → StoppedRun mode (λ why. fault ≡ words why) (CutsAt fault) was old items new → RunsTo mode words CutsAt was old items result new
+ends_failed words CutsAt (Ok done) fault is stopped = absurd is
+ends_failed {mode = mode} words CutsAt {was = was} {old = old} {new = new} {items = items} (Err e) fault is stopped = subst (λ f. StoppedRun mode (λ why. f ≡ words why) (CutsAt f) was old items new) (sym is) stopped
 
 -- Lines
 

@@ -1,11 +1,12 @@
 -- What runs leave of a bus's world.
 use Rattle.std.specs.Prelude.{◌≡◌, ℕ, ◌+◌, Some, Bool, false, Result, OnOk, IfErr, if◌then◌else◌}
 use Rattle.usb_world.specs.PlanData.{PlanData}
-use Rattle.usb_world.specs.World.{World, to_come}
+use Rattle.usb_world.specs.World.{World, Spends, to_come}
 use Rattle.usb_world.specs.declared.types.BusFault.{BusFault}
 use Rattle.usb_world.specs.declared.types.BusFault.TheVariants as bus
+use Rattle.usb_host.specs.declared.fault.HostFault.{HostFault}
+use Rattle.usb_host.specs.declared.fault.HostFault.TheVariants as host
 use Rattle.usb_host.specs.Hosting.{Hosting}
-use Rattle.usb_serve.specs.RunSegments.{Works}
 use Rattle.usb_serve.specs.declared.runs.Item.{Item}
 use Rattle.usb_serve.specs.declared.runs.Item.TheVariants.{Listing}
 use Rattle.usb_serve.specs.declared.runs.RunFault.{RunFault}
@@ -22,9 +23,18 @@ run_fault bus.LimitReached = LimitReached
 run_fault bus.Memory = Memory
 run_fault bus.TraceFailed = TraceFailed
 
--- a fault of a run is told only where its cause stands
+-- what the fault of a round is to a run
+abbrev pub round_fault : HostFault → RunFault
+round_fault host.Stopped = Memory
+round_fault host.NoDevice = Memory
+round_fault host.NoEndpoint = Memory
+round_fault (host.Pipe fault) = Memory
+round_fault (host.Bus fault) = run_fault fault
+round_fault host.Memory = Memory
+
+-- a fault of a run is told only where its cause stands: the limit where the attempts equal it and the bus gave one up for it, the trace where the bus could not write it
 abbrev pub IsCaused : RunFault → World → Type 0
-IsCaused LimitReached w = w.attempts ≡ w.limit
+IsCaused LimitReached w = (w.attempts ≡ w.limit) × (w.fault ≡ Some bus.LimitReached)
 IsCaused Memory w = Unit {0}
 IsCaused TraceFailed w = w.fault ≡ Some bus.TraceFailed
 
@@ -34,9 +44,9 @@ pub record RunsOn {A : Type 0} (Goes : Hosting → Result A RunFault → Hosting
   pub running : OnOk result (new.stopped ≡ false)
   pub caused : IfErr result (λ fault. IsCaused fault new.world)
 
--- a part without an event
-abbrev pub WorksOn : {A : Type 0} → Hosting → Result A RunFault → Hosting → Type 0
-WorksOn old result new = Works old new
+-- attempts were made within the limit, and no event was added
+abbrev pub Spent : Hosting → Hosting → Type 0
+Spent old new = (n : ℕ) × Spends n old.world new.world
 
 -- how many items are to come at most
 abbrev pub items_left : Bool → World → ℕ

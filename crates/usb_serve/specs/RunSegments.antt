@@ -1,20 +1,93 @@
--- How a run goes up to its next item: calls of the host, and the events between them.
-use Rattle.std.specs.Prelude.{◌≡◌, ℕ, false, Option, None, Some, Result, Ok}
+-- How a run goes up to its next item: the host settles, then an event comes.
+use Rattle.std.specs.Prelude.{◌≡◌, false, Option, None, Some, Result, Ok, Err, IfOk, IfErr}
 use Rattle.usb_world.specs.declared.event.Due.{Due}
 use Rattle.usb_world.specs.declared.event.Due.TheVariants.{Changed}
 use Rattle.usb_world.specs.declared.types.BusFault.{BusFault}
 use Rattle.usb_bus.specs.Traces.{TakesEvent}
+use Rattle.usb_table.specs.Listing.{Matches}
+use Rattle.usb_host.specs.declared.fault.HostFault.{HostFault}
+use Rattle.usb_host.specs.declared.host.Round.{Round}
+use Rattle.usb_host.specs.declared.host.Round.TheVariants.{Quiet}
 use Rattle.usb_host.specs.Agreement.{Agrees}
+use Rattle.usb_host.specs.Bounds.{round_bound}
 use Rattle.usb_host.specs.Hosting.{Hosting}
 use Rattle.usb_host.specs.Progress.{HostWent, Rests}
-use Rattle.usb_host.specs.Soundness.{IsSound, IsAtRest, StaysSound}
+use Rattle.usb_host.specs.Service.{DidParts}
+use Rattle.usb_host.specs.Soundness.{Causes, IsAtRest, IsFairTo, IsSound, RoundKeeps}
+use Rattle.usb_host.specs.ToldFaults.{RoundTold, StopsAsRound}
+use Rattle.usb_serve.specs.declared.runs.RunFault.{RunFault}
+use Rattle.usb_serve.specs.Run.{round_fault}
 
--- calls of a host that has not stopped, within the limit; no line but their attempts' was written. As long as the host goes on, what it knows stays so
-pub record Works (old new : Hosting) : Type 0 where
-  pub running : old.stopped ≡ false
-  pub most : ℕ
-  pub went : HostWent most old new
-  pub stays : new.stopped ≡ false → StaysSound old new
+-- A host
+
+-- what a host knows of its ports and devices is so; and where damage was fair, each refused device has its cause
+pub record Knows (h : Hosting) : Type 0 where
+  pub sound : IsSound h
+  pub causes : IsFairTo h.world h.world → Causes h.world h.entries
+
+-- a host has settled: it goes on, and what it knows is so; as long as the bus is at work nothing is left to do, and where damage was fair it lists what is plugged
+pub record Settled (h : Hosting) : Type 0 where
+  pub running : h.stopped ≡ false
+  pub knows : Knows h
+  pub rest : h.world.fault ≡ None → IsAtRest h.world h.entries
+  pub matches : IsFairTo h.world h.world → Matches h.world h.entries
+
+-- Rounds
+
+-- all that one call of `round` tells
+pub record RoundTells (old : Hosting) (result : Result Round HostFault) (new : Hosting) : Type 0 where
+  pub stopped : StopsAsRound old result new
+  pub went : HostWent round_bound old new
+  pub told : IfErr result (λ fault. RoundTold fault new.world)
+  pub did : IfOk result (λ round. DidParts round old new)
+  pub keeps : RoundKeeps old result new
+
+-- a round failed, and this ends the run
+pub record RoundFails (old : Hosting) (fault : RunFault) (new : Hosting) : Type 0 where
+  pub why : HostFault
+  pub tells : RoundTells old (Err why) new
+  pub ends : fault ≡ round_fault why
+
+-- one round of a run
+abbrev pub OneRound : Hosting → Result Round RunFault → Hosting → Type 0
+OneRound old (Ok round) new = RoundTells old (Ok round) new
+OneRound old (Err fault) new = RoundFails old fault new
+
+-- a round that ends settling: it was quiet, and no event came in it
+pub record EndsSettling (round : Round) (old new : Hosting) : Type 0 where
+  pub quiet : round ≡ Quiet
+  pub none : new.world.taken ≡ old.world.taken
+
+-- rounds one after the other, none of which ends settling
+pub data Rounds (old : Hosting) : Hosting → Type 0 where
+  none : Rounds old old
+  more : {h k : Hosting} (round : Round) → Rounds old h → RoundTells h (Ok round) k → (EndsSettling round h k → ⊥) → Rounds old k
+
+-- a host settled: rounds, of which the last alone ends settling
+pub record Settles (old new : Hosting) : Type 0 where
+  pub before : Hosting
+  pub rounds : Rounds old before
+  pub round : Round
+  pub last : RoundTells before (Ok round) new
+  pub ends : EndsSettling round before new
+
+-- settling was cut off: its last round failed
+pub record Unsettled (old : Hosting) (fault : RunFault) (new : Hosting) : Type 0 where
+  pub before : Hosting
+  pub rounds : Rounds old before
+  pub last : RoundFails before fault new
+
+-- what `settle` does
+abbrev pub Settling : Hosting → Result (Unit {0}) RunFault → Hosting → Type 0
+Settling old (Ok done) new = Settles old new
+Settling old (Err fault) new = Unsettled old fault new
+
+-- what settling leaves of a host, by what was so before; that its table agrees with its addresses is so of every host, as `tree` tells
+pub record LeavesSettled (old new : Hosting) : Type 0 where
+  pub rest : IsSound old → new.world.fault ≡ None → IsAtRest new.world new.entries
+  pub settled : Agrees new.entries new.addresses → Knows old → Settled new
+
+-- Events
 
 -- the next event came, or none was left, or the bus told its fault; no line but the event's was written, and the host keeps what it had
 pub record Comes (old : Hosting) (result : Result (Option Due) BusFault) (new : Hosting) : Type 0 where
@@ -22,20 +95,24 @@ pub record Comes (old : Hosting) (result : Result (Option Due) BusFault) (new : 
   pub rests : Rests old new
   pub agrees : Agrees old.entries old.addresses
 
--- calls of the host, and between them events that ask nothing of it
+-- the host settled, and then the next event came, or none was left, or the bus told its fault
+pub record Arrives (old : Hosting) (result : Result (Option Due) BusFault) (new : Hosting) : Type 0 where
+  pub mid : Hosting
+  pub settles : Settles old mid
+  pub settled : Settled mid
+  pub comes : Comes mid result new
+
+-- events that ask nothing of the host, before each of which it settles
 pub data Ran (old : Hosting) : Hosting → Type 0 where
   idle : Ran old old
-  worked : {h k : Hosting} → Ran old h → Works h k → Ran old k
-  changed : {h k : Hosting} → Ran old h → Comes h (Ok (Some Changed)) k → Ran old k
+  changed : {h k : Hosting} → Ran old h → Arrives h (Ok (Some Changed)) k → Ran old k
 
--- a host has settled: it goes on, and where what it knew was so and the bus is at work, nothing is left to do
-pub record Settles (old new : Hosting) : Type 0 where
-  pub running : new.stopped ≡ false
-  pub rest : IsSound old → new.world.fault ≡ None → IsAtRest new.world new.entries
-
--- the same until the host has settled, and then one event more, or none that was left, or the bus's fault
+-- such events, and then one more, or none that was left, or the bus's fault
 pub record Reaches (old : Hosting) (result : Result (Option Due) BusFault) (new : Hosting) : Type 0 where
-  pub mid : Hosting
-  pub ran : Ran old mid
-  pub settles : Settles old mid
-  pub comes : Comes mid result new
+  pub behind : Hosting
+  pub ran : Ran old behind
+  pub arrives : Arrives behind result new
+
+-- a part of a run that goes so where what its host knew was so
+abbrev pub Knowing : {A : Type 0} (Goes : Hosting → Result A RunFault → Hosting → Type 0) → Hosting → Result A RunFault → Hosting → Type 0
+Knowing Goes old result new = Knows old → Goes old result new

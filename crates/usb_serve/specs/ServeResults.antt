@@ -1,5 +1,6 @@
 -- What serving a plan tells and writes.
-use Rattle.std.specs.Prelude.{◌≡◌, ℕ, ◌+◌, List, [], ◌∷◌, ◌++◌, Result, Ok, Err}
+use Rattle.std.specs.Prelude.{◌≡◌, ◌≢◌, ℕ, ◌+◌, Bool, true, false, Some, List, [], ◌∷◌, ◌++◌, Result, Ok, Err, IsErrOf}
+use Rattle.usb_world.specs.World.{World}
 use Rattle.usb_world.specs.declared.types.BusFault.{BusFault}
 use Rattle.usb_world.specs.declared.types.BusFault.TheVariants as bus
 use Rattle.usb_serve.specs.declared.input.InputFault.{InputFault}
@@ -7,6 +8,7 @@ use Rattle.usb_serve.specs.declared.input.InputFault.TheVariants as input
 use Rattle.usb_serve.specs.declared.runs.Item.{Item}
 use Rattle.usb_serve.specs.declared.runs.Item.TheVariants.{Listing, Sent, Received, Cleared}
 use Rattle.usb_serve.specs.declared.runs.RunFault.TheVariants as run
+use Rattle.usb_serve.specs.Run.{IsCaused}
 use Rattle.usb_serve.specs.declared.serving.ServeFault.{ServeFault}
 use Rattle.usb_serve.specs.declared.serving.ServeFault.TheVariants.{Read, TooLong, Run, Write, Memory}
 use Rattle.usb_serve.specs.declared.serving.ServeFault.TheVariants as serve
@@ -36,6 +38,30 @@ IsFaultOfRun Memory = Unit {0}
 abbrev pub IsOfRun : Result (Unit {0}) ServeFault → Type 0
 IsOfRun (Ok done) = Unit {0}
 IsOfRun (Err fault) = IsFaultOfRun fault
+
+-- where a writer is told to have failed it has, and where the limit was reached it has not
+pub record MarksWriter (result : Result (Unit {0}) ServeFault) (failed : Bool) : Type 0 where
+  pub write : IsErrOf result Write → failed ≡ true
+  pub trace : IsErrOf result (Run run.TraceFailed) → failed ≡ true
+  pub at_limit : IsErrOf result (Run run.LimitReached) → failed ≡ false
+
+-- a fault that is told in mode Run has its cause in the run's world
+abbrev pub IsCausedInRun : ServeFault → World → Type 0
+IsCausedInRun Read w = ⊥
+IsCausedInRun TooLong w = ⊥
+IsCausedInRun (serve.Plan fault) w = ⊥
+IsCausedInRun (Run fault) w = IsCaused fault w
+IsCausedInRun Write w = w.fault ≡ Some bus.TraceFailed
+IsCausedInRun Memory w = Unit {0}
+
+-- and so it is in mode Tree, where no trace is written
+abbrev pub IsCausedInTree : ServeFault → World → Type 0
+IsCausedInTree Read w = ⊥
+IsCausedInTree TooLong w = ⊥
+IsCausedInTree (serve.Plan fault) w = ⊥
+IsCausedInTree (Run fault) w = (fault ≢ run.TraceFailed) × IsCaused fault w
+IsCausedInTree Write w = Unit {0}
+IsCausedInTree Memory w = Unit {0}
 
 -- the lines of an item; the number is that of a listing
 abbrev pub item_lines : ℕ → Item → List (List ℕ)

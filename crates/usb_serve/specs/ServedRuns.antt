@@ -1,6 +1,5 @@
 -- Where a plan's run ends, and what serving a plan wrote of it.
-use Rattle.std.specs.Prelude.{◌≡◌, ◌≢◌, ⊤, ℕ, List, [], ◌++◌, reverse, Option, Bool, false, Result, Ok, Err, OnOk, IfOk, IfSome, IsUtf8}
-use Rattle.std.specs.FinSet as set
+use Rattle.std.specs.Prelude.{◌≡◌, ◌≢◌, ⊤, ◌⊎◌, ℕ, List, ◌++◌, reverse, Option, Bool, true, false, Result, Ok, Err, IfOk, IfErr, IfSome, IsUtf8}
 use Rattle.std.specs.Io.KnownBytes.{Appends}
 use Rattle.usb_world.specs.PlanData.{PlanData, IsPlan}
 use Rattle.usb_world.specs.PlanCourses.{AtPorts}
@@ -10,23 +9,23 @@ use Rattle.usb_bus.specs.Traces.{Traced}
 use Rattle.usb_bus.specs.Watch.{AppendsFront}
 use Rattle.usb_host.specs.Hosting.{Hosting, opening_host as host_opening}
 use Rattle.usb_host.specs.Soundness.{IsSound}
+use Rattle.usb_plan.specs.declared.fault.PlanFault.{PlanFault}
 use Rattle.usb_plan.specs.declared.fault.PlanFault.TheVariants as plan
 use Rattle.usb_plan.specs.Attempts.{bound_of}
 use Rattle.usb_plan.specs.Plan.{spelled_plan}
 use Rattle.usb_serve.specs.declared.runs.Item.{Item}
 use Rattle.usb_serve.specs.declared.runs.Report.{Report}
 use Rattle.usb_serve.specs.declared.runs.RunFault.{RunFault}
+use Rattle.usb_serve.specs.declared.runs.RunFault.TheVariants.{Memory, TraceFailed}
 use Rattle.usb_serve.specs.declared.serving.Mode.{Mode}
 use Rattle.usb_serve.specs.declared.serving.Mode.TheVariants.{Tree, Run}
 use Rattle.usb_serve.specs.declared.serving.ServeFault.{ServeFault}
 use Rattle.usb_serve.specs.declared.serving.ServeFault.TheVariants as serve
-use Rattle.usb_serve.specs.Moments.{TellsRight}
+use Rattle.usb_serve.specs.Moments.{ListsRight}
+use Rattle.usb_serve.specs.Run.{IsCaused}
+use Rattle.usb_serve.specs.ServeResults.{IsCausedInRun, IsCausedInTree, IsOfRun}
 use Rattle.usb_text.specs.ListingLines.{bound_line}
-use Rattle.usb_serve.specs.Transcript.{RunsTo, items_text}
-
--- a host of a plan's bus, before anything was done: no port has power, and no device is known
-abbrev pub unpowered : PlanData → Option (List ℕ) → Hosting
-unpowered plan t = record { world = opening plan; trace = t; entries = []; pipes = []; addresses = set.empty; stopped = false }
+use Rattle.usb_serve.specs.Transcript.{RunsTo, Transcript, at_write, items_text, itself, never, of_run}
 
 -- a host of a plan's bus, whose root ports were given power in silence: it knows of no device, and that is so
 pub record Opens (plan : PlanData) (before : Option (List ℕ)) (h : Hosting) : Type 0 where
@@ -46,51 +45,87 @@ pub record Reports (items : List Item) (w : World) (report : Report) : Type 0 wh
 -- a run to its end, and its report
 pub record Finishes (was : Bool) (old : Hosting) (result : Result Report RunFault) (new : Hosting) : Type 0 where
   pub items : List Item
-  pub ends : RunsTo Tree was old items result new
+  pub ends : RunsTo Tree itself never was old items result new
   pub report : IfOk result (Reports items new.world)
+  pub caused : IfErr result (λ fault. IsCaused fault new.world)
 
--- where a plan's run ends, with or without a fault: at no attempt so far did two reachable devices hold one address, and what it tells is right
-pub record EndsWell (plan : PlanData) (result : Result Report RunFault) : Type 0 where
+-- a plan's run to where it ends, with or without a fault: at no attempt so far did two reachable devices hold one address, and what it tells is right; a fault has its cause, and it is none of a trace
+pub record RunsWell (plan : PlanData) (result : Result Report RunFault) : Type 0 where
   pub before : Option (List ℕ)
+  pub first : Hosting
+  pub opens : Opens plan before first
   pub last : Hosting
-  pub finishes : Finishes false (unpowered plan before) result last
+  pub finishes : Finishes false first result last
+  pub untraced : result ≢ Err TraceFailed
+  pub limit : last.world.limit ≡ plan.limit
   pub single : last.world.shared ≡ false
-  pub tells : TellsRight plan finishes.items last.world
+  pub lists : ListsRight plan finishes.items last.world
+
+-- so a plan's run ends, or memory was refused
+abbrev pub EndsWell : PlanData → Result Report RunFault → Type 0
+EndsWell plan result = (result ≡ Err Memory) ⊎ RunsWell plan result
 
 -- what is written in mode Run: the text of a run of the plan, at no attempt of which two reachable devices held one address, and which tells what is right
 pub record RunWritten (plan : PlanData) (before : Option (List ℕ)) (result : Result (Unit {0}) ServeFault) (now : Option (List ℕ)) : Type 0 where
+  pub first : Hosting
+  pub opens : Opens plan before first
   pub items : List Item
   pub last : Hosting
-  pub ends : RunsTo Run false (unpowered plan before) items result last
+  pub ends : RunsTo Run of_run at_write false first items result last
+  pub caused : IfErr result (λ fault. IsCausedInRun fault last.world)
+  pub limit : last.world.limit ≡ plan.limit
   pub single : last.world.shared ≡ false
-  pub tells : TellsRight plan items last.world
+  pub lists : ListsRight plan items last.world
   pub text : now ≡ last.trace
 
--- what is written in mode Tree: the text of the items of such a run, and the plan's bound behind them; a front of it where the run stopped
+-- the text of mode Tree: the lines of all items that were made, and behind a run that is over the plan's bound; a front of that only where the writer failed
+abbrev pub TreeText : PlanData → List Item → Type 0 → Option (List ℕ) → Result (Unit {0}) ServeFault → Option (List ℕ) → Type 0
+TreeText plan items IsOver before (Ok done) now = Appends before now (items_text items ++ bound_line (bound_of plan))
+TreeText plan items IsOver before (Err serve.Read) now = ⊥
+TreeText plan items IsOver before (Err serve.TooLong) now = ⊥
+TreeText plan items IsOver before (Err (serve.Plan fault)) now = ⊥
+TreeText plan items IsOver before (Err (serve.Run fault)) now = Appends before now (items_text items)
+TreeText plan items IsOver before (Err serve.Write) now = AppendsFront before now (items_text items) ⊎ (IsOver × AppendsFront before now (items_text items ++ bound_line (bound_of plan)))
+TreeText plan items IsOver before (Err serve.Memory) now = Appends before now (items_text items)
+
+-- what is written in mode Tree: the text of the items of such a run, whose trace is thrown away
 pub record TreeWritten (plan : PlanData) (before : Option (List ℕ)) (result : Result (Unit {0}) ServeFault) (now : Option (List ℕ)) : Type 0 where
-  pub items : List Item
   pub thrown : Option (List ℕ)  -- where the trace goes
+  pub first : Hosting
+  pub opens : Opens plan thrown first
+  pub items : List Item
   pub last : Hosting
-  pub ends : RunsTo Tree false (unpowered plan thrown) items result last
+  pub ends : RunsTo Tree of_run never false first items result last
+  pub caused : IfErr result (λ fault. IsCausedInTree fault last.world)
+  pub limit : last.world.limit ≡ plan.limit
   pub single : last.world.shared ≡ false
-  pub tells : TellsRight plan items last.world
-  pub front : AppendsFront before now (items_text items ++ bound_line (bound_of plan))
-  pub all : OnOk result (Appends before now (items_text items ++ bound_line (bound_of plan)))
+  pub lists : ListsRight plan items last.world
+  pub text : TreeText plan items (Transcript Tree false first items true last) before result now
+
+-- memory was refused for the bus of a run, and nothing was done
+pub record IsUnopened (before : Option (List ℕ)) (result : Result (Unit {0}) ServeFault) (now : Option (List ℕ)) : Type 0 where
+  pub refused : result ≡ Err (serve.Run Memory)
+  pub nothing : now ≡ before
 
 abbrev pub IsWritten : Mode → PlanData → Option (List ℕ) → Result (Unit {0}) ServeFault → Option (List ℕ) → Type 0
-IsWritten Tree plan = TreeWritten plan
-IsWritten Run plan = RunWritten plan
+IsWritten Tree plan before result now = IsUnopened before result now ⊎ TreeWritten plan before result now
+IsWritten Run plan before result now = IsUnopened before result now ⊎ RunWritten plan before result now
+
+-- why a text is no plan: what is no UTF-8 has no syntax; in what is, the fault that it has, where memory was not refused
+pub record IsNoPlan (text : List ℕ) (fault : PlanFault) : Type 0 where
+  pub spelled : IsUtf8 text → fault ≢ plan.Memory → spelled_plan text ≡ Err fault
+  pub garbled : (IsUtf8 text → ⊥) → fault ≡ plan.Syntax
 
 -- a fault that is told before any run: of the reader, or of the text that it had
 abbrev pub IsUnread : Option (List ℕ) → ServeFault → Type 0
 IsUnread text serve.Read = ⊤
 IsUnread text serve.TooLong = ⊤
-IsUnread text (serve.Plan fault) = IfSome text (λ t. IsUtf8 t → fault ≢ plan.Memory → spelled_plan t ≡ Err fault)
+IsUnread text (serve.Plan fault) = IfSome text (λ t. IsNoPlan t fault)
 IsUnread text (serve.Run fault) = ⊥
 IsUnread text serve.Write = ⊥
 IsUnread text serve.Memory = ⊤
 
--- what serving a text wrote: nothing, where no plan was read; else what the mode asks for, of a run of the plan that the text spells
+-- what serving a text wrote: nothing, where no plan was read; else what the mode asks for, of a run of the plan that the text spells, and then no fault is the text's or the reader's
 pub data IsServed (mode : Mode) (text before : Option (List ℕ)) (result : Result (Unit {0}) ServeFault) (now : Option (List ℕ)) : Type 0 where
   unread : (fault : ServeFault) → result ≡ Err fault → IsUnread text fault → now ≡ before → IsServed mode text before result now
-  of_plan : (plan : PlanData) → IfSome text (λ t. spelled_plan t ≡ Ok plan) → IsWritten mode plan before result now → IsServed mode text before result now
+  of_plan : (plan : PlanData) → IfSome text (λ t. spelled_plan t ≡ Ok plan) → IsOfRun result → IsWritten mode plan before result now → IsServed mode text before result now

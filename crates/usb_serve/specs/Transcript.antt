@@ -1,19 +1,26 @@
 -- A run, item by item, with the text of each item where it was made.
-use Rattle.std.specs.Prelude.{◌≡◌, ℕ, List, [], ◌∷◌, ◌++◌, Bool, true, false, Option, None, Some, Result, Ok, Err, OnOk, OnErr}
+use Rattle.std.specs.Prelude.{◌≡◌, ℕ, List, [], ◌∷◌, ◌++◌, Bool, true, false, Option, None, Some, IsSome, Result, Ok, Err, OnOk, OnErr}
 use Rattle.std.specs.List.{concat}
 use Rattle.std.specs.Io.KnownBytes.{Appends}
 use Rattle.usb_world.specs.declared.event.Due.{Due}
 use Rattle.usb_world.specs.declared.types.BusFault.{BusFault}
 use Rattle.usb_bus.specs.Watch.{AppendsFront}
+use Rattle.usb_world.specs.Steps.{PutLine}
 use Rattle.usb_host.specs.Hosting.{Hosting}
+use Rattle.usb_host.specs.Progress.{Rests}
 use Rattle.usb_serve.specs.declared.runs.Item.{Item}
 use Rattle.usb_serve.specs.declared.runs.RunFault.{RunFault}
 use Rattle.usb_serve.specs.declared.serving.Mode.{Mode}
 use Rattle.usb_serve.specs.declared.serving.Mode.TheVariants.{Tree, Run}
-use Rattle.usb_serve.specs.RunSegments.{Ran, Works, Reaches}
-use Rattle.usb_serve.specs.Run.{listing_of}
+use Rattle.usb_serve.specs.declared.serving.ServeFault.{ServeFault}
+use Rattle.usb_serve.specs.declared.runs.RunFault.TheVariants.{Memory}
+use Rattle.usb_serve.specs.declared.serving.ServeFault.TheVariants.{Write}
+use Rattle.usb_serve.specs.declared.serving.ServeFault.TheVariants as serve
+use Rattle.usb_serve.specs.Moments.{TellsRight}
+use Rattle.usb_serve.specs.RunSegments.{Arrives, Ran, Reaches, Settled, Unsettled}
+use Rattle.usb_serve.specs.Run.{listing_of, run_fault}
 use Rattle.usb_serve.specs.ServeResults.{item_lines, number_of}
-use Rattle.usb_serve.specs.Transfers.{IsItemOf}
+use Rattle.usb_serve.specs.Transfers.{IsItemOf, StopsAt}
 
 -- how many listings are among items
 unfoldable pub listings : List Item → ℕ
@@ -34,32 +41,34 @@ abbrev pub shown : Mode → List Item → Item → List ℕ
 shown Tree items item = []
 shown Run items item = item_text items item
 
--- how the next item is made: an event asks for it, and the host did what the event asks; the last one behind all events, and the run is over
+-- how the next item is made: an event asks for it, and the host does what the event asks and no more; the last one behind all events, and the run is over
 pub data Makes (old : Hosting) : Item → Bool → Hosting → Type 0 where
-  asked : {item : Item} {mid new : Hosting} (due : Due) → Reaches old (Ok (Some due)) mid → Works mid new → IsItemOf due (Some item) mid new → Makes old item false new
-  last : {new : Hosting} → Reaches old (Ok None) new → Makes old (listing_of new) true new
+  asked : {item : Item} {mid new : Hosting} (due : Due) → Reaches old (Ok (Some due)) mid → IsItemOf due (Some item) mid new → TellsRight due item mid new → Makes old item false new
+  last : {new : Hosting} → Reaches old (Ok None) new → Settled new → Makes old (listing_of new) true new
 
--- a run that stopped on the way to its next item: between events, or while the host did what one asks
-pub data Stops (old : Hosting) : Hosting → Type 0 where
-  between : {new : Hosting} → Ran old new → Stops old new
-  at_event : {mid new : Hosting} (result : Result (Option Due) BusFault) → Reaches old result mid → Works mid new → Stops old new
+-- where a run stopped on the way to its next item, and with which fault: in a round, at an event, in what an event asked, or where memory was refused for the last listing
+pub data Stops (old : Hosting) : RunFault → Hosting → Type 0 where
+  in_round : {behind new : Hosting} {fault : RunFault} → Ran old behind → Unsettled behind fault new → Stops old fault new
+  at_event : {new : Hosting} (fault : BusFault) → Reaches old (Err fault) new → Stops old (run_fault fault) new
+  in_item : {mid new : Hosting} {fault : RunFault} (due : Due) → Reaches old (Ok (Some due)) mid → StopsAt due fault mid new → Stops old fault new
+  in_last : {new : Hosting} → Reaches old (Ok None) new → Stops old Memory new
 
 -- the next event
 abbrev pub NextEvent : Hosting → Result (Option Due) RunFault → Hosting → Type 0
-NextEvent old (Ok due) new = Reaches old (Ok due) new
-NextEvent old (Err fault) new = Stops old new
+NextEvent old (Ok due) new = Arrives old (Ok due) new
+NextEvent old (Err fault) new = Stops old fault new
 
 -- the next item that an event asks for, none where no event is left
 abbrev pub NextAsked : Hosting → Result (Option Item) RunFault → Hosting → Type 0
 NextAsked old (Ok None) new = Reaches old (Ok None) new
 NextAsked old (Ok (Some item)) new = Makes old item false new
-NextAsked old (Err fault) new = Stops old new
+NextAsked old (Err fault) new = Stops old fault new
 
 -- the next item of a run, none where it was over, or where it stopped
 abbrev pub Next : Bool → Hosting → Result (Option Item) RunFault → Bool → Hosting → Type 0
 Next was old (Ok None) over new = (was ≡ true) × (over ≡ true) × (new ≡ old)
 Next was old (Ok (Some item)) over new = (was ≡ false) × Makes old item over new
-Next was old (Err fault) over new = (was ≡ false) × Stops old new
+Next was old (Err fault) over new = (was ≡ false) × Stops old fault new
 
 -- a text was written behind what had been written, and nothing else changed
 pub record AppendsText (text : List ℕ) (old new : Hosting) : Type 0 where
@@ -72,6 +81,14 @@ pub record CutsText (text : List ℕ) (old new : Hosting) : Type 0 where
   pub rest : new ≡ record old { world = record old.world { fault = new.world.fault }; trace = new.trace }
   pub still : new.world.fault ≡ None → new.world ≡ old.world
 
+-- a line of report was put into the trace, or a front of it where the bus told its fault; after a fault nothing more is
+pub record PutsLine (line : List ℕ) (old : Hosting) (result : Result (Unit {0}) BusFault) (new : Hosting) : Type 0 where
+  pub step : PutLine old.world result new.world
+  pub rests : Rests old new
+  pub front : AppendsFront old.trace new.trace (line ++ 10 ∷ [])
+  pub ok : OnOk result (Appends old.trace new.trace (line ++ 10 ∷ []))
+  pub again : IsSome old.world.fault → new ≡ old
+
 -- all of it, or a front where that failed
 pub record Prints {E : Type 0} (text : List ℕ) (old : Hosting) (result : Result (Unit {0}) E) (new : Hosting) : Type 0 where
   pub done : OnOk result (AppendsText text old new)
@@ -80,23 +97,39 @@ pub record Prints {E : Type 0} (text : List ℕ) (old : Hosting) (result : Resul
 -- a run with its items, the newest first, and whether it is over; what was written is the text of its attempts and events and of each item where it was made
 pub data Transcript (mode : Mode) (was : Bool) (old : Hosting) : List Item → Bool → Hosting → Type 0 where
   begun : Transcript mode was old [] was old
-  ran : {items : List Item} {h new : Hosting} → Transcript mode was old items false h → Ran h new → Transcript mode was old items false new
   told : {items : List Item} {item : Item} {over : Bool} {h k new : Hosting} → Transcript mode was old items false h → Makes h item over k → AppendsText (shown mode items item) k new
       → Transcript mode was old (item ∷ items) over new
 
--- a run that stopped: behind an item, on the way to the next one, or in its text
-pub data StoppedRun (mode : Mode) (was : Bool) (old : Hosting) : List Item → Hosting → Type 0 where
-  behind : {items : List Item} {over : Bool} {new : Hosting} → Transcript mode was old items over new → StoppedRun mode was old items new
-  on_the_way : {items : List Item} {h new : Hosting} → Transcript mode was old items false h → Stops h new → StoppedRun mode was old items new
-  in_text : {items : List Item} {item : Item} {over : Bool} {h k new : Hosting} → Transcript mode was old items false h → Makes h item over k → CutsText (shown mode items item) k new
-      → StoppedRun mode was old (item ∷ items) new
+-- a run that stopped: on the way to the next item with its fault, or in the text of an item where that is cut; else at an item of which nothing was written, or behind one
+pub data StoppedRun (mode : Mode) (IsOf : RunFault → Type 0) (IsCut : Type 0) (was : Bool) (old : Hosting) : List Item → Hosting → Type 0 where
+  on_the_way : {items : List Item} {h new : Hosting} {fault : RunFault} → IsOf fault → Transcript mode was old items false h → Stops h fault new → StoppedRun mode IsOf IsCut was old items new
+  unwritten : {items : List Item} {item : Item} {over : Bool} {h new : Hosting} → (IsCut → ⊥) → Transcript mode was old items false h → Makes h item over new → StoppedRun mode IsOf IsCut was old items new
+  behind : {items : List Item} {over : Bool} {new : Hosting} → (IsCut → ⊥) → Transcript mode was old items over new → StoppedRun mode IsOf IsCut was old items new
+  in_text : {items : List Item} {item : Item} {over : Bool} {h k new : Hosting} → IsCut → Transcript mode was old items false h → Makes h item over k → CutsText (shown mode items item) k new
+      → StoppedRun mode IsOf IsCut was old (item ∷ items) new
 
--- a run that is done is over
-abbrev pub RunsTo : {A E : Type 0} → Mode → Bool → Hosting → List Item → Result A E → Hosting → Type 0
-RunsTo mode was old items (Ok done) new = Transcript mode was old items true new
-RunsTo mode was old items (Err fault) new = StoppedRun mode was old items new
+-- a run that is done is over; one that stopped tells its fault in these words, and has the text of an item cut at certain faults, and at no other
+abbrev pub RunsTo : {A E : Type 0} → Mode → (RunFault → E) → (E → Type 0) → Bool → Hosting → List Item → Result A E → Hosting → Type 0
+RunsTo mode words CutsAt was old items (Ok done) new = Transcript mode was old items true new
+RunsTo mode words CutsAt was old items (Err fault) new = StoppedRun mode (λ why. fault ≡ words why) (CutsAt fault) was old items new
 
--- how a run ends, with the items that it made
-pub record RunEnds {A E : Type 0} (mode : Mode) (was : Bool) (old : Hosting) (result : Result A E) (new : Hosting) : Type 0 where
+-- the fault of a run to the one who runs it
+abbrev pub itself : RunFault → RunFault
+itself fault = fault
+
+-- to the one who is served
+abbrev pub of_run : RunFault → ServeFault
+of_run fault = serve.Run fault
+
+-- no item is cut
+abbrev pub never : {E : Type 0} → E → Type 0
+never fault = ⊥
+
+-- where the writer failed in a line of report
+abbrev pub at_write : ServeFault → Type 0
+at_write fault = fault ≡ Write
+
+-- how a run with its text ends, with the items that it made
+pub record RunEnds (was : Bool) (old : Hosting) (result : Result (Unit {0}) ServeFault) (new : Hosting) : Type 0 where
   pub items : List Item
-  pub ends : RunsTo mode was old items result new
+  pub ends : RunsTo Run of_run at_write was old items result new

@@ -1,5 +1,5 @@
 -- What a run makes of an event that has come, and what a transfer comes to.
-use Rattle.std.specs.Prelude.{◌≡◌, ℕ, length, Option, Some, None, Result, Ok, Err}
+use Rattle.std.specs.Prelude.{◌≡◌, ℕ, ◌*◌, List, length, Option, Some, None, Result, Ok, Err, IfErr}
 use Rattle.std.specs.Global.{Vec}
 use Rattle.usb_world.specs.declared.event.Due.{Due}
 use Rattle.usb_world.specs.declared.event.Due.TheVariants.{Changed, Show, Send, Receive, Clear}
@@ -7,7 +7,12 @@ use Rattle.usb_pipe.specs.declared.fault.PipeFault.{PipeFault}
 use Rattle.usb_pipe.specs.declared.fault.PipeFault.TheVariants as pipe
 use Rattle.usb_host.specs.declared.fault.HostFault.{HostFault}
 use Rattle.usb_host.specs.declared.fault.HostFault.TheVariants as host
+use Rattle.usb_transaction.specs.Transactions.{transaction_bound}
+use Rattle.usb_host.specs.Bounds.{clear_bound}
 use Rattle.usb_host.specs.Hosting.{Hosting}
+use Rattle.usb_host.specs.Progress.{HostWent}
+use Rattle.usb_host.specs.Soundness.{TransferKeeps}
+use Rattle.usb_host.specs.ToldFaults.{StopsAsTransfer, TransferTold}
 use Rattle.usb_host.specs.Transfers.{SentAt, ReceivedAt, ClearedAt}
 use Rattle.usb_serve.specs.declared.runs.Item.{Item}
 use Rattle.usb_serve.specs.declared.runs.Item.TheVariants.{Sent, Received, Cleared}
@@ -48,17 +53,61 @@ abbrev pub sent_count : ℕ → Result (Unit {0}) TransferFault → Result ℕ T
 sent_count count (Ok done) = Ok count
 sent_count count (Err fault) = Err fault
 
--- the host did a transfer, and this is told of it
-pub record Transfers {A : Type 0} (did : Hosting → Result A HostFault → Hosting → Type 0) (old : Hosting) (told : Result A TransferFault) (new : Hosting) : Type 0 where
+-- One call
+
+-- all that one call for a transfer tells
+pub record TransferTells {A : Type 0} (most : ℕ) (Did : Hosting → Result A HostFault → Hosting → Type 0) (old : Hosting) (result : Result A HostFault) (new : Hosting) : Type 0 where
+  pub stopped : StopsAsTransfer old result new
+  pub went : HostWent most old new
+  pub told : IfErr result (λ fault. TransferTold fault new.world)
+  pub did : Did old result new
+  pub keeps : TransferKeeps old new
+
+abbrev pub SendTells : List ℕ → List ℕ → Hosting → Result (Unit {0}) HostFault → Hosting → Type 0
+SendTells path bytes = TransferTells (transaction_bound * length bytes) (SentAt path bytes)
+
+abbrev pub ReceiveTells : List ℕ → ℕ → Hosting → Result (Vec ℕ) HostFault → Hosting → Type 0
+ReceiveTells path packets = TransferTells (transaction_bound * packets) (ReceivedAt path packets)
+
+abbrev pub ClearTells : List ℕ → Hosting → Result (Unit {0}) HostFault → Hosting → Type 0
+ClearTells path = TransferTells clear_bound (ClearedAt path)
+
+-- the host made one call, and this is told of it
+pub record Transfers {A : Type 0} (Tells : Hosting → Result A HostFault → Hosting → Type 0) (old : Hosting) (told : Result A TransferFault) (new : Hosting) : Type 0 where
   pub answer : Result A HostFault
-  pub done : did old answer new
+  pub call : Tells old answer new
   pub tells : transfer_ended answer ≡ Ok told
 
--- what a run makes of an event: a listing at once where the host is to list, and of a transfer to the device at a path what it came to
+-- the host made one call, and its fault ends the run
+pub record TransferStops {A : Type 0} (Tells : Hosting → Result A HostFault → Hosting → Type 0) (old : Hosting) (fault : RunFault) (new : Hosting) : Type 0 where
+  pub answer : Result A HostFault
+  pub call : Tells old answer new
+  pub tells : transfer_ended answer ≡ Err fault
+
+-- What a run makes of an event
+
+-- a listing at once where the host is to list, and of a transfer to the device at a path what it came to
 abbrev pub IsItemOf : Due → Option Item → Hosting → Hosting → Type 0
-IsItemOf Changed item old new = item ≡ None
+IsItemOf Changed item old new = (item ≡ None) × (new ≡ old)
 IsItemOf Show item old new = (item ≡ Some (listing_of new)) × (new ≡ old)
 IsItemOf (Send path bytes) item old new =
-    (sent : Result (Unit {0}) TransferFault) × (item ≡ Some (Sent path (sent_count (length bytes) sent))) × Transfers (SentAt path bytes) old sent new
-IsItemOf (Receive path packets) item old new = (received : Result (Vec ℕ) TransferFault) × (item ≡ Some (Received path received)) × Transfers (ReceivedAt path packets) old received new
-IsItemOf (Clear path) item old new = (cleared : Result (Unit {0}) TransferFault) × (item ≡ Some (Cleared path cleared)) × Transfers (ClearedAt path) old cleared new
+    (told : Result (Unit {0}) TransferFault) × (item ≡ Some (Sent path (sent_count (length bytes) told))) × Transfers (SendTells path bytes) old told new
+IsItemOf (Receive path packets) item old new = (told : Result (Vec ℕ) TransferFault) × (item ≡ Some (Received path told)) × Transfers (ReceiveTells path packets) old told new
+IsItemOf (Clear path) item old new = (told : Result (Unit {0}) TransferFault) × (item ≡ Some (Cleared path told)) × Transfers (ClearTells path) old told new
+
+-- no item of it: memory was refused for a listing, or a transfer ended the run
+abbrev pub StopsAt : Due → RunFault → Hosting → Hosting → Type 0
+StopsAt Changed fault old new = ⊥
+StopsAt Show fault old new = (fault ≡ Memory) × (new ≡ old)
+StopsAt (Send path bytes) fault old new = TransferStops (SendTells path bytes) old fault new
+StopsAt (Receive path packets) fault old new = TransferStops (ReceiveTells path packets) old fault new
+StopsAt (Clear path) fault old new = TransferStops (ClearTells path) old fault new
+
+abbrev pub Does : Due → Hosting → Result (Option Item) RunFault → Hosting → Type 0
+Does due old (Ok item) new = IsItemOf due item old new
+Does due old (Err fault) new = StopsAt due fault old new
+
+-- the item of an event, or the fault in its place
+abbrev pub Gives : Due → Hosting → Result Item RunFault → Hosting → Type 0
+Gives due old (Ok item) new = IsItemOf due (Some item) old new
+Gives due old (Err fault) new = StopsAt due fault old new

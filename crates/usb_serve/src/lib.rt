@@ -14,3 +14,7 @@ pub use input::{InputFault, read_text};
 pub use runs::{Item, Report, RunFault, Runner, run, settle};
 pub use serving::{Mode, ServeFault, serve};
 pub use transfer::TransferFault;
+pub use usb_bus::{BusFault, Plan, SimBus, Trace, Tracer, Untraced, Watched};
+pub use usb_host::{Host, Tree};
+pub use usb_plan::PlanFault;
+pub use usb_port::PortPath;

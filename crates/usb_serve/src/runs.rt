@@ -8,22 +8,21 @@ ghost use Rattle.usb_bus.specs.Sim.{world_of, trace_of};
 ghost use Rattle.std.specs.Io.KnownBytes.{Appends};
 ghost use Rattle.usb_bus.specs.Watch.{inner_of, has_failed, tells_failure, AppendsFront};
 ghost use Rattle.usb_world.specs.Steps.{PutLine, opening};
-ghost use Rattle.usb_host.specs.Progress.{DidRound, Rests};
+ghost use Rattle.usb_host.specs.Progress.{Rests};
 ghost use Rattle.usb_host.specs.Ownership.{Owning};
 ghost use Rattle.usb_serve.specs.declared.runs.RunFault.TheVariants.{Memory as NoMemory};
 ghost use Rattle.usb_serve.specs.Moments.{ListsPlugged};
-ghost use Rattle.usb_serve.specs.RunSegments.{Settles};
-ghost use Rattle.usb_serve.specs.Run.{IsBegun, IsCaused, RunsOn, WorksOn, run_fault, items_left, listing_of};
+ghost use Rattle.usb_serve.specs.RunSegments.{Knowing, Knows, LeavesSettled, OneRound, Settling};
+ghost use Rattle.usb_serve.specs.Run.{IsBegun, IsCaused, RunsOn, Spent, round_fault, run_fault, items_left, listing_of};
 ghost use Rattle.usb_serve.specs.ServedRuns.{EndsWell, Finishes, Opens};
-ghost use Rattle.usb_serve.specs.Transcript.{Next, NextAsked, NextEvent};
-ghost use Rattle.usb_serve.specs.Transfers.{IsItemOf};
+ghost use Rattle.usb_serve.specs.Transcript.{Next, NextAsked, NextEvent, PutsLine};
+ghost use Rattle.usb_serve.specs.Transfers.{Does, Gives};
 
 use crate::transfer::{TransferFault, answered, counted};
 use std::alloc::{AllocError, AllocFailed, Global};
-use std::io;
 use std::io::Write;
 use thiserror::Error;
-use usb_bus::{BusFault, Due, Plan, SimBus, Watched};
+use usb_bus::{BusFault, Due, Plan, SimBus, Trace, Tracer, Untraced, Watched, untraced_fault};
 use usb_host::{Host, HostFault, Round, Tree};
 use usb_port::PortPath;
 
@@ -86,14 +85,14 @@ impl<T: Drop> From<AllocFailed<T>> for RunFault {
 ///
 /// # Errors
 /// The fault of the bus, or Memory where the host wanted memory.
-#[tactic(auto, using(crate::proofs::RunParts::works_then, crate::proofs::RunParts::works_none))]
-pub fn settle<W: Write>(host: &mut Host<SimBus<W>>) -> Result<(), RunFault>
+pub fn settle<T: Trace>(host: &mut Host<SimBus<T>>) -> Result<(), RunFault>
     requires running { host.old.stopped ≡ false }
-    ensures on { RunsOn WorksOn host.old result host.new }
+    // Rounds, of which the last alone is quiet with no event taken in it.
+    ensures on { RunsOn Settling host.old result host.new }
     // No root port has its change of connection set.
     ensures settled { OnOk result (changes (root_row host.new.world) ≡ 0) }
-    // Where what the host knew is so, nothing is left to do.
-    ensures rests { OnOk result (Settles host.old host.new) }
+    // Where what the host knew is so, nothing is left to do, and it lists what is plugged.
+    ensures leaves { OnOk result (LeavesSettled host.old host.new) }
     ensures owning { Owning host.old → Owning host.new }
 {
     'rounds: loop {
@@ -106,19 +105,28 @@ pub fn settle<W: Write>(host: &mut Host<SimBus<W>>) -> Result<(), RunFault>
 }
 
 /// One round of a host that is not stopped.
-#[tactic(auto, using(crate::proofs::RunParts::works_from))]
-fn round_of<W: Write>(host: &mut Host<SimBus<W>>) -> Result<Round, RunFault>
+fn round_of<T: Trace>(host: &mut Host<SimBus<T>>) -> Result<Round, RunFault>
     requires running { host.old.stopped ≡ false }
-    ensures on { RunsOn WorksOn host.old result host.new }
-    ensures did { IfOk result (λ round. DidRound round host.old host.new) }
-    ensures rests { result ≡ Ok Round.Quiet → host.new.world.taken ≡ host.old.world.taken
-        → Settles host.old host.new }
+    ensures on { RunsOn OneRound host.old result host.new }
     ensures owning { Owning host.old → Owning host.new }
 {
     match host.round() {
         Ok(round) => Ok(round),
-        Err(HostFault::Bus(fault)) => Err(RunFault::from(fault)),
-        Err(_) => Err(RunFault::Memory),
+        Err(fault) => Err(round_fault(fault)),
+    }
+}
+
+/// What the fault of a round is to a run.
+fn round_fault(fault: HostFault) -> RunFault
+    ensures { result ≡ round_fault fault }
+{
+    match fault {
+        HostFault::Bus(fault) => RunFault::from(fault),
+        HostFault::Stopped
+        | HostFault::NoDevice
+        | HostFault::NoEndpoint
+        | HostFault::Pipe(_)
+        | HostFault::Memory => RunFault::Memory,
     }
 }
 
@@ -141,18 +149,20 @@ pub struct Report {
 /// LimitReached where the attempts made equal the plan's limit, Memory where memory was refused.
 pub fn run(alloc: Global, plan: &Plan) -> Result<Report, RunFault>
     ensures limit { IfOk result (λ report. report.attempts ≤ plan.now.limit) }
-    // No two devices that could be reached held one address at any attempt, and what is told of a
-    // transfer is what devices did.
+    // No two devices that could be reached held one address at any attempt, what is told of a
+    // transfer is what devices did, and a fault has its cause.
     ensures ends { EndsWell plan.now result }
     // Where no three attempts running are damaged, and no address was lost three times running,
     // each listing is what is plugged when it is made.
     ensures listings { AtMostTwoRunning plan.now.damages → IfOk result (ListsPlugged plan.now) }
 {
-    let mut runner = match Runner::untraced(alloc, plan, Watched::new(io::sink())) {
+    let mut runner = match Runner::untraced(alloc, plan) {
         Ok(runner) => runner,
         Err(_) => return Err(RunFault::Memory),
     };
-    runner.finish(alloc)
+    let report = runner.finish(alloc);
+    untraced_fault(runner.host().bus());
+    report
 }
 
 /// A plan's run, made item by item.
@@ -160,8 +170,8 @@ pub fn run(alloc: Global, plan: &Plan) -> Result<Report, RunFault>
 /// At no attempt did two devices that could be reached hold one address; and as long as the host goes on, each of them
 /// holds the address that the host has for it.
 #[derive(Drop)]
-pub struct Runner<W: Write> {
-    host: Host<SimBus<W>>,
+pub struct Runner<T: Trace> {
+    host: Host<SimBus<T>>,
     /// Nothing more is made.
     over: bool,
     ghost running: { over ≡ false → host.stopped ≡ false },
@@ -169,7 +179,7 @@ pub struct Runner<W: Write> {
     ghost few_events: { host.world.taken + to_come host.world ≤ 10000 },
 }
 
-impl<W: Write> Runner<W> {
+impl<W: Write> Runner<Tracer<W>> {
     /// The run before its first attempt, with a writer that has not failed yet.
     ///
     /// # Errors
@@ -178,7 +188,7 @@ impl<W: Write> Runner<W> {
         alloc: Global,
         plan: &Plan,
         writer: Watched<W>,
-    ) -> Result<Runner<W>, (AllocError, Watched<W>)>
+    ) -> Result<Runner<Tracer<W>>, (AllocError, Watched<W>)>
         requires unfailed { has_failed writer ≡ false }
         ensures opened { IfOk result (λ runner.
             Opens plan.now (W.contents (inner_of writer)) runner.host) }
@@ -190,29 +200,34 @@ impl<W: Write> Runner<W> {
         Ok(Runner::with_bus(alloc, plan, bus))
     }
 
-    /// The same run, with no line of its trace made: for a writer of which nothing is known, as `io::sink()`.
+    /// Gives the writer back.
+    pub fn into_writer(self) -> Watched<W>
+        ensures trace { W.contents (inner_of result) ≡ self.host.trace }
+        ensures failed { has_failed result ≡ tells_failure self.host.world.fault }
+    {
+        let Runner { host, over: _ } = self;
+        host.into_bus().into_writer()
+    }
+}
+
+impl Runner<Untraced> {
+    /// The same run, with no line of its trace made.
     ///
     /// # Errors
-    /// Memory is refused; the writer is handed back.
-    pub fn untraced(
-        alloc: Global,
-        plan: &Plan,
-        writer: Watched<W>,
-    ) -> Result<Runner<W>, (AllocError, Watched<W>)>
-        requires unfailed { has_failed writer ≡ false }
-        requires unknown { W.contents (inner_of writer) ≡ None }
-        ensures opened { IfOk result (λ runner.
-            Opens plan.now (W.contents (inner_of writer)) runner.host) }
+    /// Memory is refused.
+    pub fn untraced(alloc: Global, plan: &Plan) -> Result<Runner<Untraced>, AllocError>
+        ensures opened { IfOk result (λ runner. Opens plan.now None runner.host) }
         ensures begun { IfOk result (λ runner. IsBegun plan.now runner.host.world) }
         ensures going { IfOk result (λ runner. runner.over ≡ false) }
-        ensures back { IfErr result (λ e. e.1 ≡ writer) }
     {
-        let bus = SimBus::untraced(alloc, plan, writer)?;
+        let bus = SimBus::untraced(alloc, plan)?;
         Ok(Runner::with_bus(alloc, plan, bus))
     }
+}
 
+impl<T: Trace> Runner<T> {
     /// The run of a plan before its first attempt, over the plan's bus.
-    fn with_bus(alloc: Global, plan: &Plan, bus: SimBus<W>) -> Runner<W>
+    fn with_bus(alloc: Global, plan: &Plan, bus: SimBus<T>) -> Runner<T>
         requires { world_of bus ≡ opening plan.now }
         ensures opened { Opens plan.now (trace_of bus) result.host }
         ensures begun { IsBegun plan.now result.host.world }
@@ -230,7 +245,8 @@ impl<W: Write> Runner<W> {
     /// # Errors
     /// The fault of the bus, or Memory where memory was refused; the run is then over.
     pub fn next_item(&mut self) -> Result<Option<Item>, RunFault>
-        ensures next { Next self.old.over self.old.host result self.new.over self.new.host }
+        ensures next { (self.old.over ≡ false → Knows self.old.host)
+            → Next self.old.over self.old.host result self.new.over self.new.host }
         ensures caused { IfErr result (λ fault. IsCaused fault self.new.host.world) }
         ensures fewer { IfOk result (λ item. IsSome item
             → items_left self.new.over self.new.host.world
@@ -253,7 +269,8 @@ impl<W: Write> Runner<W> {
     /// # Errors
     /// Those of `next_item`.
     pub fn finish(&mut self, alloc: Global) -> Result<Report, RunFault>
-        ensures finishes { Finishes self.old.over self.old.host result self.new.host }
+        ensures finishes { (self.old.over ≡ false → Knows self.old.host)
+            → Finishes self.old.over self.old.host result self.new.host }
     {
         let mut items = Vec::new(alloc);
         'items: while let Some(item) = self.next_item()? {
@@ -272,19 +289,15 @@ impl<W: Write> Runner<W> {
     /// # Errors
     /// Those of `SimBus::put_line`.
     pub fn put_line(&mut self, line: &[u8]) -> Result<(), BusFault>
-        ensures step { PutLine self.old.host.world result self.new.host.world }
-        ensures rests { Rests self.old.host self.new.host }
-        ensures front { AppendsFront self.old.host.trace self.new.host.trace
-            (line.now ++ 10 ∷ []) }
-        ensures ok { OnOk result (Appends self.old.host.trace self.new.host.trace
-            (line.now ++ 10 ∷ [])) }
+        ensures puts { PutsLine line.now self.old.host result self.new.host }
+        ensures caused { IfErr result (λ fault. IsCaused (run_fault fault) self.new.host.world) }
         ensures over { self.new.over ≡ self.old.over }
     {
         self.host.bus_mut().put_line(line)
     }
 
     /// The host of the run's bus.
-    pub fn host(&self) -> &Host<SimBus<W>>
+    pub fn host(&self) -> &Host<SimBus<T>>
         ensures { result.now ≡ self.now.host }
     {
         &self.host
@@ -311,21 +324,13 @@ impl<W: Write> Runner<W> {
     {
         self.host.bus().worst_address_run()
     }
-
-    /// Gives the writer back.
-    pub fn into_writer(self) -> Watched<W>
-        ensures trace { W.contents (inner_of result) ≡ self.host.trace }
-        ensures failed { has_failed result ≡ tells_failure self.host.world.fault }
-    {
-        let Runner { host, over: _ } = self;
-        host.into_bus().into_writer()
-    }
 }
 
 /// Lets events come up to one of which an item is made; None where none is left.
-fn item_of_events<W: Write>(host: &mut Host<SimBus<W>>) -> Result<Option<Item>, RunFault>
+fn item_of_events<T: Trace>(host: &mut Host<SimBus<T>>) -> Result<Option<Item>, RunFault>
     requires running { host.old.stopped ≡ false }
-    ensures on { RunsOn NextAsked host.old result host.new }
+    ensures on { RunsOn (Knowing NextAsked) host.old result host.new }
+    ensures spent { Spent host.old host.new }
     ensures fewer { IfOk result (λ item. IsSome item
         → to_come host.new.world < to_come host.old.world) }
     ensures owning { Owning host.old → Owning host.new }
@@ -341,9 +346,10 @@ fn item_of_events<W: Write>(host: &mut Host<SimBus<W>>) -> Result<Option<Item>, 
 }
 
 /// Settles, and lets the next event come; None where none is left.
-fn next_due<W: Write>(host: &mut Host<SimBus<W>>) -> Result<Option<Due>, RunFault>
+fn next_due<T: Trace>(host: &mut Host<SimBus<T>>) -> Result<Option<Due>, RunFault>
     requires running { host.old.stopped ≡ false }
-    ensures on { RunsOn NextEvent host.old result host.new }
+    ensures on { RunsOn (Knowing NextEvent) host.old result host.new }
+    ensures spent { Spent host.old host.new }
     ensures fewer { IfOk result (λ due. IsSome due
         → to_come host.new.world < to_come host.old.world) }
     ensures owning { Owning host.old → Owning host.new }
@@ -353,11 +359,9 @@ fn next_due<W: Write>(host: &mut Host<SimBus<W>>) -> Result<Option<Due>, RunFaul
 }
 
 /// What the run makes of an event: a listing where the host is to list, and the answer of a transfer.
-#[tactic(auto, using(crate::proofs::RunParts::works_none))]
-fn item_of<W: Write>(host: &mut Host<SimBus<W>>, due: Due) -> Result<Option<Item>, RunFault>
+fn item_of<T: Trace>(host: &mut Host<SimBus<T>>, due: Due) -> Result<Option<Item>, RunFault>
     requires running { host.old.stopped ≡ false }
-    ensures on { RunsOn WorksOn host.old result host.new }
-    ensures item { IfOk result (λ item. IsItemOf due item host.old host.new) }
+    ensures on { RunsOn (Does due) host.old result host.new }
     ensures owning { Owning host.old → Owning host.new }
 {
     match due {
@@ -370,16 +374,13 @@ fn item_of<W: Write>(host: &mut Host<SimBus<W>>, due: Due) -> Result<Option<Item
 }
 
 /// Sends bytes to the device at a path.
-#[tactic(auto, using(crate::proofs::RunParts::works_from))]
-fn send<W: Write>(
-    host: &mut Host<SimBus<W>>,
+fn send<T: Trace>(
+    host: &mut Host<SimBus<T>>,
     path: PortPath,
     bytes: &[u8],
 ) -> Result<Item, RunFault>
     requires running { host.old.stopped ≡ false }
-    ensures on { RunsOn WorksOn host.old result host.new }
-    ensures item { IfOk result (λ item. IsItemOf (Due.Send path bytes.now) (Some item)
-        host.old host.new) }
+    ensures on { RunsOn (Gives (Due.Send path bytes.now)) host.old result host.new }
     ensures owning { Owning host.old → Owning host.new }
 {
     let sent = answered(host.send(&path, bytes))?;
@@ -387,16 +388,13 @@ fn send<W: Write>(
 }
 
 /// Receives at most so many packets from the device at a path.
-#[tactic(auto, using(crate::proofs::RunParts::works_from))]
-fn receive<W: Write>(
-    host: &mut Host<SimBus<W>>,
+fn receive<T: Trace>(
+    host: &mut Host<SimBus<T>>,
     path: PortPath,
     packets: u16,
 ) -> Result<Item, RunFault>
     requires running { host.old.stopped ≡ false }
-    ensures on { RunsOn WorksOn host.old result host.new }
-    ensures item { IfOk result (λ item. IsItemOf (Due.Receive path packets) (Some item)
-        host.old host.new) }
+    ensures on { RunsOn (Gives (Due.Receive path packets)) host.old result host.new }
     ensures owning { Owning host.old → Owning host.new }
 {
     let received = answered(host.receive(&path, packets))?;
@@ -404,12 +402,9 @@ fn receive<W: Write>(
 }
 
 /// Clears the halts of the device at a path.
-#[tactic(auto, using(crate::proofs::RunParts::works_from))]
-fn clear<W: Write>(host: &mut Host<SimBus<W>>, path: PortPath) -> Result<Item, RunFault>
+fn clear<T: Trace>(host: &mut Host<SimBus<T>>, path: PortPath) -> Result<Item, RunFault>
     requires running { host.old.stopped ≡ false }
-    ensures on { RunsOn WorksOn host.old result host.new }
-    ensures item { IfOk result (λ item. IsItemOf (Due.Clear path) (Some item)
-        host.old host.new) }
+    ensures on { RunsOn (Gives (Due.Clear path)) host.old result host.new }
     ensures owning { Owning host.old → Owning host.new }
 {
     let cleared = answered(host.clear_halt(&path))?;
@@ -417,7 +412,7 @@ fn clear<W: Write>(host: &mut Host<SimBus<W>>, path: PortPath) -> Result<Item, R
 }
 
 /// What the host has found, and how many events had come.
-fn listing<W: Write>(host: &Host<SimBus<W>>) -> Result<Item, RunFault>
+fn listing<T: Trace>(host: &Host<SimBus<T>>) -> Result<Item, RunFault>
     ensures item { IfOk result (λ item. item ≡ listing_of host.now) }
     ensures fault { IfErr result (λ fault. fault ≡ RunFault.Memory) }
 {

@@ -1,21 +1,23 @@
 //! A plan's text in, the text of its run out.
-ghost use Rattle.std.specs.Prelude.{◌≡◌, ◌+◌, ◌<◌, ◌≤◌, ◌++◌, Some, All, Ok, Err, true, false, IsErrOf, IfErr, IfOk, IfSome, OnErr, OnOk, [], ◌∷◌, length, flat_map};
+ghost use Rattle.std.specs.Prelude.{◌≡◌, ◌≢◌, ◌+◌, ◌<◌, ◌≤◌, ◌++◌, IsSome, All, Ok, Err, true, false, IsErrOf, IfErr, IfOk, IfSome, OnErr, OnOk, [], ◌∷◌, length, flat_map};
 ghost use Rattle.std.specs.Io.KnownBytes.{Appends};
 ghost use Rattle.usb_bus.specs.Watch.{inner_of, has_failed, calls_of, AppendsFront};
 ghost use Rattle.usb_plan.specs.Plan.{spelled_plan};
 ghost use Rattle.usb_serve.specs.declared.serving.ServeFault.TheVariants as serve;
-ghost use Rattle.usb_serve.specs.ServedRuns.{IsUnread, RunWritten, IsServed, TreeWritten};
-ghost use Rattle.usb_serve.specs.ServeResults.{IsLine, IsOfRun, input_fault, item_lines, number_of, report_fault};
-ghost use Rattle.usb_serve.specs.Transcript.{RunEnds, Prints};
+ghost use Rattle.usb_serve.specs.ServedRuns.{IsUnread, IsServed, IsWritten};
+ghost use Rattle.usb_serve.specs.ServeResults.{IsCausedInRun, IsLine, IsOfRun, MarksWriter, input_fault, item_lines, number_of, report_fault};
+ghost use Rattle.usb_serve.specs.Run.{IsCaused, items_left};
+ghost use Rattle.usb_serve.specs.RunSegments.{Knows};
+ghost use Rattle.usb_serve.specs.Transcript.{Next, RunEnds, Prints};
 
 use crate::answers::{cleared_line, received_line, sent_line};
 use crate::input::{InputFault, read_text};
 use crate::runs::{Item, RunFault, Runner};
 use std::alloc::{AllocError, Global};
 use std::io::{Read, Write};
-use std::{io, str};
+use std::str;
 use thiserror::Error;
-use usb_bus::{BusFault, Plan, Watched, WriteFailed, put_piece};
+use usb_bus::{BusFault, Plan, Tracer, Untraced, Watched, WriteFailed, put_piece, untraced_fault};
 use usb_plan::{PlanFault, bound, read_plan};
 use usb_text::{Lines, bound_line, listing_lines};
 
@@ -87,16 +89,18 @@ impl From<WriteFailed> for ServeFault {
     }
 }
 
-/// Reads a plan, runs it, and writes what the mode asks for to a writer that has not failed yet. Hands the writer back.
+/// Reads a plan, runs it, and writes what the mode asks for, to a writer that has not failed yet. Hands the writer back.
 ///
 /// In mode Run that is the text of a run of the plan: the line of each attempt and event in their order, and the lines
 /// of each listing and transfer behind the attempts that it took. In mode Tree it is the lines of the listings and
-/// transfers of a run, and the plan's bound behind them. Where the run ended early or the writer failed, it is a front
-/// of that. At no attempt of the run did two devices that could be reached hold one address.
+/// transfers of a run, and the plan's bound behind them. Where the run ended early it is all that the run made so far,
+/// with no bound; where the writer failed it is a front of that. At no attempt of the run did two devices that could be
+/// reached hold one address.
 ///
 /// # Errors
 /// Read where the reader failed, TooLong for a text over the limit, Plan for a text that is no plan,
-/// Run where the run ended early, Write where the writer failed in a line of report, Memory where memory was refused.
+/// Run where the run ended early: LimitReached where the attempts made equal the plan's limit, TraceFailed where the
+/// writer failed in a line of trace; Write where the writer failed in a line of report, Memory where memory was refused.
 pub fn serve<R: Read, W: Write>(
     alloc: Global,
     mode: Mode,
@@ -108,7 +112,8 @@ pub fn serve<R: Read, W: Write>(
     ensures read { IsErrOf result.0 ServeFault.Read → has_failed reader.new ≡ true }
     ensures too_long { IsErrOf result.0 ServeFault.TooLong →
         IfSome (R.remaining (inner_of reader.old)) (λ text. 1048576 < length text) }
-    ensures write { IsErrOf result.0 ServeFault.Write → has_failed result.1 ≡ true }
+    // Write and TraceFailed are told where the writer has failed, LimitReached where it has not.
+    ensures writer { MarksWriter result.0 (has_failed result.1) }
     ensures served { IsServed mode (R.remaining (inner_of reader.old))
         (W.contents (inner_of writer)) result.0 (W.contents (inner_of result.1)) }
 {
@@ -147,9 +152,13 @@ fn serve_tree<W: Write>(
     plan: &Plan,
     writer: Watched<W>,
 ) -> (Result<(), ServeFault>, Watched<W>)
+    requires unfailed { has_failed writer ≡ false }
     ensures reader { IsOfRun result.0 }
     ensures write { IsErrOf result.0 ServeFault.Write → has_failed result.1 ≡ true }
-    ensures written { TreeWritten plan.now
+    ensures at_limit { IsErrOf result.0 (ServeFault.Run RunFault.LimitReached)
+        → has_failed result.1 ≡ false }
+    ensures untraced { result.0 ≢ Err (ServeFault.Run RunFault.TraceFailed) }
+    ensures written { IsWritten Mode.Tree plan.now
         (W.contents (inner_of writer)) result.0 (W.contents (inner_of result.1)) }
 {
     let mut writer = writer;
@@ -165,20 +174,38 @@ fn write_tree<W: Write>(
 ) -> Result<(), ServeFault>
     ensures reader { IsOfRun result }
     ensures write { IsErrOf result ServeFault.Write → has_failed writer.new ≡ true }
-    ensures written { TreeWritten plan.now
+    ensures unmarked { (result ≢ Err ServeFault.Write)
+        → has_failed writer.new ≡ has_failed writer.old }
+    ensures untraced { result ≢ Err (ServeFault.Run RunFault.TraceFailed) }
+    ensures written { IsWritten Mode.Tree plan.now
         (W.contents (inner_of writer.old)) result (W.contents (inner_of writer.new)) }
 {
-    let mut runner = match Runner::untraced(alloc, plan, Watched::new(io::sink())) {
+    let mut runner = match Runner::untraced(alloc, plan) {
         Ok(runner) => runner,
         Err(_) => return Err(ServeFault::Run(RunFault::Memory)),
     };
     let mut number = 0;
-    'items: while let Some(item) = runner.next_item()? {
+    'items: while let Some(item) = next_untraced(&mut runner)? {
         number = number_of(&item, number);
         write_lines(writer, item_lines(alloc, number, &item)?.as_slice())?;
     }
     let line = bound_line(alloc, bound(plan))?;
     write_line(writer, line.as_slice())
+}
+
+/// The next item of a run in which no line is made.
+fn next_untraced(runner: &mut Runner<Untraced>) -> Result<Option<Item>, RunFault>
+    ensures next { (runner.old.over ≡ false → Knows runner.old.host)
+        → Next runner.old.over runner.old.host result runner.new.over runner.new.host }
+    ensures caused { IfErr result (λ fault. IsCaused fault runner.new.host.world) }
+    ensures untraced { IfErr result (λ fault. fault ≢ RunFault.TraceFailed) }
+    ensures fewer { IfOk result (λ item. IsSome item
+        → items_left runner.new.over runner.new.host.world
+        < items_left runner.old.over runner.old.host.world) }
+{
+    let item = runner.next_item();
+    untraced_fault(runner.host().bus());
+    item
 }
 
 /// The number of the last listing, once an item is made.
@@ -216,6 +243,7 @@ fn write_lines<W: Write>(writer: &mut Watched<W>, lines: &[Vec<u8>]) -> Result<(
     ensures ok { OnOk result (Appends (W.contents (inner_of writer.old))
         (W.contents (inner_of writer.new)) (flat_map (λ line. line.items) lines.now)) }
     ensures write { OnErr result (has_failed writer.new ≡ true) }
+    ensures unmarked { OnOk result (has_failed writer.new ≡ has_failed writer.old) }
     ensures fault { IfErr result (λ fault. fault ≡ ServeFault.Write) }
 {
     'lines: for line in lines {
@@ -230,6 +258,7 @@ fn write_line<W: Write>(writer: &mut Watched<W>, line: &[u8]) -> Result<(), Serv
     ensures ok { OnOk result (Appends (W.contents (inner_of writer.old))
         (W.contents (inner_of writer.new)) line.now) }
     ensures write { OnErr result (has_failed writer.new ≡ true) }
+    ensures unmarked { OnOk result (has_failed writer.new ≡ has_failed writer.old) }
     ensures fault { IfErr result (λ fault. fault ≡ ServeFault.Write) }
 {
     put_piece(writer, line)?;
@@ -244,7 +273,11 @@ fn serve_run<W: Write>(
     requires unfailed { has_failed writer ≡ false }
     ensures reader { IsOfRun result.0 }
     ensures write { IsErrOf result.0 ServeFault.Write → has_failed result.1 ≡ true }
-    ensures written { RunWritten plan.now
+    ensures trace { IsErrOf result.0 (ServeFault.Run RunFault.TraceFailed)
+        → has_failed result.1 ≡ true }
+    ensures at_limit { IsErrOf result.0 (ServeFault.Run RunFault.LimitReached)
+        → has_failed result.1 ≡ false }
+    ensures written { IsWritten Mode.Run plan.now
         (W.contents (inner_of writer)) result.0 (W.contents (inner_of result.1)) }
 {
     match Runner::new(alloc, plan, writer) {
@@ -257,11 +290,11 @@ fn serve_run<W: Write>(
 }
 
 /// Runs to the end, with the lines of each item put into the trace when it is made.
-fn trace_run<W: Write>(alloc: Global, runner: &mut Runner<W>) -> Result<(), ServeFault>
+fn trace_run<W: Write>(alloc: Global, runner: &mut Runner<Tracer<W>>) -> Result<(), ServeFault>
     ensures reader { IsOfRun result }
-    ensures write { IsErrOf result ServeFault.Write →
-        runner.new.host.world.fault ≡ Some BusFault.TraceFailed }
-    ensures ends { RunEnds Mode.Run runner.old.over runner.old.host result runner.new.host }
+    ensures caused { IfErr result (λ fault. IsCausedInRun fault runner.new.host.world) }
+    ensures ends { (runner.old.over ≡ false → Knows runner.old.host)
+        → RunEnds runner.old.over runner.old.host result runner.new.host }
 {
     let mut number = 0;
     'items: while let Some(item) = runner.next_item()? {
@@ -271,14 +304,15 @@ fn trace_run<W: Write>(alloc: Global, runner: &mut Runner<W>) -> Result<(), Serv
     Ok(())
 }
 
-fn put_lines<W: Write>(runner: &mut Runner<W>, lines: &[Vec<u8>]) -> Result<(), ServeFault>
+fn put_lines<W: Write>(runner: &mut Runner<Tracer<W>>, lines: &[Vec<u8>]) -> Result<(), ServeFault>
     requires lines { All (λ line. IsLine line.items) lines.now }
     ensures over { runner.new.over ≡ runner.old.over }
     ensures prints { Prints (flat_map (λ line. line.items) lines.now)
         runner.old.host result runner.new.host }
     ensures reader { IsOfRun result }
-    ensures write { IsErrOf result ServeFault.Write →
-        runner.new.host.world.fault ≡ Some BusFault.TraceFailed }
+    ensures caused { IfErr result (λ fault. IsCausedInRun fault runner.new.host.world) }
+    ensures kept { IfErr result (λ fault. fault ≢ ServeFault.Write
+        → runner.new.host ≡ runner.old.host) }
 {
     'lines: for line in lines {
         if let Err(fault) = runner.put_line(without_newline(line.as_slice())) {

@@ -13,3 +13,6 @@ pub use line::{LineFault, packet_line};
 pub use lines::Lines;
 pub use listing::{bound_line, listing_lines};
 pub use text::{push_decimal, push_hex, push_path};
+pub use usb_enum::Finding;
+pub use usb_packet::PacketFault;
+pub use usb_port::PortPath;

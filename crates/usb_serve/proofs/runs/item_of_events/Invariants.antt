@@ -1,13 +1,15 @@
 use Rattle.std.proofs.Common.{◌≡◌, false}
 use Rattle.usb_world.specs.World.{to_come}
 use Rattle.usb_host.specs.Ownership.{Owning}
-use Rattle.usb_serve.specs.RunSegments.{Ran}
+use Rattle.usb_serve.specs.Run.{Spent}
+use Rattle.usb_serve.specs.RunSegments.{Knows, Ran}
 use Rattle.usb_serve.proofs.runs.item_of_events.Given as goal
 
 abbrev pub invariant-events : goal.invariant-events
 invariant-events g l = record {
   running : l.host.stopped ≡ false;
-  goes : Ran l.fn.host l.host;
+  goes : Knows l.fn.host → Ran l.fn.host l.host;
+  spent : Spent l.fn.host l.host;
   owning : Owning l.fn.host → Owning l.host;
 }
 

@@ -1,10 +1,10 @@
 use Rattle.std.proofs.Common.{refl}
 use Rattle.usb_bus.specs.Sim.{world_of}
-use Rattle.usb_serve.specs.RunSegments.{idle, worked}
+use Rattle.usb_serve.specs.RunSegments.{idle}
 use Rattle.usb_serve.specs.Run.{run_fault}
-use Rattle.usb_serve.specs.Transcript.{NextEvent, at_event, between}
-use Rattle.usb_serve.proofs.RunParts.{reaches_taken, works_none}
-use Rattle.usb_serve.proofs.Ends.{caused_by, stopped_on}
+use Rattle.usb_serve.specs.Transcript.{at_event, in_round}
+use Rattle.usb_serve.proofs.RunParts.{arrives_taken, reaches_after, settling_spent, taken_fewer, taken_spent}
+use Rattle.usb_serve.proofs.Ends.{caused_by, failed_on}
 use Rattle.usb_serve.proofs.Ownership.{owning_event}
 use Rattle.usb_serve.proofs.runs.next_due.Goals as goal
 
@@ -22,17 +22,34 @@ returns-clause-owning g c = λ o.
 
 pub returns-clause-on : goal.returns-clause-on
 returns-clause-on g c = record {
-  goes = reaches_taken c.args.host.now c.settle.new.host _ _ c.settle.ensures.on.goes c.in_ok-settle.ensures.rests c.bus_mut.ensures.agree refl c.bus_mut.ensures.world c.bus_mut.ensures.trace c.in_ok-apply_next_event.ensures.takes;
+  goes = λ s.
+      arrives_taken c.args.host.now c.settle.new.host _ _ c.in_ok-settle.ensures.on.goes (c.in_ok-settle.ensures.leaves.settled c.bus_mut.ensures.agree s) c.bus_mut.ensures.agree refl c.bus_mut.ensures.world c.bus_mut.ensures.trace c.in_ok-apply_next_event.ensures.takes;
   running = c.in_ok-settle.ensures.on.running;
   caused = tt;
 }
 
 pub returns-in_err-apply_next_event-clause-on : goal.returns-in_err-apply_next_event-clause-on
 returns-in_err-apply_next_event-clause-on g c =
-    let reaches = reaches_taken c.args.host.now c.settle.new.host _ c.apply_next_event.result c.settle.ensures.on.goes c.in_ok-settle.ensures.rests c.bus_mut.ensures.agree refl c.bus_mut.ensures.world c.bus_mut.ensures.trace c.apply_next_event.ensures.takes in
-    stopped_on NextEvent c.from_residual-in_err-apply_next_event.result (run_fault c.in_err-apply_next_event.field-0.0) c.from_residual-in_err-apply_next_event.ensures.1
-    (λ e. at_event c.apply_next_event.result reaches (works_none _ c.in_ok-settle.ensures.on.running)) (caused_by _ _ c.in_err-apply_next_event.ensures.takes.took.ends)
+    failed_on _ c.from_residual-in_err-apply_next_event.result (run_fault c.in_err-apply_next_event.field-0.0) c.from_residual-in_err-apply_next_event.ensures.1
+    (λ s. at_event c.in_err-apply_next_event.field-0.0 (reaches_after idle
+    (arrives_taken c.args.host.now c.settle.new.host _ _ c.in_ok-settle.ensures.on.goes (c.in_ok-settle.ensures.leaves.settled c.bus_mut.ensures.agree s) c.bus_mut.ensures.agree refl c.bus_mut.ensures.world c.bus_mut.ensures.trace c.in_err-apply_next_event.ensures.takes)))
+    (caused_by _ _ c.in_err-apply_next_event.ensures.takes.took.ends)
 
 pub returns-in_err-settle-clause-on : goal.returns-in_err-settle-clause-on
 returns-in_err-settle-clause-on g c =
-    stopped_on NextEvent c.from_residual.result c.in_err-settle.field-0.0 c.from_residual.ensures.1 (λ e. between (worked idle c.in_err-settle.ensures.on.goes)) c.in_err-settle.ensures.on.caused
+    failed_on _ c.from_residual.result c.in_err-settle.field-0.0 c.from_residual.ensures.1 (λ s. in_round idle c.in_err-settle.ensures.on.goes) c.in_err-settle.ensures.on.caused
+
+pub returns-in_err-settle-clause-spent : goal.returns-in_err-settle-clause-spent
+returns-in_err-settle-clause-spent g c = settling_spent c.args.host.now c.settle.new.host c.settle.result c.settle.ensures.on.goes
+
+pub returns-in_err-apply_next_event-clause-spent : goal.returns-in_err-apply_next_event-clause-spent
+returns-in_err-apply_next_event-clause-spent g c =
+    taken_spent c.args.host.now c.settle.new.host _ _ (settling_spent c.args.host.now c.settle.new.host c.settle.result c.settle.ensures.on.goes) c.bus_mut.ensures.world c.apply_next_event.ensures.takes
+
+pub returns-clause-spent : goal.returns-clause-spent
+returns-clause-spent g c =
+    taken_spent c.args.host.now c.settle.new.host _ _ (settling_spent c.args.host.now c.settle.new.host c.settle.result c.settle.ensures.on.goes) c.bus_mut.ensures.world c.apply_next_event.ensures.takes
+
+pub returns-clause-fewer : goal.returns-clause-fewer
+returns-clause-fewer g c =
+    taken_fewer c.args.host.now c.settle.new.host _ _ (settling_spent c.args.host.now c.settle.new.host c.settle.result c.settle.ensures.on.goes) c.bus_mut.ensures.world c.in_ok-apply_next_event.ensures.takes

@@ -1,17 +1,26 @@
-use Rattle.usb_serve.specs.declared.runs.RunFault.TheVariants.{Memory}
-use Rattle.usb_serve.proofs.ReportedItems.{ends_opened, ends_plugged, ends_unopened, reports_limit}
+use Rattle.std.proofs.Common.{◌≡◌, ◌≢◌, ◌∙◌, ap, inl, refl, subst, Some}
+use Rattle.usb_world.specs.declared.types.BusFault.TheVariants as bus
+use Rattle.usb_world.specs.World.{World}
+use Rattle.usb_host.specs.Hosting.{Hosting}
+use Rattle.usb_serve.proofs.Ends.{knows_opened}
+use Rattle.usb_serve.proofs.ReportedItems.{ends_plugged, ends_untraced, reports_limit}
 use Rattle.usb_serve.proofs.runs.run.Goals as goal
 
 pub returns-in-Err-clause-ends : goal.returns-in-Err-clause-ends
-returns-in-Err-clause-ends c = ends_unopened c.args.plan.now Memory
+returns-in-Err-clause-ends c = inl refl
 
 pub returns-clause-ends : goal.returns-clause-ends
 returns-clause-ends c =
-    ends_opened c.args.plan.now _ _ c.in-Ok.runner.host c.finish.new.self.host c.finish.result c.in-Ok.ensures.opened c.in-Ok.ensures.going c.finish.ensures.finishes c.finish.new.self.owning.single
+    let opened = c.in-Ok.ensures.opened in
+    let same : c.bus.result.now.fault ≡ c.finish-report.new.self.host.world.fault =
+    ap (λ (w : World). w.fault) c.bus.ensures.world ∙ ap (λ (h : Hosting). h.world.fault) c.host.ensures in
+    let other : c.finish-report.new.self.host.world.fault ≢ Some bus.TraceFailed = subst (λ f. f ≢ Some bus.TraceFailed) same c.untraced_fault.ensures in
+    ends_untraced c.args.plan.now _ _ c.in-Ok.runner.host c.finish-report.new.self.host c.finish-report.result opened c.in-Ok.ensures.going (c.finish-report.ensures.finishes (λ _. knows_opened c.args.plan.now c.in-Ok.runner.host opened)) c.finish-report.new.self.owning.single other
 
 pub returns-clause-limit : goal.returns-clause-limit
 returns-clause-limit c =
-    reports_limit c.in-Ok.runner.over c.in-Ok.runner.host c.finish.new.self.host c.finish.result c.args.plan.now.limit c.finish.ensures.finishes c.in-Ok.ensures.begun.attempts c.in-Ok.ensures.begun.limit
+    let opened = c.in-Ok.ensures.opened in
+    reports_limit c.in-Ok.runner.over c.in-Ok.runner.host c.finish-report.new.self.host c.finish-report.result c.args.plan.now.limit (c.finish-report.ensures.finishes (λ _. knows_opened c.args.plan.now c.in-Ok.runner.host opened)) c.in-Ok.ensures.begun.attempts c.in-Ok.ensures.begun.limit
 
 pub returns-clause-listings : goal.returns-clause-listings
-returns-clause-listings c = ends_plugged c.args.plan.now c.finish.result (returns-clause-ends c)
+returns-clause-listings c = ends_plugged c.args.plan.now c.finish-report.result (returns-clause-ends c)

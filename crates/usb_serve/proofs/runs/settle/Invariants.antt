@@ -1,13 +1,13 @@
 use Rattle.std.proofs.Common.{◌≡◌, false}
 use Rattle.usb_host.specs.Ownership.{Owning}
-use Rattle.usb_serve.specs.RunSegments.{Works}
+use Rattle.usb_serve.specs.RunSegments.{Rounds}
 use Rattle.usb_serve.proofs.RoundEnds.{rounds_left}
 use Rattle.usb_serve.proofs.runs.settle.Given as goal
 
 abbrev pub invariant-rounds : goal.invariant-rounds
 invariant-rounds g l = record {
   running : l.host.stopped ≡ false;
-  goes : Works l.fn.host l.host;
+  goes : Rounds l.fn.host l.host;
   owning : Owning l.fn.host → Owning l.host;
 }
 

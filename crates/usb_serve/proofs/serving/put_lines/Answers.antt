@@ -4,6 +4,7 @@ use Rattle.std.specs.Io.KnownBytes.{Appends}
 use Rattle.std.specs.Prelude.{All}
 use Rattle.usb_bus.specs.Watch.{AppendsFront}
 use Rattle.usb_serve.specs.ServeResults.{IsLine}
+use Rattle.usb_serve.proofs.Causes.{line_calm, line_kept}
 use Rattle.usb_serve.proofs.Transcripts.{texts_split, texts_more, puts_line, cuts_line}
 use Rattle.usb_serve.proofs.serving.put_lines.Goals as goal
 
@@ -22,9 +23,12 @@ returns-in-Err-clause-prints g c =
     let l = c.put_line.new.self.host in
     record {
       done = tt;
-      failed = cuts_line (flat_map (λ x. x.items) (take i vs)) v.items (flat_map (λ x. x.items) (drop (suc i) vs)) (flat_map (λ x. x.items) vs) c.in-Err.fault c.lines.invariant.puts c.put_line.ensures.rests
-          c.in-Err.ensures.step.ends (subst (AppendsFront h.trace l.trace) line c.put_line.ensures.front) (texts_split vs i v c.lines-test.true c.line-item.is);
+      failed = cuts_line (flat_map (λ x. x.items) (take i vs)) v.items (flat_map (λ x. x.items) (drop (suc i) vs)) (flat_map (λ x. x.items) vs) c.in-Err.fault c.lines.invariant.puts c.put_line.ensures.puts.rests
+          c.in-Err.ensures.puts.step.ends (subst (AppendsFront h.trace l.trace) line c.put_line.ensures.puts.front) (texts_split vs i v c.lines-test.true c.line-item.is);
     }
+
+pub returns-in-Err-clause-kept : goal.returns-in-Err-clause-kept
+returns-in-Err-clause-kept g c = line_kept c.in-Err.fault c.report_fault.result c.args.runner.now.host c.lines.runner.host c.put_line.new.self.host c.in-Err.ensures.puts.step c.put_line.ensures.puts.again c.lines.invariant.calm c.report_fault.ensures
 
 pub lines-preserved : goal.lines-preserved
 lines-preserved g c =
@@ -36,7 +40,8 @@ lines-preserved g c =
     let l = c.put_line.new.self.host in
     rw (add-one)
     (record {
-      puts = puts_line (flat_map (λ x. x.items) (take i vs)) v.items (flat_map (λ x. x.items) (take (suc i) vs)) c.lines.invariant.puts c.put_line.ensures.rests
-          c.in_default.ensures.step.ends.1 (subst (Appends h.trace l.trace) line c.in_default.ensures.ok) (texts_more vs i v c.lines-test.true c.line-item.is);
+      puts = puts_line (flat_map (λ x. x.items) (take i vs)) v.items (flat_map (λ x. x.items) (take (suc i) vs)) c.lines.invariant.puts c.put_line.ensures.puts.rests
+          c.in_default.ensures.puts.step.ends.1 (subst (Appends h.trace l.trace) line c.in_default.ensures.puts.ok) (texts_more vs i v c.lines-test.true c.line-item.is);
       over = c.put_line.ensures.over ∙ c.lines.invariant.over;
+      calm = line_calm c.args.runner.now.host h l c.in_default.ensures.puts.step.ends;
     })

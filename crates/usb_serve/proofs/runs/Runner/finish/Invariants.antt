@@ -1,10 +1,12 @@
+use Rattle.std.proofs.Common.{◌≡◌, false}
 use Rattle.usb_serve.specs.Run.{items_left}
+use Rattle.usb_serve.specs.RunSegments.{Knows}
 use Rattle.usb_serve.proofs.ReportedItems.{ReportSoFar}
 use Rattle.usb_serve.proofs.runs.Runner.finish.Given as goal
 
--- the run so far, and its items
+-- the run so far, and its items, where what its host knew was so
 abbrev pub invariant-items : goal.invariant-items
-invariant-items g l = ReportSoFar l.fn.self.over l.fn.self.host l.items.items l.self.over l.self.host
+invariant-items g l = (l.fn.self.over ≡ false → Knows l.fn.self.host) → ReportSoFar l.fn.self.over l.fn.self.host l.items.items l.self.over l.self.host
 
 -- items to come
 abbrev pub decreases-items : goal.decreases-items

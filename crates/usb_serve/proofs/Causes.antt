@@ -1,0 +1,89 @@
+-- Why a run ended: that a fault has its cause, and that the plan's limit stays the bus's.
+use Rattle.std.proofs.Common.{◌≡◌, ◌≢◌, ◌∙◌, refl, sym, ap, subst, inl, inr, List, Bool, Option, None, Some, Result, Ok, Err, IsErrAnd}
+use Rattle.std.specs.Prelude.{◌⊎◌, IfErr, IsSome, is_some}
+use Rattle.usb_world.specs.declared.types.BusFault.{BusFault}
+use Rattle.usb_world.specs.declared.types.BusFault.TheVariants as bus
+use Rattle.usb_world.specs.Steps.{LineEnds, PutLine}
+use Rattle.usb_world.specs.World.{World}
+use Rattle.usb_host.specs.Hosting.{Hosting}
+use Rattle.usb_serve.specs.declared.runs.Item.{Item}
+use Rattle.usb_serve.specs.declared.runs.RunFault.{RunFault}
+use Rattle.usb_serve.specs.declared.runs.RunFault.TheVariants.{TraceFailed}
+use Rattle.usb_serve.specs.declared.serving.Mode.{Mode}
+use Rattle.usb_serve.specs.declared.serving.ServeFault.{ServeFault}
+use Rattle.usb_serve.specs.declared.serving.ServeFault.TheVariants as serve
+use Rattle.usb_serve.specs.Run.{IsCaused, Spent, run_fault}
+use Rattle.usb_serve.specs.ServeResults.{IsCausedInRun, report_fault}
+use Rattle.usb_serve.specs.Transcript.{RunsTo, StoppedRun, behind, on_the_way, unwritten, in_text, Transcript, begun, told}
+use Rattle.usb_serve.proofs.RunParts.{makes_spent, stops_spent}
+
+-- what is so of the fault that is told is so of the result
+pub at_fault : {A E : Type 0} (P : Result A E → Type 0) (result : Result A E) (said : E) → IsErrAnd result (λ e. e ≡ said) → P (Err said) → P result
+at_fault P (Ok done) said is p = absurd is
+at_fault P (Err e) said is p = subst (λ x. P (Err x)) (sym is) p
+
+-- no fault of a trace is told where the bus told none
+pub untold_fault : {A : Type 0} (result : Result A RunFault) (w : World) → IfErr result (λ fault. IsCaused fault w) → w.fault ≢ Some bus.TraceFailed → IfErr result (λ fault. fault ≢ TraceFailed)
+untold_fault (Ok done) w caused other = tt
+untold_fault (Err fault) w caused other = λ is. other (subst (λ f. IsCaused f w) is caused)
+
+pub untold_trace : {A : Type 0} (result : Result A RunFault) (w : World) → IfErr result (λ fault. IsCaused fault w) → w.fault ≢ Some bus.TraceFailed → result ≢ Err TraceFailed
+untold_trace {A} result w caused other is = subst (λ (r : Result A RunFault). IfErr r (λ fault. fault ≢ TraceFailed)) is (untold_fault result w caused other) refl
+
+-- a line that was not written
+pub line_caused : (fault : BusFault) (w : World) → (w.fault ≡ Some bus.LimitReached → w.attempts ≡ w.limit) → w.fault ≡ Some fault → IsCaused (run_fault fault) w
+line_caused bus.LimitReached w at_limit is = (at_limit is, is)
+line_caused bus.Memory w at_limit is = tt
+line_caused bus.TraceFailed w at_limit is = is
+
+pub report_caused : (fault : BusFault) (w : World) → IsCaused (run_fault fault) w → IsCausedInRun (report_fault fault) w
+report_caused bus.LimitReached w caused = caused
+report_caused bus.Memory w caused = tt
+report_caused bus.TraceFailed w caused = caused
+
+pub put_caused : (result : Result (Unit {0}) BusFault) (old new : World) → (new.fault ≡ Some bus.LimitReached → new.attempts ≡ new.limit) → PutLine old result new → IfErr result (λ f. IsCaused (run_fault f) new)
+put_caused (Ok done) old new at_limit step = tt
+put_caused (Err fault) old new at_limit step = line_caused fault new at_limit (ap (λ (w : World). w.fault) step.ends)
+
+-- A line of report is cut only where the writer failed
+
+pub is_write : (fault : ServeFault) → (fault ≡ serve.Write) ⊎ (fault ≢ serve.Write)
+is_write serve.Read = inr (λ e. cc e)
+is_write serve.TooLong = inr (λ e. cc e)
+is_write (serve.Plan fault) = inr (λ e. cc e)
+is_write (serve.Run fault) = inr (λ e. cc e)
+is_write serve.Write = inl refl
+is_write serve.Memory = inr (λ e. cc e)
+
+-- where another fault is told of lines, none of them was written: the bus had told its fault before the first one
+pub line_kept : (fault : BusFault) (said : ServeFault) (first h l : Hosting) → PutLine h.world (Err fault) l.world → (IsSome h.world.fault → l ≡ h) → (h ≡ first) ⊎ (h.world.fault ≡ None) → said ≡ report_fault fault → said ≢ serve.Write → l ≡ first
+line_kept fault said first h l step again calm is other = split h.world.fault refl
+  where
+    split : (x : Option BusFault) → h.world.fault ≡ x → l ≡ first
+    split None e = absurd (other (is ∙ ap report_fault (step.told e)))
+    split (Some before) e = again (ap is_some e) ∙ elim calm [ inl same ↦ same | inr none ↦ absurd (cc (sym none ∙ e)) ]
+
+pub line_calm : (first h l : Hosting) → LineEnds h.world (Ok tt) l.world → (l ≡ first) ⊎ (l.world.fault ≡ None)
+line_calm first h l (none, same) = inr (ap (λ (w : World). w.fault) same ∙ none)
+
+-- The limit stays
+
+abbrev SameLimit : Hosting → Hosting → Type 0
+SameLimit old new = new.world.limit ≡ old.world.limit
+
+spent_limit : (a b : Hosting) → Spent a b → SameLimit a b
+spent_limit a b (n, spends) = spends.limit
+
+transcript_limit : {mode : Mode} {was : Bool} {old : Hosting} {items : List Item} {over : Bool} {new : Hosting} → Transcript mode was old items over new → SameLimit old new
+transcript_limit begun = refl
+transcript_limit (told {h = h} {k = k} {new = new} t makes puts) = ap (λ (x : Hosting). x.world.limit) puts.rest ∙ spent_limit h k (makes_spent makes) ∙ transcript_limit t
+
+stopped_limit : {mode : Mode} {IsOf : RunFault → Type 0} {IsCut : Type 0} {was : Bool} {old : Hosting} {items : List Item} {new : Hosting} → StoppedRun mode IsOf IsCut was old items new → SameLimit old new
+stopped_limit (on_the_way {h = h} {new = new} of t stops) = spent_limit h new (stops_spent stops) ∙ transcript_limit t
+stopped_limit (unwritten {h = h} {new = new} whole t makes) = spent_limit h new (makes_spent makes) ∙ transcript_limit t
+stopped_limit (behind whole t) = transcript_limit t
+stopped_limit (in_text {h = h} {k = k} {new = new} cut t makes cuts) = ap (λ (x : Hosting). x.world.limit) cuts.rest ∙ spent_limit h k (makes_spent makes) ∙ transcript_limit t
+
+pub run_limit : {A E : Type 0} (mode : Mode) (words : RunFault → E) (CutsAt : E → Type 0) (was : Bool) (old : Hosting) (items : List Item) (result : Result A E) (new : Hosting) → RunsTo mode words CutsAt was old items result new → SameLimit old new
+run_limit mode words CutsAt was old items (Ok done) new t = transcript_limit t
+run_limit mode words CutsAt was old items (Err fault) new s = stopped_limit s
