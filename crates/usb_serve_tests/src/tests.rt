@@ -1,12 +1,9 @@
-//! Tests of the words, of packets, and of the rows of plans.
-mod cuts;
-mod damage;
-mod devices;
-mod events;
+//! Tests of the words, of plans, and of readers and writers that fail.
+mod frail;
 mod hubs;
-mod losses;
-mod packets;
+mod readers;
 mod rows;
 mod serving;
 mod transfers;
 mod words;
+mod writers;

@@ -10,7 +10,7 @@ use std::alloc::{AllocError, Global};
 use std::str;
 use std::test::Fail;
 use usb_bench::{plan_text, plugged, trace_of};
-use usb_bus::{BusFault, SimBus};
+use usb_bus::{BusFault, SimBus, Tracer};
 use usb_packet::Toggle;
 use usb_port::PortPath;
 use usb_transaction::{Done, Target, TransFault, data_in, data_out, poll_in, setup};
@@ -103,7 +103,7 @@ fn polled(answer: Result<Done, TransFault>) -> Result<Option<Done>, TransFault> 
 
 /// What a call answers, of whose bytes the first 8 are sent; None of a poll that brings no packet.
 fn answer_to(
-    bus: &mut SimBus<Vec<u8>>,
+    bus: &mut SimBus<Tracer<Vec<u8>>>,
     call: Call,
     endpoint: Endpoint,
     toggle: &mut Toggle,
@@ -137,14 +137,18 @@ fn text_of(alloc: Global, answer: Result<Option<Done>, TransFault>) -> Result<St
 }
 
 /// The line that a step tells.
-fn line_of(alloc: Global, bus: &mut SimBus<Vec<u8>>, step: Step) -> Result<String, AllocError> {
+fn line_of(
+    alloc: Global,
+    bus: &mut SimBus<Tracer<Vec<u8>>>,
+    step: Step,
+) -> Result<String, AllocError> {
     let (call, endpoint, mut toggle) = step;
     let answer = text_of(alloc, answer_to(bus, call, endpoint, &mut toggle))?;
     format!(in alloc; "{answer} {toggle:?} {}\n", bus.attempts())
 }
 
 /// The line that tells what the bulk OUT endpoint took.
-fn sink_line(alloc: Global, bus: &SimBus<Vec<u8>>) -> Result<String, AllocError> {
+fn sink_line(alloc: Global, bus: &SimBus<Tracer<Vec<u8>>>) -> Result<String, AllocError> {
     let path = PortPath::root(1).unwrap();
     let taken = hex_of(alloc, bus.sink(&path).unwrap_or(&[]))?;
     format!(in alloc; "taken {taken}\n")
@@ -152,7 +156,7 @@ fn sink_line(alloc: Global, bus: &SimBus<Vec<u8>>) -> Result<String, AllocError>
 
 fn lines_of(
     alloc: Global,
-    bus: &mut SimBus<Vec<u8>>,
+    bus: &mut SimBus<Tracer<Vec<u8>>>,
     steps: &[Step],
 ) -> Result<String, AllocError> {
     let mut lines = String::new(alloc);

@@ -8,7 +8,7 @@ use std::alloc::{AllocError, Global};
 use std::str;
 use std::test::Fail;
 use usb_bench::{plugged, trace_of};
-use usb_bus::{Damage, Harm, SimBus};
+use usb_bus::{Damage, Harm, SimBus, Tracer};
 
 /// The damage to a packet of one of the attempts SETUP, IN and OUT, and what that attempt tells and its line.
 #[derive(Clone, Copy)]
@@ -276,7 +276,7 @@ const DAMAGES: &[Damaged] = &[
 /// Makes three attempts; what the one of a number told.
 fn attempt_told(
     alloc: Global,
-    bus: &mut SimBus<Vec<u8>>,
+    bus: &mut SimBus<Tracer<Vec<u8>>>,
     number: u64,
 ) -> Result<String, AllocError> {
     let mut words = String::new(alloc);

@@ -7,7 +7,7 @@ use super::step::{Step, told};
 use std::alloc::{AllocError, Global};
 use std::test::Fail;
 use usb_bench::{bus_of, trace_of};
-use usb_bus::SimBus;
+use usb_bus::{SimBus, Tracer};
 
 const PLUG_BULK: &str = r#"
 [[event]]
@@ -89,7 +89,7 @@ fn steps_behind(words: &str) -> Option<&'static [Told<'static>]> {
 }
 
 /// Sends two bytes to the function; what went otherwise than the row of what this told wants.
-fn sent_otherwise(alloc: Global, bus: &mut SimBus<Vec<u8>>) -> Result<String, AllocError> {
+fn sent_otherwise(alloc: Global, bus: &mut SimBus<Tracer<Vec<u8>>>) -> Result<String, AllocError> {
     let words = otherwise(alloc, bus, CONFIGURED, &[])?;
     if !words.is_empty() {
         return Ok(words);

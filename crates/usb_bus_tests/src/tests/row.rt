@@ -2,11 +2,10 @@
 
 use super::step::{Step, told};
 use std::alloc::{AllocError, Global};
-use std::io::Write;
 use std::str;
 use std::test::Fail;
 use usb_bench::{bus_of, trace_of};
-use usb_bus::{Damage, Harm, SimBus};
+use usb_bus::{Damage, Harm, SimBus, Trace};
 
 /// A step and what it tells.
 pub(super) type Told<'a> = (Step, &'a str);
@@ -60,9 +59,9 @@ pub(super) fn went_otherwise(
 }
 
 /// Does the steps, and tells which of them told otherwise than wanted.
-pub(super) fn otherwise<W: Write>(
+pub(super) fn otherwise<T: Trace>(
     alloc: Global,
-    bus: &mut SimBus<W>,
+    bus: &mut SimBus<T>,
     opening: &[Told<'_>],
     steps: &[Told<'_>],
 ) -> Result<String, AllocError> {
@@ -72,10 +71,10 @@ pub(super) fn otherwise<W: Write>(
     Ok(all)
 }
 
-fn push_otherwise<W: Write>(
+fn push_otherwise<T: Trace>(
     alloc: Global,
     all: &mut String,
-    bus: &mut SimBus<W>,
+    bus: &mut SimBus<T>,
     steps: &[Told<'_>],
 ) -> Result<(), AllocError> {
     for (step, wanted) in steps {

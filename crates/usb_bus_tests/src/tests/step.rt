@@ -2,8 +2,7 @@
 
 use arrayvec::ArrayVec;
 use std::alloc::{AllocError, Global};
-use std::io::Write;
-use usb_bus::{Attempt, Bus, BusFault, Due, Outcome, SimBus};
+use usb_bus::{Attempt, Bus, BusFault, Due, Outcome, SimBus, Trace};
 use usb_packet::{Toggle, TokenKind};
 use usb_port::PortPath;
 
@@ -53,9 +52,9 @@ pub(super) enum Step {
 }
 
 /// Does a step, and tells what came of it.
-pub(super) fn told<W: Write>(
+pub(super) fn told<T: Trace>(
     alloc: Global,
-    bus: &mut SimBus<W>,
+    bus: &mut SimBus<T>,
     step: Step,
 ) -> Result<String, AllocError> {
     match step {
@@ -78,7 +77,7 @@ pub(super) fn told<W: Write>(
 }
 
 /// Makes the attempts of a step; the last one's outcome.
-fn attempted<W: Write>(bus: &mut SimBus<W>, step: Step) -> Result<Outcome, BusFault> {
+fn attempted<T: Trace>(bus: &mut SimBus<T>, step: Step) -> Result<Outcome, BusFault> {
     match step {
         Step::Setup(speed, addr, bytes) => setup(bus, speed, addr, bytes),
         Step::In(speed, addr) => take(bus, speed, addr, 0, whole(speed)),
@@ -92,8 +91,8 @@ fn attempted<W: Write>(bus: &mut SimBus<W>, step: Step) -> Result<Outcome, BusFa
     }
 }
 
-fn reads<W: Write>(
-    bus: &mut SimBus<W>,
+fn reads<T: Trace>(
+    bus: &mut SimBus<T>,
     speed: Speed,
     addr: u8,
     request: [u8; 8],
@@ -106,8 +105,8 @@ fn reads<W: Write>(
     out(bus, speed, addr)
 }
 
-fn asks<W: Write>(
-    bus: &mut SimBus<W>,
+fn asks<T: Trace>(
+    bus: &mut SimBus<T>,
     speed: Speed,
     addr: u8,
     request: [u8; 8],
@@ -124,8 +123,8 @@ fn whole(speed: Speed) -> u8 {
     }
 }
 
-fn setup<W: Write>(
-    bus: &mut SimBus<W>,
+fn setup<T: Trace>(
+    bus: &mut SimBus<T>,
     speed: Speed,
     addr: u8,
     bytes: [u8; 8],
@@ -143,8 +142,8 @@ fn setup<W: Write>(
     })
 }
 
-fn take<W: Write>(
-    bus: &mut SimBus<W>,
+fn take<T: Trace>(
+    bus: &mut SimBus<T>,
     speed: Speed,
     addr: u8,
     ep: u8,
@@ -161,7 +160,7 @@ fn take<W: Write>(
     })
 }
 
-fn out<W: Write>(bus: &mut SimBus<W>, speed: Speed, addr: u8) -> Result<Outcome, BusFault> {
+fn out<T: Trace>(bus: &mut SimBus<T>, speed: Speed, addr: u8) -> Result<Outcome, BusFault> {
     bus.attempt(&Attempt {
         kind: TokenKind::OutTok,
         addr: addr % 128,
@@ -174,7 +173,7 @@ fn out<W: Write>(bus: &mut SimBus<W>, speed: Speed, addr: u8) -> Result<Outcome,
 }
 
 /// OUT of two bytes at endpoint 2 of address 1.
-pub(super) fn bulk_out<W: Write>(bus: &mut SimBus<W>) -> Result<Outcome, BusFault> {
+pub(super) fn bulk_out<T: Trace>(bus: &mut SimBus<T>) -> Result<Outcome, BusFault> {
     let mut payload = ArrayVec::new();
     payload.try_extend_from_slice(&[7, 8]).unwrap();
     bus.attempt(&Attempt {
@@ -189,26 +188,26 @@ pub(super) fn bulk_out<W: Write>(bus: &mut SimBus<W>) -> Result<Outcome, BusFaul
 }
 
 /// Gives power to a root port and resets its device, and clears the changes.
-fn reset<W: Write>(bus: &mut SimBus<W>, port: u8) {
+fn reset<T: Trace>(bus: &mut SimBus<T>, port: u8) {
     set(bus, port, 8);
     clear(bus, port, 16);
     set(bus, port, 4);
     clear(bus, port, 20);
 }
 
-fn set<W: Write>(bus: &mut SimBus<W>, port: u8, feature: u16) {
+fn set<T: Trace>(bus: &mut SimBus<T>, port: u8, feature: u16) {
     if port >= 1 && port <= bus.root_ports() && (feature == 4 || feature == 8) {
         bus.root_set(port, feature);
     }
 }
 
-fn clear<W: Write>(bus: &mut SimBus<W>, port: u8, feature: u16) {
+fn clear<T: Trace>(bus: &mut SimBus<T>, port: u8, feature: u16) {
     if port >= 1 && port <= bus.root_ports() && (feature == 16 || feature == 20) {
         bus.root_clear(port, feature);
     }
 }
 
-fn status<W: Write>(bus: &SimBus<W>, port: u8) -> [u8; 4] {
+fn status<T: Trace>(bus: &SimBus<T>, port: u8) -> [u8; 4] {
     if port >= 1 && port <= bus.root_ports() {
         return bus.root_status(port);
     }
@@ -257,7 +256,7 @@ fn due_told(alloc: Global, due: &Due) -> Result<String, AllocError> {
     }
 }
 
-fn counts_told<W: Write>(alloc: Global, bus: &SimBus<W>) -> Result<String, AllocError> {
+fn counts_told<T: Trace>(alloc: Global, bus: &SimBus<T>) -> Result<String, AllocError> {
     format!(in alloc;
         "attempts {}, events {} of {}, losses {}, worst {}",
         bus.attempts(),
@@ -268,9 +267,9 @@ fn counts_told<W: Write>(alloc: Global, bus: &SimBus<W>) -> Result<String, Alloc
     )
 }
 
-fn registers_told<W: Write>(
+fn registers_told<T: Trace>(
     alloc: Global,
-    bus: &SimBus<W>,
+    bus: &SimBus<T>,
     path: &str,
 ) -> Result<String, AllocError> {
     match PortPath::from_text(path) {
@@ -279,7 +278,7 @@ fn registers_told<W: Write>(
     }
 }
 
-fn sink_told<W: Write>(alloc: Global, bus: &SimBus<W>, path: &str) -> Result<String, AllocError> {
+fn sink_told<T: Trace>(alloc: Global, bus: &SimBus<T>, path: &str) -> Result<String, AllocError> {
     match PortPath::from_text(path) {
         None => String::from_str(alloc, "no path"),
         Some(path) => format!(in alloc; "{:?}", bus.sink(&path)),

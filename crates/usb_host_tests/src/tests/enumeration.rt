@@ -2,7 +2,7 @@
 use std::alloc::{AllocError, Global};
 use std::test::Fail;
 use usb_bench::{bus_of, plan_text};
-use usb_bus::{Bus, SimBus};
+use usb_bus::{Bus, SimBus, Tracer};
 use usb_enum::{Accepted, Cause, Finding, Request, enumerate};
 use usb_hub::{HubPort, port_status, set_port};
 use usb_request::feature::PORT_POWER;
@@ -91,7 +91,7 @@ configs = []
 ];
 
 /// Gives power to root port 1, and lets the next event come.
-fn power(bus: &mut SimBus<Vec<u8>>) -> Result<(), Fail> {
+fn power(bus: &mut SimBus<Tracer<Vec<u8>>>) -> Result<(), Fail> {
     let roots = bus.root_ports();
     prove!(roots >= 1);
     set_port(bus, PORT, PORT_POWER)?;
@@ -131,7 +131,7 @@ fn finding_told(alloc: Global, finding: &Finding) -> Result<String, Fail> {
 }
 
 /// Whether root port 1 is enabled.
-fn is_enabled(alloc: Global, bus: &mut SimBus<Vec<u8>>) -> bool {
+fn is_enabled(alloc: Global, bus: &mut SimBus<Tracer<Vec<u8>>>) -> bool {
     let roots = bus.root_ports();
     prove!(roots >= 1);
     match port_status(alloc, bus, PORT) {
@@ -141,7 +141,7 @@ fn is_enabled(alloc: Global, bus: &mut SimBus<Vec<u8>>) -> bool {
 }
 
 /// What is found, and what the port and the free addresses are then.
-fn found(alloc: Global, bus: &mut SimBus<Vec<u8>>, supply: u16) -> Result<String, Fail> {
+fn found(alloc: Global, bus: &mut SimBus<Tracer<Vec<u8>>>, supply: u16) -> Result<String, Fail> {
     let mut pool = AddressPool::new();
     let roots = bus.root_ports();
     prove!(roots >= 1);
@@ -154,7 +154,7 @@ fn found(alloc: Global, bus: &mut SimBus<Vec<u8>>, supply: u16) -> Result<String
 }
 
 /// The same, where the device is plugged if the port has power.
-fn found_for(alloc: Global, bus: &mut SimBus<Vec<u8>>, row: &Row) -> Result<String, Fail> {
+fn found_for(alloc: Global, bus: &mut SimBus<Tracer<Vec<u8>>>, row: &Row) -> Result<String, Fail> {
     if row.powered {
         power(bus)?;
     }

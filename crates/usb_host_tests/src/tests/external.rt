@@ -3,7 +3,7 @@ use super::hub::{bits, done, read, target};
 use std::alloc::{AllocError, Global};
 use std::test::Fail;
 use usb_bench::{plan_text, plugged, trace_of};
-use usb_bus::SimBus;
+use usb_bus::{SimBus, Tracer};
 use usb_hub::{
     DeviceStatus, PipeFault, clear_hub_port, get_status, hub_descriptor, hub_port_status,
     set_address, set_configuration, set_hub_port,
@@ -174,7 +174,11 @@ fn status_told(
     }
 }
 
-fn told(alloc: Global, bus: &mut SimBus<Vec<u8>>, call: Call) -> Result<String, AllocError> {
+fn told(
+    alloc: Global,
+    bus: &mut SimBus<Tracer<Vec<u8>>>,
+    call: Call,
+) -> Result<String, AllocError> {
     let hub = target(1, 64);
     match call {
         Call::Address => done(alloc, set_address(bus, target(0, 8), 1)),
@@ -193,7 +197,7 @@ fn told(alloc: Global, bus: &mut SimBus<Vec<u8>>, call: Call) -> Result<String, 
 /// The first call of a row that tells something else, and what it tells.
 fn first_other(
     alloc: Global,
-    bus: &mut SimBus<Vec<u8>>,
+    bus: &mut SimBus<Tracer<Vec<u8>>>,
     row: &Row,
 ) -> Result<Option<String>, AllocError> {
     for (call, wanted) in row.calls {

@@ -2,7 +2,7 @@
 use std::alloc::{AllocError, Global};
 use std::test::Fail;
 use usb_bench::{bus_of, plan_text};
-use usb_bus::SimBus;
+use usb_bus::{SimBus, Tracer};
 use usb_enum::Finding;
 use usb_host::Host;
 use usb_port::PortPath;
@@ -74,7 +74,7 @@ const ROWS: &[Row] = &[
     },
 ];
 
-type TestHost = Host<SimBus<Vec<u8>>>;
+type TestHost = Host<SimBus<Tracer<Vec<u8>>>>;
 
 fn host_for(alloc: Global, row: &Row) -> Result<TestHost, Fail> {
     let text = plan_text(alloc, row.limit, &[SILENT, row.speed, EVENTS])?;

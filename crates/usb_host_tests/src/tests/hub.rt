@@ -5,7 +5,7 @@ ghost use Rattle.usb_transaction.specs.Transactions.{IsTarget};
 use std::alloc::{AllocError, Global};
 use std::test::Fail;
 use usb_bench::{bus_of, plan_text, trace_of};
-use usb_bus::{Bus, SimBus};
+use usb_bus::{Bus, SimBus, Tracer};
 use usb_hub::{
     HubPort, PipeFault, PortStatus, Target, clear_port, get_config, get_device, get_string,
     port_status, set_address, set_configuration, set_port,
@@ -185,7 +185,11 @@ pub(super) fn bits(alloc: Global, status: PortStatus) -> Result<String, AllocErr
     Ok(text)
 }
 
-fn port_told(alloc: Global, bus: &mut SimBus<Vec<u8>>, call: Call) -> Result<String, AllocError> {
+fn port_told(
+    alloc: Global,
+    bus: &mut SimBus<Tracer<Vec<u8>>>,
+    call: Call,
+) -> Result<String, AllocError> {
     let roots = bus.root_ports();
     prove!(roots >= 1);
     match call {
@@ -200,7 +204,11 @@ fn port_told(alloc: Global, bus: &mut SimBus<Vec<u8>>, call: Call) -> Result<Str
     }
 }
 
-fn told(alloc: Global, bus: &mut SimBus<Vec<u8>>, call: Call) -> Result<String, AllocError> {
+fn told(
+    alloc: Global,
+    bus: &mut SimBus<Tracer<Vec<u8>>>,
+    call: Call,
+) -> Result<String, AllocError> {
     let new = target(0, 8);
     let addressed = target(1, 64);
     match call {
@@ -219,7 +227,10 @@ fn told(alloc: Global, bus: &mut SimBus<Vec<u8>>, call: Call) -> Result<String, 
 }
 
 /// The first call that tells something else than its row, and what it tells.
-fn first_other(alloc: Global, bus: &mut SimBus<Vec<u8>>) -> Result<Option<String>, AllocError> {
+fn first_other(
+    alloc: Global,
+    bus: &mut SimBus<Tracer<Vec<u8>>>,
+) -> Result<Option<String>, AllocError> {
     for row in ROWS {
         let told = told(alloc, bus, row.call)?;
         if told.as_str() != row.told {

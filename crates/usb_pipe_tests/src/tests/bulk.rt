@@ -5,7 +5,7 @@ use super::plans::{BULK, Hit, SMALL_BULK, bus_of};
 use super::ready::{TARGET, Told, make_ready, tell, told};
 use std::alloc::{AllocError, Global};
 use std::test::Fail;
-use usb_bus::SimBus;
+use usb_bus::{SimBus, Tracer};
 use usb_pipe::{BulkPipe, Bus, PipeFault};
 
 /// A call of one of the two pipes to an endpoint.
@@ -428,7 +428,7 @@ fn a_pipe_moves_bytes(rt: HostRuntime) -> Result<(), Fail> {
 /// makes, and how many bytes come once the pipe was cleared.
 fn behind_a_refusal(
     alloc: Global,
-    bus: &mut SimBus<Vec<u8>>,
+    bus: &mut SimBus<Tracer<Vec<u8>>>,
     pipe: &mut BulkPipe,
 ) -> Result<(Option<PipeFault>, u64, usize), PipeFault>
     requires { pipe.old.is_in ≡ true }
@@ -441,7 +441,7 @@ fn behind_a_refusal(
 }
 
 /// Whether the first packet comes, or what comes behind a refusal is right.
-fn came(alloc: Global, bus: &mut SimBus<Vec<u8>>) -> Result<bool, PipeFault> {
+fn came(alloc: Global, bus: &mut SimBus<Tracer<Vec<u8>>>) -> Result<bool, PipeFault> {
     make_ready(alloc, bus, TARGET)?;
     let mut pipe = pipe_to(2, 8, true);
     match pipe.receive(alloc, bus, 1) {

@@ -3,7 +3,7 @@
 use std::alloc::{AllocError, Global};
 use std::test::Fail;
 use usb_bench::{plan_text, plugged};
-use usb_bus::SimBus;
+use usb_bus::{SimBus, Tracer};
 
 /// A function with one interface and no endpoints.
 pub(super) const FUNCTION: &str = r#"
@@ -102,7 +102,7 @@ pub(super) fn bus_of(
     device: &str,
     quirk: &str,
     hits: &[Hit],
-) -> Result<SimBus<Vec<u8>>, Fail> {
+) -> Result<SimBus<Tracer<Vec<u8>>>, Fail> {
     let damages = damages(alloc, hits)?;
     let text = plan_text(alloc, limit, &[device, quirk, damages.as_str()])?;
     Ok(plugged(alloc, text.as_str())?)

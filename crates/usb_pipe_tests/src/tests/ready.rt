@@ -4,7 +4,7 @@ ghost use Rattle.usb_transaction.specs.Transactions.{IsTarget};
 use std::alloc::Global;
 use std::test::Fail;
 use usb_bench::trace_of;
-use usb_bus::SimBus;
+use usb_bus::{SimBus, Tracer};
 use usb_pipe::{Bus, PipeFault, Setup, Target, control_in, control_none};
 
 /// A full-speed device at address 1.
@@ -116,7 +116,7 @@ pub(super) type Told = (String, u64, String);
 pub(super) fn told(
     alloc: Global,
     answers: String,
-    bus: SimBus<Vec<u8>>,
+    bus: SimBus<Tracer<Vec<u8>>>,
     from: usize,
 ) -> Result<Told, Fail> {
     let attempts = bus.attempts();

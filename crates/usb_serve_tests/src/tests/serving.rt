@@ -1,16 +1,10 @@
 //! What `serve` writes of a plan, and what `run` counts.
-use super::damage::DAMAGED;
-use super::devices::DEVICES;
-use super::events::EVENTS;
-use super::losses::LOSSES;
-use super::rows::{ROWS, Row};
+use super::rows::ONE_FUNCTION;
 use std::alloc::{AllocError, Global};
 use std::test::Fail;
 use usb_bus::Watched;
 use usb_plan::read_plan;
 use usb_serve::{Mode, ServeFault, run, serve};
-
-const PLANS: [&[Row]; 5] = [&ROWS, &DEVICES, &EVENTS, &DAMAGED, &LOSSES];
 
 /// How what is written of a plan compares with what is wanted.
 #[derive(Clone, Copy, Debug, PartialEq)]
@@ -53,50 +47,6 @@ pub(super) fn compared(
     Ok(Shown::AsWanted)
 }
 
-/// How what is written of a row's plan compares with the row.
-fn row_compared(alloc: Global, mode: Mode, row: &Row) -> Result<Shown, AllocError> {
-    let text = match mode {
-        Mode::Run => row.run,
-        Mode::Tree => row.tree,
-    };
-    compared(alloc, mode, row.plan, text, row.fault)
-}
-
-#[test]
-fn plans_are_run_and_listed(rt: HostRuntime) -> Result<(), Fail> {
-    for rows in PLANS {
-        for row in rows {
-            let run = row_compared(rt.alloc(), Mode::Run, row)?;
-            assert_eq!(rt; run, Shown::AsWanted, "run: {}", row.name);
-            let tree = row_compared(rt.alloc(), Mode::Tree, row)?;
-            assert_eq!(rt; tree, Shown::AsWanted, "tree: {}", row.name);
-        }
-    }
-    Ok(())
-}
-
-/// How often the writer was called for a plan's listings, and how many lines it took.
-fn writes_and_lines(alloc: Global, plan: &str) -> (u64, usize) {
-    let mut reader = Watched::new(plan.as_bytes());
-    let (_, writer) = serve(
-        alloc,
-        Mode::Tree,
-        &mut reader,
-        Watched::new(Vec::new(alloc)),
-    );
-    let writes = writer.calls();
-    let text = writer.into_inner();
-    (writes, text.iter().filter(|byte| **byte == b'\n').count())
-}
-
-#[test]
-fn each_line_of_a_tree_is_one_write(rt: HostRuntime) {
-    for row in &DEVICES {
-        let (writes, lines) = writes_and_lines(rt.alloc(), row.plan);
-        assert_eq!(rt; writes, lines as u64, "{}", row.name);
-    }
-}
-
 /// How many listings, attempts and address losses a run had, and how many of these in the worst enumeration.
 #[derive(Clone, Copy, Debug, PartialEq)]
 struct Counts {
@@ -106,25 +56,70 @@ struct Counts {
     worst: u32,
 }
 
-/// The counts of the rows of lost handshakes.
-const WANTED: [Counts; 3] = [
-    Counts {
-        listings: 1,
-        attempts: 24,
-        losses: 1,
-        worst: 1,
+/// The damages of a plan in which SET_ADDRESS loses its last handshake, and the counts of its run.
+#[derive(Clone, Copy)]
+struct Loss {
+    damages: &'static str,
+    counts: Counts,
+}
+
+const LOSSES: [Loss; 3] = [
+    Loss {
+        damages: r#"
+[[damage]]
+attempt = 5
+packet = 3
+how = "lose"
+"#,
+        counts: Counts {
+            listings: 1,
+            attempts: 24,
+            losses: 1,
+            worst: 1,
+        },
     },
-    Counts {
-        listings: 1,
-        attempts: 32,
-        losses: 2,
-        worst: 2,
+    Loss {
+        damages: r#"
+[[damage]]
+attempt = 5
+packet = 3
+how = "lose"
+
+[[damage]]
+attempt = 13
+packet = 3
+how = "lose"
+"#,
+        counts: Counts {
+            listings: 1,
+            attempts: 32,
+            losses: 2,
+            worst: 2,
+        },
     },
-    Counts {
-        listings: 1,
-        attempts: 24,
-        losses: 3,
-        worst: 3,
+    Loss {
+        damages: r#"
+[[damage]]
+attempt = 5
+packet = 3
+how = "lose"
+
+[[damage]]
+attempt = 13
+packet = 3
+how = "lose"
+
+[[damage]]
+attempt = 21
+packet = 3
+how = "lose"
+"#,
+        counts: Counts {
+            listings: 1,
+            attempts: 24,
+            losses: 3,
+            worst: 3,
+        },
     },
 ];
 
@@ -145,8 +140,11 @@ fn counted(alloc: Global, text: &str) -> Option<Counts> {
 }
 
 #[test]
-fn a_report_counts_the_losses(rt: HostRuntime) {
-    for (row, want) in LOSSES.iter().zip(WANTED) {
-        assert_eq!(rt; counted(rt.alloc(), row.plan), Some(want), "{}", row.name);
+fn a_report_counts_the_losses(rt: HostRuntime) -> Result<(), Fail> {
+    for loss in &LOSSES {
+        let plan = format!(in rt.alloc(); "{}{}", ONE_FUNCTION.plan, loss.damages)?;
+        let counts = counted(rt.alloc(), plan.as_str());
+        assert_eq!(rt; counts, Some(loss.counts), "{} losses", loss.counts.losses);
     }
+    Ok(())
 }

@@ -1,0 +1,90 @@
+//! Readers and writers that give or take little at once, and fail.
+use std::io;
+use std::io::{Error, ErrorKind, Read, Write};
+
+/// What a writer does at one of its calls in place of taking a piece.
+#[derive(Clone, Copy, Debug)]
+pub(super) enum Trouble {
+    /// It answers an error.
+    Fails,
+    /// It takes nothing.
+    TakesNothing,
+    /// It takes one byte.
+    TakesOne,
+}
+
+/// A writer of so many bytes at once, with trouble behind so many calls. The calls after that are as those before.
+#[derive(Drop)]
+pub(super) struct Frail {
+    pub(super) taken: Vec<u8>,
+    pub(super) at_once: usize,
+    pub(super) writes_left: u64,
+    pub(super) trouble: Trouble,
+}
+
+impl Write for Frail {
+    ghost use Rattle.std.specs.Prelude.{Some};
+
+    ghost contents = { λ f. Some f.taken.items };
+
+    fn write(&mut self, buf: &[u8]) -> io::Result<usize> {
+        let most = match (self.writes_left, self.trouble) {
+            (0, Trouble::Fails) => {
+                self.writes_left = u64::MAX;
+                return Err(Error::from(ErrorKind::Other));
+            }
+            (0, Trouble::TakesNothing) => 0,
+            (0, Trouble::TakesOne) => 1,
+            _ => self.at_once,
+        };
+        self.writes_left = self.writes_left.wrapping_sub(1);
+        let count = buf.len().min(most);
+        self.taken.extend_from_slice(&buf[..count])?;
+        Ok(count)
+    }
+
+    fn flush(&mut self) -> io::Result<()> {
+        Ok(())
+    }
+}
+
+/// A reader of so many bytes at once, one of whose calls fails, behind so many. The calls after that are as those before.
+#[derive(Drop)]
+pub(super) struct Torn {
+    pub(super) text: &'static [u8],
+    pub(super) at_once: usize,
+    pub(super) reads_left: u64,
+}
+
+impl Read for Torn {
+    fn read(&mut self, buf: &mut [u8]) -> io::Result<usize> {
+        let fails = self.reads_left == 0;
+        self.reads_left = self.reads_left.wrapping_sub(1);
+        if fails {
+            return Err(Error::from(ErrorKind::Other));
+        }
+        let most = buf.len().min(self.at_once);
+        self.text.read(&mut buf[..most])
+    }
+}
+
+/// A reader of so many bytes at once: those of a text, and then so many number signs.
+#[derive(Drop)]
+pub(super) struct Long {
+    pub(super) text: &'static [u8],
+    pub(super) signs: usize,
+    pub(super) at_once: usize,
+}
+
+impl Read for Long {
+    fn read(&mut self, buf: &mut [u8]) -> io::Result<usize> {
+        let most = buf.len().min(self.at_once);
+        if !self.text.is_empty() {
+            return self.text.read(&mut buf[..most]);
+        }
+        let count = most.min(self.signs);
+        buf[..count].fill(b'#');
+        self.signs -= count;
+        Ok(count)
+    }
+}
