@@ -61,7 +61,7 @@ fn printed(alloc: Global, plan: &Plan) -> Result<String, AllocError> {
 }
 
 /// What a text is told to be: its fault in words, or all that the plan holds.
-pub fn read(alloc: Global, text: &str) -> Result<String, AllocError> {
+pub(crate) fn read(alloc: Global, text: &str) -> Result<String, AllocError> {
     match read_plan(alloc, text) {
         Ok(plan) => printed(alloc, &plan),
         Err(fault) => fault.to_string(alloc),
