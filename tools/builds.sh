@@ -23,7 +23,7 @@ toolchain() {
   if [ -r "$file" ]; then
     cat "$file"
   else
-    "$rt" version
+    "$rt" version 2>/dev/null
   fi
 }
 
@@ -41,7 +41,7 @@ digest() {
 # Sets `proved` and `unproved`: where executables of the sources as they stand are kept.
 name_builds() {
   local of
-  of=$(digest)
+  of=$(digest) || exit 5
   proved=$kept/proved-$of
   unproved=$kept/unproved-$of
 }
