@@ -1,8 +1,8 @@
-# What `usbplan` and `tools/prove` share: names of the executables that are kept, and how one is kept. The caller sets `here`,
-# the top of the checkout.
+# What `usbplan` and `tools/prove` share: names of the executables that are kept, and how one is kept. The caller sets
+# `here`, the top of the checkout.
 #
-# An executable's name has the digest of all that it is made of: the files below crates/, but for what `rt` leaves in out/,
-# crates.txt, and the toolchain's version. One that is there under the name of now is of the sources as they stand.
+# An executable's name has the digest of all that it is made of: the files below crates/, but for what `rt` leaves in
+# out/, crates.txt, and the toolchain's version. One that is there under the name of now is of the sources as they stand.
 
 kept=$here/.build
 crate=$here/crates/usb_main
@@ -91,9 +91,9 @@ clear_line() {
 # Keeps an executable that works on one packet, in place of those of other sources, if these are still the sources.
 keep() {
   local one=$1 at=$2
-  [ -f "$one" ] || stop "the program was compiled, but its executable was not caught: call again"
+  [ -f "$one" ] || stop "the program was made, but its executable was not caught: call again"
   chmod 755 "$one"
-  [ "$("$one" <"$crate/stdin" 2>/dev/null)" = "$(cat "$crate/stdout")" ] || stop "the program was compiled, but does not work"
+  [ "$("$one" <"$crate/stdin" 2>/dev/null)" = "$(cat "$crate/stdout")" ] || stop "the program was made, but does not work"
   name_builds
   [ "$at" = "$proved" ] || [ "$at" = "$unproved" ] || stop "the sources changed while the program was made: call again"
   find "$kept" -maxdepth 1 -type f -name "$(basename "${at%-*}")-*" -delete
