@@ -1,0 +1,7 @@
+mod Bytes
+mod Devices
+mod HaltedSends
+mod Items
+mod Starts
+mod Stretches
+mod Streams

@@ -1,0 +1,95 @@
+-- What a host knows over a stretch, and a run as a stretch.
+use Rattle.std.proofs.Common.{◌≡◌, refl, sym, ap, subst, Bool, false, ℕ, List, [], ◌∷◌, Option, Some, Result, Ok}
+use Rattle.std.specs.Prelude.{is_some}
+use Rattle.usb_world.specs.declared.event.Due.{Due}
+use Rattle.usb_world.specs.declared.event.Due.TheVariants.{Changed, Show, Send, Receive, Clear}
+use Rattle.usb_address.proofs.Interface.{event_keeps}
+use Rattle.usb_host.specs.declared.fault.HostFault.{HostFault}
+use Rattle.usb_host.specs.declared.host.Round.{Round}
+use Rattle.usb_host.specs.Hosting.{Hosting}
+use Rattle.usb_host.specs.Soundness.{StaysSound}
+use Rattle.usb_host.proofs.Interface.{sound_event, sound_none}
+use Rattle.usb_serve.specs.declared.runs.Item.{Item}
+use Rattle.usb_serve.specs.declared.serving.Mode.{Mode}
+use Rattle.usb_serve.specs.RunSegments.{Comes, Knows, Ran, idle, changed as ran_changed, Rounds, none, more as one_more, RoundTells, Settles}
+use Rattle.usb_serve.specs.Transcript.{AppendsText, Makes, asked, last, Transcript, begun as run_begun, told as run_told, shown}
+use Rattle.usb_serve.specs.Transfers.{IsItemOf, TransferTells}
+use Rattle.usb_serve.proofs.KnowledgeKept.{knows_then, puts_knows}
+use Rattle.usb_serve.proofs.RunCourses.{Onward, called_onward, comes_onward, puts_onward}
+use Rattle.usb_serve.proofs.RunParts.{item_called, round_called}
+use Rattle.usb_streams.specs.Stretches.{IsStretch, LiesBetween, round, changed, wrote, Stretch, begun, further, more, Told}
+
+-- A part
+
+came_stays : (h k : Hosting) (due : Option Due) → Comes h (Ok due) k → StaysSound h k
+came_stays h k due comes =
+    let takes = comes.takes in
+    sound_event h k comes.agrees (ap (λ (x : Hosting). x.entries) comes.rests) (ap (λ (x : Hosting). x.pipes) comes.rests) takes.exact
+    (event_keeps h.world (Ok due) k.world takes.took takes.exact takes.kept takes.cut (λ reached none. cc (ap is_some none, takes.limit reached)))
+
+pub came_knows : (h k : Hosting) (due : Option Due) → Comes h (Ok due) k → Knows h → Knows k
+came_knows h k due comes s = knows_then h k (comes_onward comes) (came_stays h k due comes) s
+
+pub between_onward : {a b : Hosting} → LiesBetween a b → Onward a.world b.world
+between_onward (round done tells) = called_onward (round_called tells)
+between_onward (changed comes) = comes_onward comes
+between_onward (wrote text puts) = puts_onward puts
+
+pub round_knows : {a b : Hosting} {done : Round} → RoundTells a (Ok done) b → Knows a → Knows b
+round_knows {a} {b} tells s = knows_then a b (called_onward (round_called tells)) tells.keeps.sound.keeps.sound s
+
+pub between_knows : {a b : Hosting} → LiesBetween a b → Knows a → Knows b
+between_knows (round done tells) s = round_knows tells s
+between_knows {a} {b} (changed comes) s = came_knows a b (Some Changed) comes s
+between_knows (wrote text puts) s = puts_knows puts s
+
+transfer_stays : {A : Type 0} {most : ℕ} {Did : Hosting → Result A HostFault → Hosting → Type 0} {a b : Hosting} {result : Result A HostFault} → TransferTells most Did a result b → StaysSound a b
+transfer_stays tells = tells.keeps.sound
+
+item_stays : (due : Due) (item : Option Item) (a b : Hosting) → IsItemOf due item a b → StaysSound a b
+item_stays Changed item a b is = subst (StaysSound a) (sym is.1) (sound_none a)
+item_stays Show item a b is = subst (StaysSound a) (sym is.1) (sound_none a)
+item_stays (Send path bytes) item a b is = transfer_stays is.2.call
+item_stays (Receive path packets) item a b is = transfer_stays is.2.call
+item_stays (Clear path) item a b is = transfer_stays is.2.call
+
+pub item_onward : (due : Due) (item : Option Item) (a b : Hosting) → IsItemOf due item a b → Onward a.world b.world
+item_onward due item a b is = called_onward (item_called due item a b is)
+
+-- A stretch
+
+pub stretch_knows : {old new : Hosting} {told : List Told} → Stretch old told new → Knows old → Knows new
+stretch_knows begun s = s
+stretch_knows (further before between) s = between_knows between (stretch_knows before s)
+stretch_knows (more {h = h} {mid = mid} {new = new} due item before settled comes is) s =
+    knows_then mid new (item_onward due (Some item) mid new is) (item_stays due (Some item) mid new is) (came_knows h mid (Some due) comes settled.knows)
+
+-- A run
+
+with_rounds : {old a b : Hosting} {told : List Told} → Stretch old told a → Rounds a b → Stretch old told b
+with_rounds t none = t
+with_rounds t (one_more {h} {k} done before tells goes) = further (with_rounds t before) (round done tells)
+
+with_settling : {old a b : Hosting} {told : List Told} → Stretch old told a → Settles a b → Stretch old told b
+with_settling t settles = further (with_rounds t settles.rounds) (round settles.round settles.last)
+
+with_ran : {old a b : Hosting} {told : List Told} → Stretch old told a → Ran a b → Stretch old told b
+with_ran t idle = t
+with_ran t (ran_changed {h} {k} before arrives) = further (with_settling (with_ran t before) arrives.settles) (changed arrives.comes)
+
+with_item : {old h k new : Hosting} {items : List Item} {item : Item} {over : Bool} {text : List ℕ} → IsStretch items old h → Makes h item over k → over ≡ false → AppendsText text k new → IsStretch (item ∷ items) old new
+with_item {text = text} s (asked {item} {mid} {new = k} due reaches is right) goes_on puts =
+    let arrives = reaches.arrives in
+    record {
+      told = record { due = due; asked = mid; item = item } ∷ s.told;
+      stretch = further (more due item (with_settling (with_ran s.stretch reaches.ran) arrives.settles) arrives.settled arrives.comes is) (wrote text puts);
+      items_told = ap (λ l. item ∷ l) s.items_told;
+    }
+with_item s (last reaches settled) goes_on puts = absurd (cc goes_on)
+
+run_stretch : {mode : Mode} {was : Bool} {old : Hosting} {items : List Item} {over : Bool} {new : Hosting} → Transcript mode was old items over new → over ≡ false → IsStretch items old new
+run_stretch run_begun goes_on = record { told = []; stretch = begun; items_told = refl }
+run_stretch {mode = mode} (run_told {items} {item} t makes puts) goes_on = with_item {text = shown mode items item} (run_stretch t refl) makes goes_on puts
+
+pub run_is_stretch : (mode : Mode) (was : Bool) (old new : Hosting) (items : List Item) → Transcript mode was old items false new → IsStretch items old new
+run_is_stretch mode was old new items t = run_stretch t refl

@@ -1,0 +1,153 @@
+-- What the device at a path takes and gives over a stretch of a run: transfers join end to end (5.8).
+use Rattle.std.specs.Prelude.{◌≡◌, ◌⊎◌, ⊤, ℕ, ◌+◌, List, [], ◌∷◌, ◌++◌, length, take, drop, Bool, true, false, if◌then◌else◌, Option, None, Some, Ok, is_ok}
+use Rattle.std.specs.BTreeMap.{is_at}
+use Rattle.std.specs.List.{AllByRecursion}
+use Rattle.usb_port.specs.Order.{path_cmp}
+use Rattle.usb_device.specs.Rows.{State}
+use Rattle.usb_device.specs.Tree.{Spot, path_to, reach_on, state_on}
+use Rattle.usb_world.specs.declared.event.Due.{Due}
+use Rattle.usb_world.specs.declared.event.Due.TheVariants.{Changed, Show, Send, Receive, Clear}
+use Rattle.usb_world.specs.Devices.{Was}
+use Rattle.usb_pipe.specs.declared.condition.Condition.TheVariants.{Ready}
+use Rattle.usb_pipe.specs.Bulk.{Bulk}
+use Rattle.usb_pipe.specs.Leaves.{FitsSource}
+use Rattle.usb_enum.specs.declared.finding.Accepted.{Accepted}
+use Rattle.usb_table.specs.declared.pipes.Pipes.{Pipes}
+use Rattle.usb_table.specs.Deliveries.{bytes_in, pipe_in, pipe_out}
+use Rattle.usb_table.specs.Findings.{accepted_device_at}
+use Rattle.usb_table.specs.Levels.{FitsIn}
+use Rattle.usb_table.specs.Table.{pipes_at}
+use Rattle.usb_host.specs.BulkPipes.{RenewedAt}
+use Rattle.usb_host.specs.declared.host.Round.{Round}
+use Rattle.usb_host.specs.Hosting.{Hosting}
+use Rattle.usb_host.specs.Transfers.{table_in}
+use Rattle.usb_serve.specs.declared.runs.Item.{Item}
+use Rattle.usb_serve.specs.declared.runs.Item.TheVariants.{Listing, Sent, Received, Cleared}
+use Rattle.usb_serve.specs.RunSegments.{RoundTells}
+use Rattle.usb_streams.specs.Stretches.{Told, Stretch}
+
+-- Bytes
+
+-- the bytes that an event asks the host to send to a path
+abbrev pub bytes_for : List ℕ → Due → List ℕ
+bytes_for path Changed = []
+bytes_for path Show = []
+bytes_for path (Send to bytes) = if is_at (path_cmp to) path then bytes else []
+bytes_for path (Receive from packets) = []
+bytes_for path (Clear at) = []
+
+-- the bytes that an item tells as received from a path
+abbrev pub bytes_from : List ℕ → Item → List ℕ
+bytes_from path (Listing tree taken) = []
+bytes_from path (Sent to told) = []
+bytes_from path (Received from told) = if is_at (path_cmp from) path then bytes_in told else []
+bytes_from path (Cleared at told) = []
+
+-- an item tells of no fault
+abbrev pub is_done : Item → Bool
+is_done (Listing tree taken) = true
+is_done (Sent to told) = is_ok told
+is_done (Received from told) = is_ok told
+is_done (Cleared at told) = is_ok told
+
+-- the bytes of the sends to a path that are told done, end to end
+unfoldable pub sent_to : List ℕ → List Told → List ℕ
+sent_to path [] = []
+sent_to path (t ∷ told) = sent_to path told ++ (if is_done t.item then bytes_for path t.due else [])
+
+-- the bytes of the receives from it, end to end; those of one that failed are none
+unfoldable pub received_from : List ℕ → List Told → List ℕ
+received_from path [] = []
+received_from path (t ∷ told) = received_from path told ++ bytes_from path t.item
+
+-- a pipe works, or there is none
+abbrev pub IsAtWork : Option Bulk → Type 0
+IsAtWork None = ⊤
+IsAtWork (Some pipe) = pipe.condition ≡ Ready
+
+-- Sends
+
+-- these bytes joined what went before, or a front of them
+abbrev pub Joins : Bool → List ℕ → List ℕ → List ℕ → Type 0
+Joins true bytes before after = after ≡ before ++ bytes
+Joins false bytes before after = (front : List ℕ) × (rest : List ℕ) × (bytes ≡ front ++ rest) × (after ≡ before ++ front)
+
+-- these bytes of the sends to a path were taken, end to end: all bytes of each that is told done, and a front of those of each that failed
+unfoldable pub AreTaken : List ℕ → List Told → List ℕ → Type 0
+AreTaken path [] taken = taken ≡ []
+AreTaken path (t ∷ told) taken = (before : List ℕ) × AreTaken path told before × Joins (is_done t.item) (bytes_for path t.due) before taken
+
+-- none, or a front of the bytes of a send to the path that failed
+unfoldable pub IsFailedFront : List ℕ → List Told → List ℕ → Type 0
+IsFailedFront path [] front = front ≡ []
+IsFailedFront path (t ∷ told) front = ((is_done t.item ≡ false) × ((rest : List ℕ) × (bytes_for path t.due ≡ front ++ rest))) ⊎ IsFailedFront path told front
+
+-- a clear of the path found its OUT pipe at work, if there was one, and left it alone
+abbrev pub ClearsNoOut : List ℕ → Told → Type 0
+ClearsNoOut path t = t.due ≡ Clear path → IsAtWork (pipe_out (pipes_at path (table_in t.asked)))
+
+-- the sends that are told done are, end to end, what the sink got, with at most a front of a failed one behind them, and none where the pipe works still
+pub record TookSent (path : List ℕ) (told : List Told) (left : Option Bulk) (s v : State) : Type 0 where
+  pub front : List ℕ
+  pub failed : IsFailedFront path told front
+  pub sink : v.sink ≡ s.sink ++ (sent_to path told ++ front)
+  pub works : IsAtWork left → front ≡ []
+
+-- Receives
+
+-- a clear of the path found its IN pipe at work, if there was one, and left it alone
+abbrev pub ClearsNoIn : List ℕ → Told → Type 0
+ClearsNoIn path t = t.due ≡ Clear path → IsAtWork (pipe_in (pipes_at path (table_in t.asked)))
+
+-- through a pipe that had got some number of bytes of the device's source these came, which are the next ones; the pipe has got so many more
+pub record GaveNext (bytes : List ℕ) (pipe left : Bulk) (s v : State) : Type 0 where
+  pub next : (got : ℕ) → FitsSource pipe got s → bytes ≡ take (length bytes) (drop got s.spec.source)
+  pub has : (got : ℕ) → FitsSource pipe got s → FitsSource left (got + length bytes) v
+
+-- without a pipe none came
+abbrev pub GaveNextBy : List ℕ → Option Bulk → Option Bulk → State → State → Type 0
+GaveNextBy bytes None left s v = (bytes ≡ []) × (left ≡ None)
+GaveNextBy bytes (Some pipe) None s v = ⊥
+GaveNextBy bytes (Some pipe) (Some left) s v = GaveNext bytes pipe left s v
+
+-- A device over a stretch
+
+-- the device at a path took what was sent and gave the next bytes of its source, as long as no halt of the endpoint is cleared; over clears too each send
+-- that is told done was taken whole, and of each that failed a front; its IN pipe had got some number of bytes, and its description stays
+pub record Streams (path : List ℕ) (told : List Told) (pipes left : Pipes) (s v : State) : Type 0 where
+  pub took : AllByRecursion (ClearsNoOut path) told → TookSent path told (pipe_out left) s v
+  pub sink : (taken : List ℕ) × AreTaken path told taken × (v.sink ≡ s.sink ++ taken)
+  pub had : FitsIn (pipe_in pipes) s
+  pub gave : AllByRecursion (ClearsNoIn path) told → GaveNextBy (received_from path told) (pipe_in pipes) (pipe_in left) s v
+  pub spec : v.spec ≡ s.spec
+
+-- so it is of the device that is reached at a path in the new world, which was reached there in the old one
+abbrev pub StreamsAt : List ℕ → (State → State → Type 0) → Hosting → Hosting → Type 0
+StreamsAt path So old new = (x : Spot) (v : State) → path ≡ path_to x → reach_on new.world.roots x ≡ true → state_on new.world.roots x ≡ Some v → Was (λ y s v. So s v) old.world x v
+
+-- the accepted device at a path stood there from the beginning of a stretch
+pub record StoodAt (path : List ℕ) (device : Accepted) (told : List Told) (old new : Hosting) : Type 0 where
+  pub listed : accepted_device_at path old.entries ≡ Some device
+  pub streams : StreamsAt path (Streams path told (pipes_at path (table_in old)) (pipes_at path (table_in new))) old new
+
+-- the IN pipe to the device that is reached at a path has got as many bytes of its source as the device counts
+abbrev pub StartsAt : List ℕ → Hosting → Type 0
+StartsAt path h = (x : Spot) (s : State) (pipe : Bulk) → path ≡ path_to x → reach_on h.world.roots x ≡ true → state_on h.world.roots x ≡ Some s → pipe_in (pipes_at path (table_in h)) ≡ Some pipe → FitsSource pipe s.place s
+
+-- it was found anew in a round of the stretch, and stood there since
+pub record FoundAt (path : List ℕ) (device : Accepted) (told : List Told) (old new : Hosting) : Type 0 where
+  pub earlier : List Told
+  pub before : Hosting
+  pub up_to : Stretch old earlier before
+  pub done : Round
+  pub found : Hosting
+  pub round : RoundTells before (Ok done) found
+  pub renewed : RenewedAt path device before found
+  pub starts : StartsAt path found
+  pub since : List Told
+  pub behind : Stretch found since new
+  pub stood : StoodAt path device since found new
+  pub all : since ++ earlier ≡ told
+
+abbrev pub StoodOrFound : List ℕ → Accepted → List Told → Hosting → Hosting → Type 0
+StoodOrFound path device told old new = StoodAt path device told old new ⊎ FoundAt path device told old new

@@ -1,0 +1,31 @@
+//! What the sends and receives of a run come to.
+//!
+//! Each call does nothing; what it ensures is for proofs to cite.
+ghost use Rattle.std.specs.Prelude.{◌≡◌, ℕ, List, Bool, false, None, Some};
+ghost use Rattle.usb_enum.specs.declared.finding.Accepted.{Accepted};
+ghost use Rattle.usb_table.specs.Findings.{accepted_device_at};
+ghost use Rattle.usb_host.specs.Hosting.{Hosting};
+ghost use Rattle.usb_serve.specs.declared.runs.Item.{Item};
+ghost use Rattle.usb_serve.specs.declared.serving.Mode.{Mode};
+ghost use Rattle.usb_serve.specs.RunSegments.{Knows};
+ghost use Rattle.usb_serve.specs.Transcript.{Transcript};
+ghost use Rattle.usb_streams.specs.Streams.{StoodOrFound};
+ghost use Rattle.usb_streams.specs.Stretches.{IsStretch, Stretch, Told};
+
+/// Over any stretch of a run up to a host whose bus is at work, a device that is listed in the end stood at its path from
+/// the beginning, or since a round that found it anew. From there on its sink got, end to end, the bytes of the sends to it
+/// that are told done, with at most a front of a failed one behind them; and the receives from it that are told done handed
+/// back, end to end, the next bytes of its source, none twice and none left out: each as long as no halt of the endpoint is
+/// cleared.
+pub fn transfers_join()
+    ensures { (old new : Hosting) (told : List Told) → Stretch old told new → Knows old
+        → new.world.fault ≡ None
+        → (path : List ℕ) (device : Accepted) → accepted_device_at path new.entries ≡ Some device
+        → StoodOrFound path device told old new }
+{}
+
+/// A run that is not over is a stretch, in which its items are told.
+pub fn runs_are_stretches()
+    ensures { (mode : Mode) (was : Bool) (old new : Hosting) (items : List Item)
+        → Transcript mode was old items false new → IsStretch items old new }
+{}
