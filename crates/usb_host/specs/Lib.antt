@@ -2,6 +2,7 @@ pub mod Accounts
 pub mod Agreement
 pub mod Backlog
 pub mod Bounds
+pub mod Budget
 pub mod BulkPipes
 pub mod PortHandling
 pub mod Hosting
