@@ -38,6 +38,7 @@ pub mod Roots
 pub mod Events
 mod ComingEvents
 pub mod Places
+pub mod Plugs
 pub mod Clearings
 pub mod TidiedPorts
 pub mod RestedWorlds

@@ -33,6 +33,7 @@ use Rattle.usb_host.specs.declared.fault.HostFault.{HostFault}
 use Rattle.usb_host.specs.declared.host.Round.{Round}
 use Rattle.usb_host.specs.declared.host.Round.TheVariants.{Worked, Quiet}
 use Rattle.usb_host.proofs.BulkPipes.{bulk_stays, stay_polled}
+use Rattle.usb_host.proofs.Plugs.{plugs_kept}
 use Rattle.usb_host.proofs.Handlings.{match_err, hub_lost}
 use Rattle.usb_host.proofs.Owners.{stays_kept, stays_then, single_then}
 use Rattle.usb_host.proofs.Polls.{HubThere, hub_there, reached_at, heard_at, poll_silent}
@@ -112,7 +113,7 @@ module _ (hub : List ℕ) (answer : Result (Option (ArrayVec ℕ)) PipeFault) (a
       bulk_stays a b (stay_polled hub a b answer through asks (keeps.spares (s.owned.so before) (s.level before hub)))
 
   part : IsOk answer → PartStays a b
-  part ok = record { sound = sound ok; bulk = bulk }
+  part ok = record { sound = sound ok; bulk = bulk; plugs = λ s still. plugs_kept a b went.spends.onward same }
 
   -- it has nothing to tell
   pub hub_quiet : (pipes left : Pipes) → IsOk answer → ArePipesIf (accepted_device_at hub a.entries) (is_below_hub hub) pipes → PipesPolled pipes a.world (Ok None) left b.world → HubKeeps hub a (Ok Quiet) b
@@ -163,7 +164,7 @@ module _ (hub : List ℕ) (answer : Result (Option (ArrayVec ℕ)) PipeFault) (a
         owned = hub_lost hub a b (Ok tt) c there polled drops;
         sound = sound_dropped (Ok tt) hub 768 n a b c goes q
             (λ s. record { listed = there; but = but_kept 768 hub (IsOk answer) a b agrees same went keeps.levels s; there = λ still. occupied_kept 768 hub (IsOk answer) a b agrees same went keeps.levels s there still agrees_on })
-            (caused_kept 768 hub (IsOk answer) a b agrees same went keeps.levels) bulk dropped (pends failed listed);
+            (caused_kept 768 hub (IsOk answer) a b agrees same went keeps.levels) bulk (plugs_kept a b went.spends.onward same) dropped (pends failed listed);
         calm = λ is. absurd (cc is);
         silent = λ s is. absurd (cc is);
       }

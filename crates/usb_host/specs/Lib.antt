@@ -7,6 +7,7 @@ pub mod BulkPipes
 pub mod PortHandling
 pub mod Hosting
 pub mod Ownership
+pub mod Plugs
 pub mod Ports
 pub mod Progress
 pub mod Service

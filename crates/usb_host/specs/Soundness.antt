@@ -31,6 +31,7 @@ use Rattle.usb_enum.specs.PresentDevices.{IsInOrder, IsOrderly}
 use Rattle.usb_host.specs.Agreement.{Agrees}
 use Rattle.usb_host.specs.BulkPipes.{KeepsBulk}
 use Rattle.usb_host.specs.Hosting.{Hosting}
+use Rattle.usb_host.specs.Plugs.{KeepsPlugs}
 use Rattle.usb_host.specs.Transfers.{table_in}
 use Rattle.usb_host.specs.Ownership.{IsOwned, IsOwnedBut, IsRooted, KeepsOwned, Owning}
 use Rattle.usb_host.specs.declared.fault.HostFault.{HostFault}
@@ -143,10 +144,11 @@ pub record StaysSound (old new : Hosting) : Type 0 where
   pub sound : IsSound old → IsSound new
   pub caused : IsSound old → IsFairTo old.world new.world → Causes old.world old.entries → Causes new.world new.entries
 
--- the same over a part of a round, which leaves bulk pipes and their endpoints alone, but where a device is found anew
+-- the same over a part of a round, which leaves bulk pipes and their endpoints alone, but where a device is found anew; devices stand where some were plugged
 pub record PartStays (old new : Hosting) : Type 0 where
   pub sound : StaysSound old new
   pub bulk : IsSound old → new.world.fault ≡ None → KeepsBulk old new
+  pub plugs : IsSound old → new.world.fault ≡ None → KeepsPlugs old new
 
 abbrev pub KeepsSound : {A : Type 0} → Hosting → Result A HostFault → Hosting → Type 0
 KeepsSound old result new = OnOk result (PartStays old new)
@@ -163,6 +165,7 @@ pub record DropsSound (hub : List ℕ) (old : Hosting) (result : Result (Unit {0
   -- no more is left to do, but by events
   pub backlog : IsDroppable hub old → OnOk result (new.world.fault ≡ None → KeepsAll old.world new.world)
   pub bulk : IsDroppable hub old → OnOk result (new.world.fault ≡ None → KeepsBulk old new)
+  pub plugs : OnOk result (KeepsPlugs old new)
   pub caused : IsDroppable hub old → IsFairTo old.world new.world → pend old.world.roots hub ≡ true → CausesBut hub old.world old.entries → OnOk result (Causes new.world new.entries)
 
 -- a round keeps what is known; a quiet one in which no event came leaves nothing to do, as long as the bus is at work

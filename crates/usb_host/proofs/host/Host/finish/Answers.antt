@@ -9,6 +9,7 @@ use Rattle.usb_backlog.proofs.Interface.{all_none}
 use Rattle.usb_host.proofs.BulkPipes.{bulk_none}
 use Rattle.usb_host.proofs.Handlings.{hub_dropped}
 use Rattle.usb_host.proofs.Joins.{goes_none}
+use Rattle.usb_host.proofs.Plugs.{plugs_none}
 use Rattle.usb_host.proofs.Services.{loses_parent}
 use Rattle.usb_host.proofs.host.Host.finish.Goals as goal
 
@@ -23,6 +24,7 @@ returns-in-Ok-clause-finishes g c =
         sound = λ p. p;
         backlog = λ p still. all_none c.args.self.now.world;
         bulk = λ p still. bulk_none c.args.self.now;
+        plugs = plugs_none c.args.self.now;
         caused = λ p fair q. q;
       };
       left = refl;
@@ -45,6 +47,7 @@ returns-in-Some-clause-finishes g c =
         sound = λ p. c.drop_hub.ensures.sound.sound (subst (λ o. IsSomeAnd o (λ hub. IsDroppable hub c.args.self.now)) above p);
         backlog = λ p. c.drop_hub.ensures.sound.backlog (subst (λ o. IsSomeAnd o (λ hub. IsDroppable hub c.args.self.now)) above p);
         bulk = λ p. c.drop_hub.ensures.sound.bulk (subst (λ o. IsSomeAnd o (λ hub. IsDroppable hub c.args.self.now)) above p);
+        plugs = c.drop_hub.ensures.sound.plugs;
         caused = λ p fair q.
             let d = subst (λ o. IsSomeAnd o (λ hub. IsDroppable hub c.args.self.now)) above p in
             let e = subst (λ o. IsSomeAnd o (λ hub. (pend c.args.self.now.world.roots hub ≡ true) × CausesBut hub c.args.self.now.world c.args.self.now.entries)) above q in
