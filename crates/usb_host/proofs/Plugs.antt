@@ -44,7 +44,9 @@ use Rattle.usb_host.specs.Ownership.{HasLost}
 use Rattle.usb_host.specs.Plugs.{HasPlugs, KeepsPlugs, PlugsAt, WasPlugged, is_plug, plug_events}
 use Rattle.usb_host.specs.Ports.{EntersOne}
 use Rattle.usb_host.specs.Progress.{HostWent, Rests}
-use Rattle.usb_host.specs.Service.{ClearsAndReads, DoneWhere}
+use Rattle.usb_host.specs.Service.{ClearsAndReads, DoneWhere, LookedAgain, no_device, next_device}
+use Rattle.usb_host.specs.declared.host.Round.{Round}
+use Rattle.usb_host.specs.declared.host.Round.TheVariants.{Quiet}
 use Rattle.usb_host.proofs.Agreements.{lookup-insert_entry_elsewhere}
 use Rattle.usb_host.proofs.Balances.{accounts_listed, one}
 use Rattle.usb_host.proofs.BulkPipes.{device_found}
@@ -109,7 +111,8 @@ module _ (P : List ℕ → Type 0) where
   path_inserted [] e d so each = (so, tt)
   path_inserted (x ∷ tree) e d so each = split (path_cmp e x.0) (path_inserted tree e d so each.1)
     where
-      split : (r : Ordering) → EachPath P (insert_entry path_cmp tree e d) → EachPath P (match_ordering r ((e, d) ∷ x ∷ tree) ((x.0, d) ∷ tree) (x ∷ insert_entry path_cmp tree e d))
+      split : (r : Ordering) → EachPath P (insert_entry path_cmp tree e d)
+          → EachPath P (match_ordering r ((e, d) ∷ x ∷ tree) ((x.0, d) ∷ tree) (x ∷ insert_entry path_cmp tree e d))
       split Less more = (so, each)
       split Equal more = each
       split Greater more = (each.0, more)
@@ -130,7 +133,8 @@ module _ (P : List ℕ → Type 0) where
       split true tie more e = subst P (sym (path_tied path x.0 tie)) each.0
       split false tie more e = more e
 
-  path_after : (action : Action) (tree : PluggedMap) → ((path : List ℕ) → PlugsAt path action → P path) → EachPath P tree → EachPath P (plugged_after action tree)
+  path_after : (action : Action) (tree : PluggedMap) → ((path : List ℕ) → PlugsAt path action → P path) → EachPath P tree
+      → EachPath P (plugged_after action tree)
   unfolding plugged_without
   path_after (Plug path device) tree so each = path_inserted tree path device (so path refl) each
   path_after (Unplug path) tree so each = path_filtered (λ place. not (starts_with nat_eq place.0 path)) tree each
@@ -139,22 +143,26 @@ module _ (P : List ℕ → Type 0) where
   path_after (Receive path packets) tree so each = each
   path_after (Clear path) tree so each = each
 
-  path_by : (events : List Event) (tree : PluggedMap) → ((path : List ℕ) → Any (AtPath path) events → P path) → EachPath P tree → EachPath P (plugged_by tree events)
+  path_by : (events : List Event) (tree : PluggedMap) → ((path : List ℕ) → Any (AtPath path) events → P path) → EachPath P tree
+      → EachPath P (plugged_by tree events)
   unfolding plugged_by
   path_by [] tree so each = each
   path_by (e ∷ events) tree so each =
       path_by events (plugged_after e.action tree) (λ path later. so path (any_later (AtPath path) e events later))
       (path_after e.action tree (λ path at. so path (any_first (AtPath path) e events at)) each)
 
-index_some : (o : Option ℕ) (s : Option State) (plan : PlanData) → is_some s ≡ true → option_map spec_of s ≡ device_indexed plan.devices o → (i : ℕ) × (o ≡ Some i)
+index_some : (o : Option ℕ) (s : Option State) (plan : PlanData) → is_some s ≡ true
+    → option_map spec_of s ≡ device_indexed plan.devices o → (i : ℕ) × (o ≡ Some i)
 index_some None (Some s) plan there is = absurd (cc is)
 index_some None None plan there is = absurd (cc there)
 index_some (Some i) s plan there is = (i, refl)
 
-plugged_there : (plan : PlanData) → IsPlan plan → AtPorts plan.events → (w : World) → Course AnyStep (opening plan) w → (path : List ℕ) → is_some (state_there w.roots path) ≡ true → WasPlugged plan.events w.taken path
+plugged_there : (plan : PlanData) → IsPlan plan → AtPorts plan.events → (w : World) → Course AnyStep (opening plan) w
+    → (path : List ℕ) → is_some (state_there w.roots path) ≡ true → WasPlugged plan.events w.taken path
 plugged_there plan is paths w course path there =
     let came : List Event = take w.taken plan.events in
-    let index : (i : ℕ) × (index_at (plugged_by [] came) path ≡ Some i) = index_some (index_at (plugged_by [] came) path) (state_there w.roots path) plan there (devices_left plan is paths w course path) in
+    let index : (i : ℕ) × (index_at (plugged_by [] came) path ≡ Some i) =
+    index_some (index_at (plugged_by [] came) path) (state_there w.roots path) plan there (devices_left plan is paths w course path) in
     path_found (λ p. Any (AtPath p) came) (plugged_by [] came) path index.0 (path_by (λ p. Any (AtPath p) came) came [] (λ p at. at) tt) index.1
 
 -- Where all addresses are taken, at least 128 devices were plugged
@@ -190,8 +198,10 @@ length-plug_addresses : (es : Entries) (events : List Event) → length (plug_ad
 length-plug_addresses es [] = refl
 length-plug_addresses es (e ∷ events) = plug_step es e events (length-plug_addresses es events) (is_plug e.action) refl
 
-plug_here : (es : Entries) (path : List ℕ) (a : Action) (more : List ℕ) → PlugsAt path a → list_any (eqb (address_or es path)) (cond (is_plug a) (plug_address es a ∷ more) more) ≡ true
-plug_here es path (Plug at device) more is = or_left _ (list_any (eqb (address_or es path)) more) (eq-eqb (address_or es path) (address_or es at) (ap (address_or es) (sym is)))
+plug_here : (es : Entries) (path : List ℕ) (a : Action) (more : List ℕ) → PlugsAt path a
+    → list_any (eqb (address_or es path)) (cond (is_plug a) (plug_address es a ∷ more) more) ≡ true
+plug_here es path (Plug at device) more is =
+    or_left _ (list_any (eqb (address_or es path)) more) (eq-eqb (address_or es path) (address_or es at) (ap (address_or es) (sym is)))
 plug_here es path (Unplug at) more is = absurd is
 plug_here es path Show more is = absurd is
 plug_here es path (Send at bytes) more is = absurd is
@@ -202,11 +212,13 @@ plug_later : (q a : ℕ) (more : List ℕ) (b : Bool) → list_any (eqb q) more 
 plug_later q a more true has = or_right (eqb q a) (list_any (eqb q) more) has
 plug_later q a more false has = has
 
-plug_among : (es : Entries) (path : List ℕ) (events : List Event) → Any (AtPath path) events → list_any (eqb (address_or es path)) (plug_addresses es events) ≡ true
+plug_among : (es : Entries) (path : List ℕ) (events : List Event) → Any (AtPath path) events
+    → list_any (eqb (address_or es path)) (plug_addresses es events) ≡ true
 plug_among es path [] a = absurd (any_none (AtPath path) a)
 plug_among es path (e ∷ events) a = pick (plug_among es path events) (any_cases (AtPath path) e events a)
   where
-    pick : (Any (AtPath path) events → list_any (eqb (address_or es path)) (plug_addresses es events) ≡ true) → PlugsAt path e.action ⊎ Any (AtPath path) events → list_any (eqb (address_or es path)) (plug_addresses es (e ∷ events)) ≡ true
+    pick : (Any (AtPath path) events → list_any (eqb (address_or es path)) (plug_addresses es events) ≡ true)
+        → PlugsAt path e.action ⊎ Any (AtPath path) events → list_any (eqb (address_or es path)) (plug_addresses es (e ∷ events)) ≡ true
     pick among (inl is) = plug_here es path e.action (plug_addresses es events) is
     pick among (inr more) = plug_later (address_or es path) (plug_address es e.action) (plug_addresses es events) (is_plug e.action) (among more)
 
@@ -216,17 +228,20 @@ device_there (Some (Device device)) a e = (device, refl)
 device_there (Some (Refused cause)) a e = absurd (cc e)
 
 -- at a path of its own for each address, and at one that has none
-full_plugged : (events : List Event) (path : List ℕ) (h : Hosting) → HasPlugs events h → Agrees h.entries h.addresses → IsFull h.addresses → finding_at path h.entries ≡ None → WasPlugged events h.world.taken path → 128 ≤ plug_events events
+full_plugged : (events : List Event) (path : List ℕ) (h : Hosting) → HasPlugs events h → Agrees h.entries h.addresses → IsFull h.addresses
+    → finding_at path h.entries ≡ None → WasPlugged events h.world.taken path → 128 ≤ plug_events events
 full_plugged events path h plugs agrees full none was =
     subst (λ n. 128 ≤ n) (length-plug_addresses h.entries events) (le-length_from_below (plug_addresses h.entries events) 128 found)
   where
     among : (p : List ℕ) (q : ℕ) → address_or h.entries p ≡ q → WasPlugged events h.world.taken p → list_any (eqb q) (plug_addresses h.entries events) ≡ true
-    among p q is at = subst (λ n. list_any (eqb n) (plug_addresses h.entries events) ≡ true) is (plug_among h.entries p events (any_all (AtPath p) h.world.taken events at))
+    among p q is at =
+        subst (λ n. list_any (eqb n) (plug_addresses h.entries events) ≡ true) is (plug_among h.entries p events (any_all (AtPath p) h.world.taken events at))
 
     found : (q : ℕ) → q < 128 → list_any (eqb q) (plug_addresses h.entries events) ≡ true
     found zero less = among path 0 (ap (λ o. unwrap_or (address_in o) 0) none) was
     found (suc q) less =
-        let at : (p : List ℕ) × (entry_address p h.entries ≡ Some (suc q)) = accounts_listed h.entries h.addresses agrees.rises agrees.accounts (suc q) (full (suc q) (omega arith, less)) in
+        let at : (p : List ℕ) × (entry_address p h.entries ≡ Some (suc q)) =
+        accounts_listed h.entries h.addresses agrees.rises agrees.accounts (suc q) (full (suc q) (omega arith, less)) in
         let there : (device : Accepted) × (accepted_device_at at.0 h.entries ≡ Some device) = device_there (finding_at at.0 h.entries) (suc q) at.1 in
         among at.0 (suc q) (ap (λ o. unwrap_or o 0) at.1) (plugs.each at.0 there.0 there.1)
 
@@ -240,19 +255,25 @@ plugs_then m n a b c first second still x y plan is paths course plugs =
     y plan is paths (course_joined course (went_course m a.world b.world first (went_sound n b.world c.world second still))) (x plan is paths course plugs)
 
 -- what is listed was so before, or is lost
-plugs_fewer : (events : List Event) (a b : Hosting) → a.world.taken ≤ b.world.taken → ((path : List ℕ) (f : Finding) → finding_at path b.entries ≡ Some f → (finding_at path a.entries ≡ Some f) ⊎ (f ≡ Refused Lost)) → HasPlugs events a → HasPlugs events b
+plugs_fewer : (events : List Event) (a b : Hosting) → a.world.taken ≤ b.world.taken
+    → ((path : List ℕ) (f : Finding) → finding_at path b.entries ≡ Some f → (finding_at path a.entries ≡ Some f) ⊎ (f ≡ Refused Lost))
+    → HasPlugs events a → HasPlugs events b
 plugs_fewer events a b onward was plugs = record {
   each = λ path device at. was_later events a.world.taken b.world.taken path onward (pick path device (finding_at path b.entries) refl at);
   none_waits = λ few path at. waits few path (was path (Refused NoAddress) at);
 }
   where
-    listed : (path : List ℕ) (device : Accepted) → (finding_at path a.entries ≡ Some (Device device)) ⊎ (Device device ≡ Refused Lost) → WasPlugged events a.world.taken path
+    listed : (path : List ℕ) (device : Accepted) → (finding_at path a.entries ≡ Some (Device device)) ⊎ (Device device ≡ Refused Lost)
+        → WasPlugged events a.world.taken path
     listed path device (inl at) = plugs.each path device (ap accepted_device_of at)
     listed path device (inr e) = absurd (cc e)
 
-    pick : (path : List ℕ) (device : Accepted) (o : Option Finding) → finding_at path b.entries ≡ o → accepted_device_of o ≡ Some device → WasPlugged events a.world.taken path
+    pick : (path : List ℕ) (device : Accepted) (o : Option Finding) → finding_at path b.entries ≡ o → accepted_device_of o ≡ Some device
+        → WasPlugged events a.world.taken path
     pick path device None at e = absurd (cc e)
-    pick path device (Some f) at e = let is : f ≡ Device device = device_found f device e in listed path device (was path (Device device) (at ∙ ap (λ g. Some g) is))
+    pick path device (Some f) at e =
+        let is : f ≡ Device device = device_found f device e in
+        listed path device (was path (Device device) (at ∙ ap (λ g. Some g) is))
 
     waits : plug_events events ≤ 127 → (path : List ℕ) → (finding_at path a.entries ≡ Some (Refused NoAddress)) ⊎ (Refused NoAddress ≡ Refused Lost) → ⊥
     waits few path (inl at) = plugs.none_waits few path at
@@ -281,35 +302,48 @@ plugs_forgot n path a b c went r rest plan is paths course =
     let left : c.entries ≡ without path a.entries = rest ∙ ap (λ (h : Hosting). without path h.entries) r in
     plugs_fewer plan.events a c went.spends.onward (λ p f at. inl (was_listed path p a.entries f (ap (finding_at p) (sym left) ∙ at)))
 
+abbrev with_lost : List ℕ → Entries → Entries
+with_lost path es = insert_entry path_cmp (without path es) path (Refused Lost)
+
 -- besides, a hub is listed as lost
 pub plugs_lost : (hub : List ℕ) (a b : Hosting) → a.world.taken ≤ b.world.taken → HasLost hub a.entries b.entries → KeepsPlugs a b
-plugs_lost hub a b onward lost plan is paths course = plugs_fewer plan.events a b onward (λ p f at. pick p f (is_at (path_cmp p) lost.path) refl (ap (finding_at p) (sym lost.entries) ∙ at))
+plugs_lost hub a b onward lost plan is paths course =
+    plugs_fewer plan.events a b onward (λ p f at. pick p f (is_at (path_cmp p) lost.path) refl (ap (finding_at p) (sym lost.entries) ∙ at))
   where
-    pick : (p : List ℕ) (f : Finding) (tied : Bool) → is_at (path_cmp p) lost.path ≡ tied → finding_at p (insert_entry path_cmp (without lost.path a.entries) lost.path (Refused Lost)) ≡ Some f → (finding_at p a.entries ≡ Some f) ⊎ (f ≡ Refused Lost)
+    pick : (p : List ℕ) (f : Finding) (tied : Bool) → is_at (path_cmp p) lost.path ≡ tied → finding_at p (with_lost lost.path a.entries) ≡ Some f
+        → (finding_at p a.entries ≡ Some f) ⊎ (f ≡ Refused Lost)
     pick p f true tie at =
-        let here : finding_at lost.path (insert_entry path_cmp (without lost.path a.entries) lost.path (Refused Lost)) ≡ Some f =
-        subst (λ (q : List ℕ). finding_at q (insert_entry path_cmp (without lost.path a.entries) lost.path (Refused Lost)) ≡ Some f) (path_tied p lost.path tie) at in
+        let here : finding_at lost.path (with_lost lost.path a.entries) ≡ Some f =
+        subst (λ (q : List ℕ). finding_at q (with_lost lost.path a.entries) ≡ Some f) (path_tied p lost.path tie) at in
         inr (cc (here, lookup-insert_entry_here lost.path (Refused Lost) (without lost.path a.entries)))
-    pick p f false apart at = inl (was_listed lost.path p a.entries f (sym (lookup-insert_entry_elsewhere p lost.path (Refused Lost) (without lost.path a.entries) apart) ∙ at))
+    pick p f false apart at =
+        inl (was_listed lost.path p a.entries f (sym (lookup-insert_entry_elsewhere p lost.path (Refused Lost) (without lost.path a.entries) apart) ∙ at))
 
 -- one finding is entered at a path at which a device was plugged
-plugs_entered : (events : List Event) (path : List ℕ) (a b : Hosting) → Agrees a.entries a.addresses → has_at path a.entries ≡ false → EntersOne path a b → a.world.taken ≤ b.world.taken → WasPlugged events a.world.taken path → HasPlugs events a → HasPlugs events b
+plugs_entered : (events : List Event) (path : List ℕ) (a b : Hosting) → Agrees a.entries a.addresses → has_at path a.entries ≡ false
+    → EntersOne path a b → a.world.taken ≤ b.world.taken → WasPlugged events a.world.taken path → HasPlugs events a → HasPlugs events b
 plugs_entered events path a b agrees gone enters onward was plugs = record {
   each = λ p device at. was_later events a.world.taken b.world.taken p onward (each p device (is_at (path_cmp p) path) refl at);
   none_waits = λ few p at. waits few p (is_at (path_cmp p) path) refl (ap (finding_at p) (sym enters.entries) ∙ at);
 }
   where
-    each : (p : List ℕ) (device : Accepted) (tied : Bool) → is_at (path_cmp p) path ≡ tied → accepted_device_at p b.entries ≡ Some device → WasPlugged events a.world.taken p
+    each : (p : List ℕ) (device : Accepted) (tied : Bool) → is_at (path_cmp p) path ≡ tied → accepted_device_at p b.entries ≡ Some device
+        → WasPlugged events a.world.taken p
     each p device true tie at = subst (WasPlugged events a.world.taken) (sym (path_tied p path tie)) was
     each p device false apart at =
-        plugs.each p device (sym (ap (λ (es : Entries). accepted_device_at p es) enters.entries ∙ ap accepted_device_of (lookup-insert_entry_elsewhere p path enters.finding a.entries apart)) ∙ at)
+        let same : accepted_device_at p b.entries ≡ accepted_device_at p a.entries =
+        ap (λ (es : Entries). accepted_device_at p es) enters.entries
+        ∙ ap accepted_device_of (lookup-insert_entry_elsewhere p path enters.finding a.entries apart) in
+        plugs.each p device (sym same ∙ at)
 
-    waits : plug_events events ≤ 127 → (p : List ℕ) (tied : Bool) → is_at (path_cmp p) path ≡ tied → finding_at p (insert_entry path_cmp a.entries path enters.finding) ≡ Some (Refused NoAddress) → ⊥
+    waits : plug_events events ≤ 127 → (p : List ℕ) (tied : Bool) → is_at (path_cmp p) path ≡ tied
+        → finding_at p (insert_entry path_cmp a.entries path enters.finding) ≡ Some (Refused NoAddress) → ⊥
     waits few p true tie at =
-        let here : finding_at path (insert_entry path_cmp a.entries path enters.finding) ≡ Some (Refused NoAddress) =
-        subst (λ (q : List ℕ). finding_at q (insert_entry path_cmp a.entries path enters.finding) ≡ Some (Refused NoAddress)) (path_tied p path tie) at in
+        let there : List ℕ → Type 0 = λ q. finding_at q (insert_entry path_cmp a.entries path enters.finding) ≡ Some (Refused NoAddress) in
+        let here : there path = subst there (path_tied p path tie) at in
         let is : enters.finding ≡ Refused NoAddress = cc (here, lookup-insert_entry_here path enters.finding a.entries) in
-        let many : 128 ≤ plug_events events = full_plugged events path a plugs agrees (enters.waits is) (finding-none path path a.entries gone (way_itself path)) was in
+        let many : 128 ≤ plug_events events =
+        full_plugged events path a plugs agrees (enters.waits is) (finding-none path path a.entries gone (way_itself path)) was in
         absurd (omega (arith, few, many))
     waits few p false apart at = plugs.none_waits few p (sym (lookup-insert_entry_elsewhere p path enters.finding a.entries apart) ∙ at)
 
@@ -323,26 +357,33 @@ disabled_taken true p w v d = course_taken (done_course p ClearEnable w v d)
 disabled_taken false p w v same = let taken : v.taken ≡ w.taken = ap (λ (u : World). u.taken) same in omega (arith, taken)
 
 -- a device stood where a status showed one
-told_there : (p : List ℕ) (status : PortStatus) (w v : World) (t : PortTold p status w v) → IsOrderly t.now → status.connected ≡ true → is_some (state_there t.now.roots p) ≡ true
+told_there : (p : List ℕ) (status : PortStatus) (w v : World) (t : PortTold p status w v) → IsOrderly t.now → status.connected ≡ true
+    → is_some (state_there t.now.roots p) ≡ true
 told_there p status w v t order on =
-    let attached : is_attached t.port.attached ≡ true = (both t.port.power (is_attached t.port.attached) (ap (λ (x : PortStatus). x.connected) (sym t.is) ∙ on)).1 in
+    let attached : is_attached t.port.attached ≡ true =
+    (both t.port.power (is_attached t.port.attached) (ap (λ (x : PortStatus). x.connected) (sym t.is) ∙ on)).1 in
     sym (attached_there t.now.roots p t.port order.sane t.stood) ∙ attached
 
 -- it was plugged there
 seen_plugged : (path : List ℕ) (status : PortStatus) (old new : World) → ClearsAndReads path status old new → IsOrderly old → status.connected ≡ true
     → (plan : PlanData) → IsPlan plan → AtPorts plan.events → Course AnyStep (opening plan) old → WasPlugged plan.events new.taken path
 seen_plugged path status old new x order on plan is paths course =
-    let first : Course AnyStep old x.told.now = course_joined (done_course path ClearConnectionChange old x.mid x.cleared) (course_wider (λ s u k. tt) (x.told.before path)) in
+    let first : Course AnyStep old x.told.now =
+    course_joined (done_course path ClearConnectionChange old x.mid x.cleared) (course_wider (λ s u k. tt) (x.told.before path)) in
     let there : is_some (state_there x.told.now.roots path) ≡ true = told_there path status x.mid x.now x.told (orderly_on order first) on in
     let onward : x.told.now.taken ≤ x.now.taken = course_taken (x.told.since path) in
     let last : x.now.taken ≤ new.taken = disabled_taken status.enabled path x.now new x.disabled in
-    was_later plan.events x.told.now.taken new.taken path (omega (arith, onward, last)) (plugged_there plan is paths x.told.now (course_joined course first) path there)
+    was_later plan.events x.told.now.taken new.taken path (omega (arith, onward, last))
+    (plugged_there plan is paths x.told.now (course_joined course first) path there)
 
 -- what a status showed is found and entered
-pub plugs_found : (m n : ℕ) (path : List ℕ) (status : PortStatus) (a b c d : Hosting) → HostWent m a c → HostWent n c d → Rests a b → c.world ≡ b.world → c.entries ≡ without path b.entries → has_at path c.entries ≡ false → Agrees c.entries c.addresses
+pub plugs_found : (m n : ℕ) (path : List ℕ) (status : PortStatus) (a b c d : Hosting) → HostWent m a c → HostWent n c d → Rests a b
+    → c ≡ record b { entries = c.entries; pipes = c.pipes; addresses = c.addresses } → c.entries ≡ without path b.entries → has_at path c.entries ≡ false → Agrees c.entries c.addresses
     → ClearsAndReads path status a.world b.world → IsOrderly a.world → status.connected ≡ true → EntersOne path c d → KeepsPlugs a d
-plugs_found m n path status a b c d first second r same rest gone agrees x order on enters plan is paths course plugs =
-    let was : WasPlugged plan.events c.world.taken path = subst (λ (w : World). WasPlugged plan.events w.taken path) (sym same) (seen_plugged path status a.world b.world x order on plan is paths course) in
+plugs_found m n path status a b c d first second r others rest gone agrees x order on enters plan is paths course plugs =
+    let same : c.world ≡ b.world = ap (λ (h : Hosting). h.world) others in
+    let was : WasPlugged plan.events c.world.taken path =
+    subst (λ (w : World). WasPlugged plan.events w.taken path) (sym same) (seen_plugged path status a.world b.world x order on plan is paths course) in
     plugs_entered plan.events path c d agrees gone enters second.spends.onward was (plugs_forgot m path a b c first r rest plan is paths course plugs)
 
 -- A host that knows of no device
@@ -358,3 +399,12 @@ pub plugs_stopped : (a b : Hosting) (stopped : Bool) → KeepsPlugs a b → Keep
 plugs_stopped a b stopped x plan is paths course plugs =
     let kept : HasPlugs plan.events b = x plan is paths course plugs in
     record { each = kept.each; none_waits = kept.none_waits }
+
+-- A second look at devices that wait: where none does, nothing is done
+
+pub looked_none : (events : List Event) {last : Option (List ℕ)} {round : Round} {a b : Hosting} → LookedAgain last round a b
+    → HasPlugs events a → plug_events events ≤ 127 → (b ≡ a) × (round ≡ Quiet)
+looked_none events (no_device h) plugs few = (refl, refl)
+looked_none events (next_device last path before {old} {mid} {new} looked waits after once) plugs few =
+    let same : mid ≡ old = (looked_none events looked plugs few).0 in
+    absurd (plugs.none_waits few path (ap (λ (h : Hosting). finding_at path h.entries) (sym same) ∙ waits.entry))

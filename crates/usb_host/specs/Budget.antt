@@ -1,5 +1,5 @@
 -- How many attempts what is left to do may take.
-use Rattle.std.specs.Prelude.{◌≡◌, ◌≤◌, ⊤, ℕ, ◌+◌, ◌*◌, length, All, None, Result, Ok, Err}
+use Rattle.std.specs.Prelude.{◌≡◌, ◌≤◌, ⊤, ℕ, ◌+◌, ◌*◌, length, All, None, Result, Ok, Err, OnOk}
 use Rattle.usb_world.specs.PlanData.{PlanData, IsPlan}
 use Rattle.usb_world.specs.PlanCourses.{AtPorts}
 use Rattle.usb_world.specs.Steps.{AnyStep, Course, opening}
@@ -73,4 +73,4 @@ PaysDone c old (Err fault) new = ⊤
 pub record PaysRound (c : Weights) (plan : PlanData) (old : Hosting) (result : Result Round HostFault) (new : Hosting) : Type 0 where
   pub most : Stops c old new
   pub pays : new.world.fault ≡ None → PaysDone c old result new
-  pub plugs : new.world.fault ≡ None → HasPlugs plan.events new
+  pub plugs : OnOk result (new.world.fault ≡ None → HasPlugs plan.events new)

@@ -14,6 +14,7 @@ use Rattle.usb_table.specs.Findings.{accepted_device_at}
 use Rattle.usb_table.specs.Listing.{finding_at}
 use Rattle.usb_host.specs.Hosting.{Hosting}
 
+-- a device is plugged at the path
 abbrev pub PlugsAt : List ℕ → Action → Type 0
 PlugsAt path (Plug at device) = at ≡ path
 PlugsAt path (Unplug at) = ⊥
@@ -45,4 +46,5 @@ pub record HasPlugs (events : List Event) (h : Hosting) : Type 0 where
 
 -- so it stays, in a course of a plan
 abbrev pub KeepsPlugs : Hosting → Hosting → Type 0
-KeepsPlugs old new = (plan : PlanData) → IsPlan plan → AtPorts plan.events → Course AnyStep (opening plan) old.world → HasPlugs plan.events old → HasPlugs plan.events new
+KeepsPlugs old new = (plan : PlanData) → IsPlan plan → AtPorts plan.events → Course AnyStep (opening plan) old.world
+    → HasPlugs plan.events old → HasPlugs plan.events new

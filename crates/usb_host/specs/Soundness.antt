@@ -144,7 +144,8 @@ pub record StaysSound (old new : Hosting) : Type 0 where
   pub sound : IsSound old → IsSound new
   pub caused : IsSound old → IsFairTo old.world new.world → Causes old.world old.entries → Causes new.world new.entries
 
--- the same over a part of a round, which leaves bulk pipes and their endpoints alone, but where a device is found anew; devices stand where some were plugged
+-- the same over a part of a round, which leaves bulk pipes and their endpoints alone, but where a device is found anew; devices stand where one was
+-- plugged, and with few plugs none waits
 pub record PartStays (old new : Hosting) : Type 0 where
   pub sound : StaysSound old new
   pub bulk : IsSound old → new.world.fault ≡ None → KeepsBulk old new

@@ -9,7 +9,6 @@ use Rattle.usb_host.proofs.BulkPipes.{bulk_stays, bulk_then}
 use Rattle.usb_host.proofs.Plugs.{plugs_forgot, plugs_found, plugs_kept, plugs_rests, plugs_then}
 use Rattle.usb_host.proofs.ServedPorts.{cleared_lost, cleared_stay, forgot_open, forgot_sound, forgot_stay}
 use Rattle.usb_host.specs.Progress.{waiting}
-use Rattle.usb_host.specs.Hosting.{Hosting}
 use Rattle.usb_enum.proofs.Interface.{went_sound}
 use Rattle.usb_host.proofs.Joins.{goes_none, goes_then, goes_forgotten}
 use Rattle.usb_host.specs.Ownership.{claims, KeepsPort}
@@ -110,7 +109,7 @@ returns-in_ok-discover-clause-looks g c =
         plugs = λ i still.
             let before = went_sound _ c.args.self.now.world c.forget.new.self.world (goes_forgotten _ _ _ _ c.clear_change.ensures.goes c.forget.ensures.others).went (went_sound _ c.forget.new.self.world c.discover.new.self.world c.discover.ensures.goes.went still) in
             plugs_found _ _ c.args.path.now c.in_ok-status.status c.args.self.now c.clear_change.new.self c.forget.new.self c.discover.new.self (goes_forgotten _ _ _ _ c.clear_change.ensures.goes c.forget.ensures.others).went c.discover.ensures.goes.went c.in_ok-status.ensures.rests
-            (ap (λ (h : Hosting). h.world) c.forget.ensures.others) c.forget.ensures.rest c.forget.ensures.gone c.forget.ensures.agrees
+            c.forget.ensures.others c.forget.ensures.rest c.forget.ensures.gone c.forget.ensures.agrees
             (c.in_ok-status.ensures.clears.reads (claims c.args.self.now.entries) c.args.path.now (stands_at c.args.path.now c.args.port c.args.self.now c.requires) i.owned) (i.order before) c.if-status.true c.in_ok-discover.ensures.entered;
         caused = λ i fair caused.
             let half = fair_before _ c.args.self.now.world c.forget.new.self.world c.discover.new.self.world c.discover.ensures.goes.went fair in
