@@ -22,7 +22,7 @@ use Rattle.usb_world.specs.Losses.{one_more}
 use Rattle.usb_world.specs.World.{World}
 use Rattle.usb_world.specs.Steps.{Step, attempt, root_call, event, report, Course}
 use Rattle.usb_transaction.specs.declared.target.Target.{Target}
-use Rattle.usb_transaction.specs.Leaves.{is_at, ToldIn, AcceptedAt}
+use Rattle.usb_transaction.specs.Leaves.{is_at, ToldSince, AcceptedAt}
 use Rattle.usb_transaction.specs.Transactions.{in_attempt, out_attempt}
 use Rattle.usb_pipe.specs.declared.condition.Condition.TheVariants.{Ready, Halted, Broken as BrokenPipe}
 use Rattle.usb_pipe.specs.Bulk.{Bulk, is_ready}
@@ -234,7 +234,7 @@ pub record ClearLeaves (pipe : Bulk) (result : Result (Unit {0}) PipeFault) (lef
 
 -- a hub's ports told these bits at a moment of a poll
 abbrev pub ToldOf : Interrupt → World → World → Spot → ℕ → Type 0
-ToldOf pipe old new x bits = ToldIn (in_attempt pipe.target 1) old new x bits
+ToldOf pipe old new x bits = ToldSince (in_attempt pipe.target 1) old new x bits
 
 -- the byte of bits that were told, of which one at least is set
 pub record ByteTold (Told : ℕ → Type 0) (bytes : List ℕ) : Type 0 where

@@ -101,14 +101,15 @@ module _ (path : List ℕ) (device : Accepted) (pipe rest : Interrupt) (old new 
   -- the bits that were told
   bits_of : (j : Spot) (bits : ℕ) → path ≡ path_to j → ToldOf pipe before after j bits → BitsOf path before after bits
   bits_of j bits is told = record {
-    mid = told.mid;
-    rests = λ y. trail_rests y refl told.trail x.settled;
-    port = told.b;
-    state = told.s;
-    ports = told.below;
-    stood = ap (place (ready told.mid).roots) is ∙ told.stood;
-    told = told.told;
-    since = λ y. trail_rests y refl told.since (trail_settled told.trail x.settled);
+    mid = told.told.mid;
+    rests = λ y. trail_rests y refl told.told.trail x.settled;
+    port = told.told.b;
+    state = told.told.s;
+    ports = told.told.below;
+    stood = ap (place (ready told.told.mid).roots) is ∙ told.told.stood;
+    told = told.told.told;
+    since = λ y. trail_rests y refl told.told.since (trail_settled told.told.trail x.settled);
+    came = told.came;
   }
 
   tells_of : (j : Spot) → path ≡ path_to j → (r : Result (Option (ArrayVec ℕ)) PipeFault) → PollTells (ToldOf pipe before after j) r → PollTells (BitsOf path before after) r

@@ -1,5 +1,5 @@
 -- That the pipes to a device are as far as the endpoints at their other ends.
-use Rattle.std.specs.Prelude.{◌≡◌, ⊤, ℕ, List, true, false, Option, Some, None, is_some, Result, IsOk}
+use Rattle.std.specs.Prelude.{◌≡◌, ◌≤◌, ⊤, ℕ, List, true, false, Option, Some, None, is_some, Result, IsOk}
 use Rattle.std.specs.BTreeMap.{is_at}
 use Rattle.arrayvec.specs.ArrayVec.{ArrayVec}
 use Rattle.usb_port.specs.Order.{path_cmp}
@@ -89,6 +89,7 @@ pub record BitsOf (path : List ℕ) (old new : World) (bits : ℕ) : Type 0 wher
   pub stood : place (ready mid).roots path ≡ Some (full port state ports)
   pub told : bits ≡ change_bits (row_of ports)
   pub since : AllRest mid new
+  pub came : (ready mid).taken ≤ new.taken  -- the events that were due then have come
 
 -- the hub is reached in the end, and its ports told what came
 pub record HubTold (path : List ℕ) (old : World) (result : Result (Option (ArrayVec ℕ)) PipeFault) (new : World) : Type 0 where

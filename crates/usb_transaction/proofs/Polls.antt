@@ -19,9 +19,10 @@ use Rattle.usb_world.specs.declared.types.Outcome.TheVariants.{Payload, Stall}
 use Rattle.usb_world.specs.Devices.{EachWas, DidIn}
 use Rattle.usb_world.specs.OneHolder.{got}
 use Rattle.usb_world.specs.AttemptPackets.{IsSettled}
-use Rattle.usb_world.specs.Steps.{attempt, after, outcome_in, damage_in, ready}
+use Rattle.usb_world.specs.declared.event.Event.{Event}
+use Rattle.usb_world.specs.Steps.{attempt, after, due_from, is_due, outcome_in, damage_in, ready, took, with_attempt}
 use Rattle.usb_world.specs.World.{World, Made}
-use Rattle.usb_world.proofs.Interface.{decided, got_nak, got_payload, got_stall, no}
+use Rattle.usb_world.proofs.Interface.{decided, got_nak, got_payload, got_stall, made_step, no}
 use Rattle.usb_transaction.specs.declared.fault.TransFault.{TransFault}
 use Rattle.usb_transaction.specs.declared.fault.TransFault.TheVariants.{Stalled, Busy, NoAnswer, Bus}
 use Rattle.usb_transaction.specs.declared.heard_outcome.HeardOutcome.{HeardOutcome}
@@ -29,7 +30,7 @@ use Rattle.usb_transaction.specs.declared.heard_outcome.HeardOutcome.TheVariants
 use Rattle.usb_transaction.specs.declared.target.Target.{Target}
 use Rattle.usb_transaction.specs.Failures.{NoThreeDamaged, Listens, WhyPoll}
 use Rattle.usb_transaction.specs.HeardOutcomes.{polled, polled_as}
-use Rattle.usb_transaction.specs.Leaves.{IsNotOfBus, is_at, ToldIn, ToldBy, ToldSome, none_came, one_came, PollEnds, ChangesIn}
+use Rattle.usb_transaction.specs.Leaves.{IsNotOfBus, is_at, ToldIn, ToldSince, ToldBy, ToldSome, none_came, one_came, PollEnds, ChangesIn}
 use Rattle.usb_transaction.specs.Trail.{Trail, IsNoEnd, Polled, waits_with, waits_in, errors_running}
 use Rattle.usb_transaction.specs.Transactions.{packed, in_attempt}
 use Rattle.usb_transaction.proofs.DeviceRuns.{Asked, IsOfBus, IsPollEnd, Through, Told, as_whole, asked_in, at_end, each_device, in_others, listens_on, of_bus, one_wait, over_polled, stays_away}
@@ -138,6 +139,21 @@ module _ (Told : ℕ → Type 0) (bits : ℕ) (t : Toggle) (max : ℕ) (m : 1 �
   says : (o : Outcome) (x : Option Answer) → o ≡ got max x → (x ≡ Some answer.Nak → Told bits) → PollOn (ToldSome Told) bits t x v → Says o
   says o x e so on = rw e (λ n. goes_on x on n, λ result outcomes is. ends result x outcomes so on is)
 
+-- The events that are due come with an attempt
+
+due_taken : (es : List Event) (w : World) → w.taken ≤ (due_from es w).taken
+unfolding due_from took
+due_taken [] w = omega arith
+due_taken (e ∷ es) w = elim (is_due e w) as (λ b. w.taken ≤ (if b then due_from es (took e es w) else w).taken) [ true ↦ (let more = due_taken es (took e es w) in omega (arith, more)) | false ↦ omega arith ]
+
+due_onward : (w : World) → w.taken ≤ (ready w).taken
+unfolding ready
+due_onward w = due_taken w.left w
+
+due_came : (a : Attempt) (w : World) → Made w (after (attempt a) w) → (ready w).taken ≤ (after (attempt a) w).taken
+unfolding with_attempt
+due_came a w made = let same : (after (attempt a) w).taken ≡ (ready w).taken = ap (λ (v : World). v.taken) (made_step a w made) in omega (arith, same)
+
 -- A hub that tells of changes, at the target
 
 module _ (t : Target) (toggle : Toggle) (old : World) (m : 1 ≤ t.max) (j : Spot) (s : State) (at : is_at s t ≡ true) (h : tells_changes s.spec s.registers ≡ true) where
@@ -192,46 +208,50 @@ module _ (t : Target) (toggle : Toggle) (old : World) (m : 1 ≤ t.max) (j : Spo
     abbrev Ever : ℕ → Type 0
     Ever bits = (now : World) × ToldIn a old now j bits
 
-    by_then : PollAt (ToldSome (ToldIn a old w j)) toggle u → PollAt (ToldSome Ever) toggle u
-    by_then = told_as (ToldSome (ToldIn a old w j)) (ToldSome Ever) (λ bits x. (x.0, (w, x.1))) toggle u
+    by_then : PollAt (ToldSome (ToldSince a old w j)) toggle u → PollAt (ToldSome Ever) toggle u
+    by_then = told_as (ToldSome (ToldSince a old w j)) (ToldSome Ever) (λ bits x. (x.0, (w, x.1.told))) toggle u
 
-    gave_then : DidIn a w j u v → PollAt (ToldSome (ToldIn a old w j)) toggle u → Says Ever 0 toggle t.max m v (outcome_in a w)
+    gave_then : DidIn a w j u v → PollAt (ToldSome (ToldSince a old w j)) toggle u → Says Ever 0 toggle t.max m v (outcome_in a w)
     gave_then d before = gave_it Ever (λ b below stood. (w, told_here b below stood w [] Trail.start)) d (by_then before)
 
-    gave_since : Made w (after (attempt a) w) → DidIn a w j u v → PollAt (ToldSome (ToldIn a old w j)) toggle u → Says (ToldIn a old (after (attempt a) w) j) 0 toggle t.max m v (outcome_in a w)
+    gave_since : Made w (after (attempt a) w) → DidIn a w j u v → PollAt (ToldSome (ToldSince a old w j)) toggle u → Says (ToldSince a old (after (attempt a) w) j) 0 toggle t.max m v (outcome_in a w)
+    unfolding told_here
     gave_since made d before =
-        gave_it (ToldIn a old (after (attempt a) w) j) (λ b below stood. told_here b below stood (after (attempt a) w) (outcome_in a w ∷ []) (Trail.next w Trail.start made)) d
-        (told_as (ToldSome (ToldIn a old w j)) (ToldSome (ToldIn a old (after (attempt a) w) j)) (λ bits x. (x.0, told_on bits x.1)) toggle u before)
+        gave_it (ToldSince a old (after (attempt a) w) j) (λ b below stood. record { told = told_here b below stood (after (attempt a) w) (outcome_in a w ∷ []) (Trail.next w Trail.start made); came = due_came a w made }) d
+        (told_as (ToldSome (ToldSince a old w j)) (ToldSome (ToldSince a old (after (attempt a) w) j)) (λ bits x. (x.0, told_on bits x.1)) toggle u before)
       where
-        told_on : (bits : ℕ) → ToldIn a old w j bits → ToldIn a old (after (attempt a) w) j bits
+        told_on : (bits : ℕ) → ToldSince a old w j bits → ToldSince a old (after (attempt a) w) j bits
         told_on bits x = record {
-          outcomes = x.outcomes;
-          mid = x.mid;
-          trail = x.trail;
-          b = x.b;
-          s = x.s;
-          below = x.below;
-          stood = x.stood;
-          told = x.told;
-          later = outcome_in a w ∷ x.later;
-          since = Trail.next w x.since made;
+          told = record {
+            outcomes = x.told.outcomes;
+            mid = x.told.mid;
+            trail = x.told.trail;
+            b = x.told.b;
+            s = x.told.s;
+            below = x.told.below;
+            stood = x.told.stood;
+            told = x.told.told;
+            later = outcome_in a w ∷ x.told.later;
+            since = Trail.next w x.told.since made;
+          };
+          came = omega (arith, x.came, due_onward w, due_came a w made);
         }
 
-    ended : (result : Result (Option (List ℕ)) TransFault) (new : World) → DidIn a w j u v → PollAt (ToldSome (ToldIn a old w j)) toggle u → IsPollEnd toggle result (outcome_in a w) outcomes → ((IsOfBus result → ⊥) → Told a w new)
+    ended : (result : Result (Option (List ℕ)) TransFault) (new : World) → DidIn a w j u v → PollAt (ToldSome (ToldSince a old w j)) toggle u → IsPollEnd toggle result (outcome_in a w) outcomes → ((IsOfBus result → ⊥) → Told a w new)
         → PollEnds (ToldBy a old result new j) toggle result v
     ended (Ok got) new d before end made =
         let m : Told a w new = made (λ g. g tt) in
-        subst (λ n. PollEnds (ToldIn a old n j) toggle (Ok got) v) (sym m.1) ((gave_since m.0 d before).1 (Ok got) outcomes end)
+        subst (λ n. PollEnds (ToldSince a old n j) toggle (Ok got) v) (sym m.1) ((gave_since m.0 d before).1 (Ok got) outcomes end)
     ended (Err fault) new d before end made = (gave_then d before).1 (Err fault) outcomes end
 
   left : (result : Result (Option (List ℕ)) TransFault) (new : World) (v : State) → Through (DidIn a) a hear (IsPollEnd toggle result) (IsOfBus result) old new j s v
       → OnlyChanges s v × (PollAt NeverTold toggle s → PollEnds (ToldBy a old result new j) toggle result v)
   left result new v run =
-      at_end hear (λ outcomes w u. OnlyChanges s u × (PollAt NeverTold toggle s → PollAt (ToldSome (ToldIn a old w j)) toggle u)) (refl, never_told (ToldSome (ToldIn a old old j)) toggle s)
+      at_end hear (λ outcomes w u. OnlyChanges s u × (PollAt NeverTold toggle s → PollAt (ToldSome (ToldSince a old w j)) toggle u)) (refl, never_told (ToldSome (ToldSince a old old j)) toggle s)
       (λ outcomes w u x r made i d n. (frame outcomes w r u x i.0 d, λ k. (gave_since outcomes w r u x i.0 d made d (i.1 k)).0 n))
       (λ x. OnlyChanges s x × (PollAt NeverTold toggle s → PollEnds (ToldBy a old result new j) toggle result x)) v
       (λ outcomes w u r i d end made. (frame outcomes w r u v i.0 d, λ k. ended outcomes w r u v i.0 d result new d (i.1 k) end made))
-      (λ gave outcomes w i. (i.0, λ k. of_bus (λ x. PollEnds (ToldBy a old x new j) toggle x v) (λ fault. none_came (told_as (ToldSome (ToldIn a old w j)) (ToldSome (λ bits. (now : World) × ToldIn a old now j bits)) (λ bits x. (x.0, (w, x.1))) toggle v (i.1 k))) result gave)) run
+      (λ gave outcomes w i. (i.0, λ k. of_bus (λ x. PollEnds (ToldBy a old x new j) toggle x v) (λ fault. none_came (told_as (ToldSome (ToldSince a old w j)) (ToldSome (λ bits. (now : World) × ToldIn a old now j bits)) (λ bits x. (x.0, (w, x.1.told))) toggle v (i.1 k))) result gave)) run
 
   -- the endpoint is level, and no attempt is a wait; or it is behind, and as many as there were waits were damaged
   abbrev Stands : ℕ → World → State → Type 0

@@ -158,9 +158,14 @@ pub record ToldIn (a : Attempt) (old new : World) (x : Spot) (bits : ℕ) : Type
   pub later : List Outcome
   pub since : Trail a mid later new
 
+-- and the events that were due when it was made have come
+pub record ToldSince (a : Attempt) (old new : World) (x : Spot) (bits : ℕ) : Type 0 where
+  pub told : ToldIn a old new x bits
+  pub came : (ready told.mid).taken ≤ new.taken
+
 -- up to the end of a poll that is done; where it failed, up to some moment of it
 abbrev pub ToldBy : Attempt → World → Result (Option (List ℕ)) TransFault → World → Spot → ℕ → Type 0
-ToldBy a old (Ok got) new x bits = ToldIn a old new x bits
+ToldBy a old (Ok got) new x bits = ToldSince a old new x bits
 ToldBy a old (Err fault) new x bits = (now : World) × ToldIn a old now x bits
 
 -- so it is of bits of which one at least is set
