@@ -9,6 +9,13 @@ pub mod Looks
 pub mod HubCounts
 pub mod LookPayments
 pub mod ServePayments
+pub mod Ledgers
+pub mod Payments
+pub mod HandlingPayments
+pub mod ToldPayments
+pub mod ToldBits
+pub mod HubPayments
+pub mod RoundPayments
 pub mod Services
 pub mod HubServices
 pub mod RoundServices

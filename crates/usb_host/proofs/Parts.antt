@@ -28,7 +28,7 @@ use Rattle.usb_host.specs.Hosting.{Hosting}
 use Rattle.usb_host.specs.Ownership.{StaysOwned, StaysSingle, KeepsOwned, DropsHub}
 use Rattle.usb_host.specs.Transfers.{table_in}
 use Rattle.usb_host.specs.Progress.{HostWent, HostGoes, either}
-use Rattle.usb_host.specs.Soundness.{IsSound, StaysSound, PartStays, DropsSound, PartKeeps, PartsKeep, RootsRest, HubKeeps, HubsKeep, LooksKeep}
+use Rattle.usb_host.specs.Soundness.{IsSound, StaysSound, PartStays, DropsSound, PartKeeps, PartsKeep, RootsRest, HubKeeps, HubsKeep, LooksKeep, NoneWait}
 use Rattle.usb_host.specs.declared.fault.HostFault.{HostFault}
 use Rattle.usb_host.specs.declared.host.Round.{Round}
 use Rattle.usb_host.specs.declared.host.Round.TheVariants.{Worked, Quiet}
@@ -67,8 +67,8 @@ module _ (result : Result Round HostFault) (a b c : Hosting) (e : IsErr result) 
     agrees = on_failed result (Agrees c.entries c.addresses) e;
   }
 
-  pub looks_fail : LooksKeep a result c
-  looks_fail = record { owned = owned_fails result a b c e x y; sound = on_failed result (PartStays a c) e; rest = λ r is. not_done result Quiet e is }
+  pub looks_fail : (NoneWait a.entries → ⊥) → LooksKeep a result c
+  looks_fail waits = record { owned = owned_fails result a b c e x y; sound = on_failed result (PartStays a c) e; rest = λ r is. not_done result Quiet e is; idle = λ none. absurd (waits none) }
 
   pub parts_fail : PartsKeep a result c
   parts_fail = record { owned = owned_fails result a b c e x y; sound = record { keeps = on_failed result (PartStays a c) e; rest = λ s is. not_done result Quiet e is } }

@@ -44,9 +44,7 @@ use Rattle.usb_host.specs.Ownership.{HasLost}
 use Rattle.usb_host.specs.Plugs.{HasPlugs, KeepsPlugs, PlugsAt, WasPlugged, is_plug, plug_events}
 use Rattle.usb_host.specs.Ports.{EntersOne}
 use Rattle.usb_host.specs.Progress.{HostWent, Rests}
-use Rattle.usb_host.specs.Service.{ClearsAndReads, DoneWhere, LookedAgain, no_device, next_device}
-use Rattle.usb_host.specs.declared.host.Round.{Round}
-use Rattle.usb_host.specs.declared.host.Round.TheVariants.{Quiet}
+use Rattle.usb_host.specs.Service.{ClearsAndReads, DoneWhere}
 use Rattle.usb_host.proofs.Agreements.{lookup-insert_entry_elsewhere}
 use Rattle.usb_host.proofs.Balances.{accounts_listed, one}
 use Rattle.usb_host.proofs.BulkPipes.{device_found}
@@ -63,14 +61,14 @@ module _ {X : Type 0} (P : X → Type 0) where
   any_later : (x : X) (xs : List X) → Any P xs → Any P (x ∷ xs)
   any_later x xs a = (suc a.0, a.1, omega (arith, a.2), a.3, a.4)
 
-  any_cases : (x : X) (xs : List X) → Any P (x ∷ xs) → P x ⊎ Any P xs
+  pub any_cases : (x : X) (xs : List X) → Any P (x ∷ xs) → P x ⊎ Any P xs
   any_cases x xs a = pick a.0 a.1 a.2 a.3 a.4
     where
       pick : (k : ℕ) (y : X) → k < length (x ∷ xs) → slice_index_or (x ∷ xs) k y ≡ y → P y → P x ⊎ Any P xs
       pick zero y less is so = inl (subst P (sym is) so)
       pick (suc k) y less is so = inr (k, y, omega (arith, less), is, so)
 
-  any_none : Any P [] → ⊥
+  pub any_none : Any P [] → ⊥
   any_none a = absurd (omega (arith, a.2))
 
   any_taken : (m n : ℕ) (xs : List X) → m ≤ n → Any P (take m xs) → Any P (take n xs)
@@ -157,7 +155,7 @@ index_some None (Some s) plan there is = absurd (cc is)
 index_some None None plan there is = absurd (cc there)
 index_some (Some i) s plan there is = (i, refl)
 
-plugged_there : (plan : PlanData) → IsPlan plan → AtPorts plan.events → (w : World) → Course AnyStep (opening plan) w
+pub plugged_there : (plan : PlanData) → IsPlan plan → AtPorts plan.events → (w : World) → Course AnyStep (opening plan) w
     → (path : List ℕ) → is_some (state_there w.roots path) ≡ true → WasPlugged plan.events w.taken path
 plugged_there plan is paths w course path there =
     let came : List Event = take w.taken plan.events in
@@ -399,12 +397,3 @@ pub plugs_stopped : (a b : Hosting) (stopped : Bool) → KeepsPlugs a b → Keep
 plugs_stopped a b stopped x plan is paths course plugs =
     let kept : HasPlugs plan.events b = x plan is paths course plugs in
     record { each = kept.each; none_waits = kept.none_waits }
-
--- A second look at devices that wait: where none does, nothing is done
-
-pub looked_none : (events : List Event) {last : Option (List ℕ)} {round : Round} {a b : Hosting} → LookedAgain last round a b
-    → HasPlugs events a → plug_events events ≤ 127 → (b ≡ a) × (round ≡ Quiet)
-looked_none events (no_device h) plugs few = (refl, refl)
-looked_none events (next_device last path before {old} {mid} {new} looked waits after once) plugs few =
-    let same : mid ≡ old = (looked_none events looked plugs few).0 in
-    absurd (plugs.none_waits few path (ap (λ (h : Hosting). finding_at path h.entries) (sym same) ∙ waits.entry))

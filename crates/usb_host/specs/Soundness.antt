@@ -1,5 +1,5 @@
 -- When what a host knows of its ports is so.
-use Rattle.std.specs.Prelude.{◌≡◌, ◌⊎◌, ◌≤◌, ℕ, List, [], ◌∷◌, ◌++◌, None, Some, IsSome, IfSome, unwrap_or, option_map, true, false, ⊤, Result, Ok, OnOk, All}
+use Rattle.std.specs.Prelude.{◌≡◌, ◌≢◌, ◌⊎◌, ◌≤◌, ℕ, List, [], ◌∷◌, ◌++◌, None, Some, IsSome, IfSome, unwrap_or, option_map, true, false, ⊤, Result, Ok, OnOk, All}
 use Rattle.usb_port.specs.Order.{parent_of, port_on_hub}
 use Rattle.usb_resources.specs.Pool.{Addresses}
 use Rattle.usb_device.specs.Rows.{State}
@@ -103,7 +103,11 @@ pub record Accounted (roots : ℕ) (entries : Entries) (addresses : Addresses) :
   pub agrees : Agrees entries addresses
   pub root : (path : List ℕ) → IsSome (finding_at path entries) → parent_of path ≡ None → port_on_hub path ≤ roots
 
--- a device waits for an address only where each is listed
+-- no device waits for an address
+abbrev pub NoneWait : Entries → Type 0
+NoneWait entries = (path : List ℕ) → finding_at path entries ≢ Some (Refused NoAddress)
+
+-- one does only where each is listed
 abbrev pub NoneWaiting : Entries → Type 0
 NoneWaiting entries = (path : List ℕ) → finding_at path entries ≡ Some (Refused NoAddress) → ListsEach entries
 
@@ -211,6 +215,7 @@ pub record LooksKeep (old : Hosting) (result : Result Round HostFault) (new : Ho
   pub owned : KeepsOwned old result new
   pub sound : KeepsSound old result new
   pub rest : IsRooted old → result ≡ Ok Quiet → (new ≡ old) × NoneWaiting new.entries
+  pub idle : NoneWait old.entries → (result ≡ Ok Quiet) × (new ≡ old)
 
 -- all of them
 pub record PartsKeep (old : Hosting) (result : Result Round HostFault) (new : Hosting) : Type 0 where
@@ -220,10 +225,6 @@ pub record PartsKeep (old : Hosting) (result : Result Round HostFault) (new : Ho
 -- Whole calls
 
 -- devices hold the addresses that the host has for them, and what is known stays so
-pub record RoundKeeps (old : Hosting) (result : Result Round HostFault) (new : Hosting) : Type 0 where
-  pub owning : Owning old → Owning new
-  pub sound : RoundsSound old result new
-
 pub record TransferKeeps (old new : Hosting) : Type 0 where
   pub owning : Owning old → Owning new
   pub sound : StaysSound old new
