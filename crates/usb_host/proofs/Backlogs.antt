@@ -78,11 +78,11 @@ connection_done p status old w v new d t rest = record {
 
 -- What that pays
 
-place_of : (o : Option Place) (b : PortState) → option_map port_of o ≡ Some b → (q : Place) × (o ≡ Some q) × (port_of q ≡ b)
+pub place_of : (o : Option Place) (b : PortState) → option_map port_of o ≡ Some b → (q : Place) × (o ≡ Some q) × (port_of q ≡ b)
 place_of None b e = absurd (cc e)
 place_of (Some q) b e = (q, refl, same_Some (port_of q) b e)
 
-full_of : (o : Option Place) → is_some (stands o) ≡ true → (b : PortState) × (s : State) × (a : Ports) × (o ≡ Some (full b s a))
+pub full_of : (o : Option Place) → is_some (stands o) ≡ true → (b : PortState) × (s : State) × (a : Ports) × (o ≡ Some (full b s a))
 full_of None e = absurd (cc e)
 full_of (Some (empty b)) e = absurd (cc e)
 full_of (Some (full b s a)) e = (b, s, a, refl)
@@ -92,7 +92,7 @@ told_place : (p : List ℕ) (status : PortStatus) (old new : World) (t : PortTol
 told_place p status old new t = place_of (place t.now.roots p) t.port (sym (port_of_place t.now.roots p) ∙ t.stood)
 
 -- no port tells of a change of its enable
-steady_place : (q : Place) → IsSanePlace q → (port_of q).enable_changed ≡ false
+pub steady_place : (q : Place) → IsSanePlace q → (port_of q).enable_changed ≡ false
 unfolding IsSanePlace
 steady_place (empty b) h = h.0.steady
 steady_place (full b s a) h = h.0.steady

@@ -35,6 +35,14 @@ due_none (e ∷ es) w same = split (is_due e w) same
     split true more = let least = due_taken es (took e es w) in absurd (omega (arith, more, least))
     split false more = refl
 
+pub ready_taken : (w : World) → w.taken ≤ (ready w).taken
+unfolding ready
+ready_taken w = due_taken w.left w
+
+pub ready_none : (w : World) → (ready w).taken ≡ w.taken → (ready w).roots ≡ w.roots
+unfolding ready
+ready_none w same = due_none w.left w same
+
 attempted_taken : (a : Attempt) (f : Option BusFault) (w : World) → w.taken ≤ (attempted a f w).taken
 unfolding ready with_attempt
 attempted_taken a (Some f) w = omega arith

@@ -56,6 +56,7 @@ use Rattle.usb_host.proofs.BulkPipes.{AllStay, bulk_stays, stay_forgotten, stay_
 use Rattle.usb_host.proofs.EntryClaims.{lookup-insert_entry_here}
 use Rattle.usb_host.proofs.DroppedHubs.{still_sound, claimed, is_call, lost_sound_there}
 use Rattle.usb_host.proofs.Enumerations.{askable_wide}
+use Rattle.usb_host.proofs.Plugs.{plugs_lost}
 use Rattle.usb_host.proofs.FoundDevices.{begins, found_only, supply_found, entered_bulk, entered_sound, unfound_bulk, unfound_sound}
 use Rattle.usb_host.proofs.Handlings.{root_done}
 use Rattle.usb_host.proofs.Places.{finding-none, causes_dropped, causes_found}
@@ -352,10 +353,11 @@ module _ (lost : List ℕ) (b c d : Hosting) (least : 1 ≤ length lost) (others
       (stay_refused lost Lost c d table same)
 
   -- it is listed as lost
-  pub lost_drops : (hub : List ℕ) (a : Hosting) → Rests a b → Climbs hub a (Ok lost) b → DropsHub hub a (Ok tt) d → DropsSound hub a (Ok tt) d
-  lost_drops hub a r climbs drops = record {
+  pub lost_drops : (hub : List ℕ) (a : Hosting) → Rests a b → a.world.taken ≤ b.world.taken → Climbs hub a (Ok lost) b → DropsHub hub a (Ok tt) d → DropsSound hub a (Ok tt) d
+  lost_drops hub a r onward climbs drops = record {
     sound = λ p. lost_sound_there hub lost a b c d least (climbs.sound p) others rest pipes gone same table p drops;
     bulk = λ p still. bulk_stays a d (lost_stay a r climbs.devices (drops.ends p.but.owned).single);
+    plugs = plugs_lost hub a d (subst (λ (w : World). a.world.taken ≤ w.taken) (sym world_same) onward) drops.lost;
     backlog = λ p still. subst (KeepsAll a.world) (sym world_same) (climbs.backlog p (ap (λ (w : World). w.fault) (sym world_same) ∙ still));
     caused = λ p fair pends caused. let x = climbs.caused p (fair_same b c a.world d.world others same fair) pends caused in lost_causes x.0 x.1;
   }

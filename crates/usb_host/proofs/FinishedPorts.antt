@@ -11,6 +11,7 @@ use Rattle.usb_host.specs.Soundness.{KeepsSound}
 use Rattle.usb_host.specs.declared.fault.HostFault.{HostFault}
 use Rattle.usb_host.proofs.BulkPipes.{bulk_then}
 use Rattle.usb_host.proofs.Fairness.{fair_before, fair_after}
+use Rattle.usb_host.proofs.Plugs.{plugs_then}
 
 -- the host goes on after it
 goes_on : (served : Result (Unit {0}) EnumFault) → EndsAs served (Ok tt) → LetsGoOn served
@@ -30,4 +31,5 @@ finished_sound path m n served (Ok tt) a b c first second ends x y = record {
         y.caused (x.sound s) (fair_after m a.world b.world c.world first fair) (x.caused s before k);
   };
   bulk = λ s still. bulk_then m n a b c first second still (x.bulk s (goes_on served ends) (went_sound n b.world c.world second still)) (y.bulk (x.sound s) still);
+  plugs = λ s still. plugs_then m n a b c first second still (x.plugs s (went_sound n b.world c.world second still)) y.plugs;
 }

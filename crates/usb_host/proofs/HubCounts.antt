@@ -16,10 +16,10 @@ use Rattle.usb_enum.specs.declared.hub.HubFacts.{HubFacts}
 use Rattle.usb_table.specs.Entries.{Entries, is_at_or_below, without}
 use Rattle.usb_table.specs.Findings.{is_hub}
 use Rattle.usb_table.specs.Listing.{finding_at, hub_facts_at, hub_facts_in}
-use Rattle.usb_host.specs.Backlog.{hubs}
+use Rattle.usb_host.specs.Backlog.{FindsNone, hubs}
 use Rattle.usb_host.specs.Hosting.{Hosting}
 use Rattle.usb_host.specs.Ports.{EntersOne}
-use Rattle.usb_host.specs.Progress.{Rests}
+use Rattle.usb_host.specs.Progress.{HostWent, Rests}
 use Rattle.usb_host.proofs.Balances.{one_most, one}
 use Rattle.usb_world.proofs.Interface.{at_or_below_way}
 use Rattle.usb_table.proofs.Interface.{path_tied}
@@ -93,6 +93,10 @@ hubs-dropped lost hub old left new way rest entered some =
 
 pub hubs-rest : (a b : Hosting) → Rests a b → hubs b.entries ≡ hubs a.entries
 hubs-rest a b r = ap (λ (h : Hosting). hubs h.entries) r
+
+-- nothing but a request was made
+pub none_rests : (n : ℕ) (a b : Hosting) → HostWent n a b → Rests a b → FindsNone n a b
+none_rests n a b went r = record { went = went; hubs = omega (arith, hubs-rest a b r) }
 
 pub hubs-gone : (path : List ℕ) (a b c : Hosting) → Rests a b → c.entries ≡ without path b.entries → hubs c.entries ≤ hubs a.entries
 hubs-gone path a b c r rest =

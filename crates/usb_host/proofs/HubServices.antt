@@ -77,7 +77,7 @@ module _ (hub : List ℕ) (a b : Hosting) (same : b.entries ≡ a.entries) (pool
           ap (λ (d : Accepted). is_some d.hub) (sym is) ∙ ap is_some there.told
 
   module _ (got : Option (ArrayVec ℕ)) (polled : PipesPolled (pipes_at hub (table_in a)) a.world (Ok got) (pipes_at hub (table_in b)) b.world) (keeps : KeepsPolled hub (table_in a) a.world (Ok got) (table_in b) b.world) where
-    hub_tells : IsSound a → b.world.fault ≡ None → HubTold hub a.world (Ok got) b.world
+    pub hub_tells : IsSound a → b.world.fault ≡ None → HubTold hub a.world (Ok got) b.world
     hub_tells s still = pick (hub_facts_at hub a.entries) refl listed
       where
         pick : (o : Option HubFacts) → hub_facts_at hub a.entries ≡ o → IsSome o → HubTold hub a.world (Ok got) b.world

@@ -9,6 +9,13 @@ pub mod Looks
 pub mod HubCounts
 pub mod LookPayments
 pub mod ServePayments
+pub mod Ledgers
+pub mod Payments
+pub mod HandlingPayments
+pub mod ToldPayments
+pub mod ToldBits
+pub mod HubPayments
+pub mod RoundPayments
 pub mod Services
 pub mod HubServices
 pub mod RoundServices
@@ -38,6 +45,7 @@ pub mod Roots
 pub mod Events
 mod ComingEvents
 pub mod Places
+pub mod Plugs
 pub mod Clearings
 pub mod TidiedPorts
 pub mod RestedWorlds

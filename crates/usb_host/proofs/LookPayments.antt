@@ -13,7 +13,7 @@ use Rattle.usb_enum.specs.TextLengths.{HasPlanWithin}
 use Rattle.usb_enum.proofs.Interface.{went_course, went_sound}
 use Rattle.usb_world.proofs.Interface.{course_joined, course_wider}
 use Rattle.usb_table.specs.declared.known.KnownPort.{KnownPort}
-use Rattle.usb_host.specs.Backlog.{ChangeCleared, ClearsConnection, LookPaid, LookPays, seen, unseen}
+use Rattle.usb_host.specs.Backlog.{ChangeCleared, ClearsConnection, FindsNone, LookPaid, LookPays, seen, unseen}
 use Rattle.usb_host.specs.Bounds.{clearing_bound}
 use Rattle.usb_host.specs.Hosting.{Hosting}
 use Rattle.usb_host.specs.Ownership.{claims}
@@ -42,10 +42,10 @@ look_seen before a (Err Memory) d x = tt
 
 module _ (path : List ℕ) (port : KnownPort) (a b : Hosting) (s : StandsAt path port a) (went : HostWent clearing_bound a b) (i : IsSound a) (before : World) (status : PortStatus) (ports : AtPorts before.left) (told : PortTold path status before a.world) where
   -- the hub was lost as the change was cleared
-  pub look_lost : (fault : EnumFault) → ClearsChange port.port a.world (Err fault) b.world → LookPays before a (Err fault) b
-  look_lost ParentLost x = inr (told_keeps path status before a.world b.world ports told (x.backlog (claims a.entries) path (stands_at path port a s) i.owned tt), went)
-  look_lost (Bus fault) x = tt
-  look_lost Memory x = tt
+  pub look_lost : FindsNone clearing_bound a b → (fault : EnumFault) → ClearsChange port.port a.world (Err fault) b.world → LookPays before a (Err fault) b
+  look_lost none ParentLost x = inr (told_keeps path status before a.world b.world ports told (x.backlog (claims a.entries) path (stands_at path port a s) i.owned tt), none)
+  look_lost none (Bus fault) x = tt
+  look_lost none Memory x = tt
 
   module _ (changed : status.connection_changed ≡ true) (second : PortStatus) (cleared : ClearsConnection port.port second a.world b.world) (c : Hosting) (others : c ≡ record b { entries = c.entries; pipes = c.pipes; addresses = c.addresses }) where
     same : c.world ≡ b.world
@@ -66,7 +66,7 @@ module _ (path : List ℕ) (port : KnownPort) (a b : Hosting) (s : StandsAt path
         (told_looks path status before a.world ports told changed second b.world at_port (orderly still_b) on d.world (subst (λ (w : World). KeepsFound path w d.world) same found))
 
     -- nothing was seen
-    pub look_bare : HostWent clearing_bound a c → c.world.fault ≡ None → LookPaid before a c
+    pub look_bare : FindsNone clearing_bound a c → c.world.fault ≡ None → LookPaid before a c
     look_bare gone still =
         let still_b : b.world.fault ≡ None = ap (λ (w : World). w.fault) (sym same) ∙ still in
         unseen (subst (λ (w : World). PaysBare before w) (sym same) (told_bares path status before a.world ports told changed second b.world at_port (orderly still_b))) gone

@@ -28,11 +28,12 @@ use Rattle.usb_host.specs.Hosting.{Hosting}
 use Rattle.usb_host.specs.Ownership.{StaysOwned, StaysSingle, KeepsOwned, DropsHub}
 use Rattle.usb_host.specs.Transfers.{table_in}
 use Rattle.usb_host.specs.Progress.{HostWent, HostGoes, either}
-use Rattle.usb_host.specs.Soundness.{IsSound, StaysSound, PartStays, DropsSound, PartKeeps, PartsKeep, RootsRest, HubKeeps, HubsKeep, LooksKeep}
+use Rattle.usb_host.specs.Soundness.{IsSound, StaysSound, PartStays, DropsSound, PartKeeps, PartsKeep, RootsRest, HubKeeps, HubsKeep, LooksKeep, NoneWait}
 use Rattle.usb_host.specs.declared.fault.HostFault.{HostFault}
 use Rattle.usb_host.specs.declared.host.Round.{Round}
 use Rattle.usb_host.specs.declared.host.Round.TheVariants.{Worked, Quiet}
 use Rattle.usb_host.proofs.BulkPipes.{bulk_stays, stay_polled}
+use Rattle.usb_host.proofs.Plugs.{plugs_kept}
 use Rattle.usb_host.proofs.Handlings.{match_err, hub_lost}
 use Rattle.usb_host.proofs.Owners.{stays_kept, stays_then, single_then}
 use Rattle.usb_host.proofs.Polls.{HubThere, hub_there, reached_at, heard_at, poll_silent}
@@ -66,8 +67,8 @@ module _ (result : Result Round HostFault) (a b c : Hosting) (e : IsErr result) 
     agrees = on_failed result (Agrees c.entries c.addresses) e;
   }
 
-  pub looks_fail : LooksKeep a result c
-  looks_fail = record { owned = owned_fails result a b c e x y; sound = on_failed result (PartStays a c) e; rest = λ r is. not_done result Quiet e is }
+  pub looks_fail : (NoneWait a.entries → ⊥) → LooksKeep a result c
+  looks_fail waits = record { owned = owned_fails result a b c e x y; sound = on_failed result (PartStays a c) e; rest = λ r is. not_done result Quiet e is; idle = λ none. absurd (waits none) }
 
   pub parts_fail : PartsKeep a result c
   parts_fail = record { owned = owned_fails result a b c e x y; sound = record { keeps = on_failed result (PartStays a c) e; rest = λ s is. not_done result Quiet e is } }
@@ -112,7 +113,7 @@ module _ (hub : List ℕ) (answer : Result (Option (ArrayVec ℕ)) PipeFault) (a
       bulk_stays a b (stay_polled hub a b answer through asks (keeps.spares (s.owned.so before) (s.level before hub)))
 
   part : IsOk answer → PartStays a b
-  part ok = record { sound = sound ok; bulk = bulk }
+  part ok = record { sound = sound ok; bulk = bulk; plugs = λ s still. plugs_kept a b went.spends.onward same }
 
   -- it has nothing to tell
   pub hub_quiet : (pipes left : Pipes) → IsOk answer → ArePipesIf (accepted_device_at hub a.entries) (is_below_hub hub) pipes → PipesPolled pipes a.world (Ok None) left b.world → HubKeeps hub a (Ok Quiet) b
@@ -163,7 +164,7 @@ module _ (hub : List ℕ) (answer : Result (Option (ArrayVec ℕ)) PipeFault) (a
         owned = hub_lost hub a b (Ok tt) c there polled drops;
         sound = sound_dropped (Ok tt) hub 768 n a b c goes q
             (λ s. record { listed = there; but = but_kept 768 hub (IsOk answer) a b agrees same went keeps.levels s; there = λ still. occupied_kept 768 hub (IsOk answer) a b agrees same went keeps.levels s there still agrees_on })
-            (caused_kept 768 hub (IsOk answer) a b agrees same went keeps.levels) bulk dropped (pends failed listed);
+            (caused_kept 768 hub (IsOk answer) a b agrees same went keeps.levels) bulk (plugs_kept a b went.spends.onward same) dropped (pends failed listed);
         calm = λ is. absurd (cc is);
         silent = λ s is. absurd (cc is);
       }

@@ -2,6 +2,8 @@
 use Rattle.std.proofs.Common.{◌≡◌, ◌∙◌, refl, sym, ap, subst, Bool, false, List, ℕ, Option, Some, Result, Ok, Err, is_err}
 use Rattle.std.specs.Prelude.{IfOk, IsErr}
 use Rattle.usb_table.specs.NextEntries.{ComesAfter}
+use Rattle.usb_world.specs.PlanData.{PlanData}
+use Rattle.usb_host.specs.Budget.{Affords, PaysRound, Weights}
 use Rattle.usb_host.specs.Hosting.{Hosting}
 use Rattle.usb_host.specs.Ownership.{KeepsOwned}
 use Rattle.usb_host.specs.Ports.{Waits}
@@ -24,9 +26,9 @@ looked_then last path before round a b c looked waits after is once =
 
 -- The parts
 
-pub parts_failed : (result : Result Round HostFault) (a b : Hosting) → IsErr result → WentByParts a result b
-parts_failed (Ok round) a b e = absurd (cc e)
-parts_failed (Err fault) a b e = record { none = λ is. absurd (cc is); parts = tt }
+pub parts_failed : (result : Result Round HostFault) (a b : Hosting) → IsErr result → ((c : Weights) (plan : PlanData) → Affords c plan a → PaysRound c plan a result b) → WentByParts a result b
+parts_failed (Ok round) a b e pays = absurd (cc e)
+parts_failed (Err fault) a b e pays = record { none = λ is. absurd (cc is); parts = tt; pays = pays }
 
 did_worked : (r : Round) (a b : Hosting) → Did r a b → r ≡ Worked → Advances a b
 did_worked Worked a b did is = did

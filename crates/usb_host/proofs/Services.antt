@@ -162,7 +162,7 @@ pub loses_parent : (path hub : List ℕ) (old new : Entries) (result : Result (U
 loses_parent path hub old new (Ok done) above x = record { hub = hub; parent = above; loses = x }
 loses_parent path hub old new (Err fault) above x = tt
 
-same_last : (q : List ℕ) (m n : ℕ) → q ++ m ∷ [] ≡ q ++ n ∷ [] → m ≡ n
+pub same_last : (q : List ℕ) (m n : ℕ) → q ++ m ∷ [] ≡ q ++ n ∷ [] → m ≡ n
 same_last [] m n e = cc e
 same_last (i ∷ q) m n e = same_last q m n (cc e)
 

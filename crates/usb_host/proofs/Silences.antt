@@ -82,7 +82,7 @@ bits_clear row h (suc (suc (suc (suc (suc (suc (suc i))))))) lt = absurd (omega 
 -- The ports of the device
 
 -- the port of a number below a device
-port_of_row : (k : Ports) (j : ℕ) (p : List ℕ) (b : PortState) (s : State) (below : Ports) (i : ℕ) → place_at k j p ≡ Some (full b s below) → port_at k j (p ++ (suc i ∷ [])) ≡ slice_get (row_of below) i
+pub port_of_row : (k : Ports) (j : ℕ) (p : List ℕ) (b : PortState) (s : State) (below : Ports) (i : ℕ) → place_at k j p ≡ Some (full b s below) → port_at k j (p ++ (suc i ∷ [])) ≡ slice_get (row_of below) i
 unfolding place_at port_at
 port_of_row ended j p b s below i h = absurd (cc h)
 port_of_row (vacant c k) zero [] b s below i h = absurd (cc h)

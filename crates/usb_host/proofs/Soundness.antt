@@ -24,6 +24,7 @@ use Rattle.usb_host.specs.declared.host.Round.{Round}
 use Rattle.usb_host.specs.Agreement.{Agrees}
 use Rattle.usb_host.specs.BulkPipes.{KeepsBulk}
 use Rattle.usb_host.specs.Hosting.{Hosting}
+use Rattle.usb_host.specs.Plugs.{KeepsPlugs}
 use Rattle.usb_host.specs.Ownership.{claims, StaysOwned}
 use Rattle.usb_host.specs.Transfers.{table_in}
 use Rattle.usb_host.specs.Progress.{HostWent, HostGoes}
@@ -32,6 +33,7 @@ use Rattle.usb_host.proofs.BulkPipes.{bulk_none, bulk_stopped, bulk_then}
 use Rattle.usb_host.proofs.Events.{known_event, truthful_event, causes_event, level_event}
 use Rattle.usb_host.proofs.Fairness.{fair_before, fair_after}
 use Rattle.usb_host.proofs.Owners.{but_all, stays_kept}
+use Rattle.usb_host.proofs.Plugs.{plugs_none, plugs_stopped, plugs_then}
 use Rattle.usb_host.proofs.Roots.{accounted}
 use Rattle.usb_host.proofs.SettledListings.{listed_port}
 use Rattle.usb_host.proofs.KnowledgeKept.{known_each, truthful_stays, causes_stay}
@@ -51,12 +53,13 @@ sound_then m n a b c first second x y = record {
 }
 
 pub part_none : (h : Hosting) → PartStays h h
-part_none h = record { sound = sound_none h; bulk = λ s still. bulk_none h }
+part_none h = record { sound = sound_none h; bulk = λ s still. bulk_none h; plugs = λ s still. plugs_none h }
 
 pub part_then : (m n : ℕ) (a b c : Hosting) → HostWent m a b → HostWent n b c → PartStays a b → PartStays b c → PartStays a c
 part_then m n a b c first second x y = record {
   sound = sound_then m n a b c first second x.sound y.sound;
   bulk = λ s still. bulk_then m n a b c first second still (x.bulk s (went_sound n b.world c.world second still)) (y.bulk (x.sound.sound s) still);
+  plugs = λ s still. plugs_then m n a b c first second still (x.plugs s (went_sound n b.world c.world second still)) (y.plugs (x.sound.sound s) still);
 }
 
 -- A device that was found stands at its port, or a change is pending there
@@ -129,8 +132,8 @@ module _ (n : ℕ) (path : List ℕ) (ends : Type 0) (a b : Hosting) (agrees : A
 
 -- where a change was pending at it, as it did not answer
 pub sound_dropped : (result : Result (Unit {0}) HostFault) (hub : List ℕ) (m n : ℕ) (a b c : Hosting) → HostGoes m a b → HostGoes n b c → (IsSound a → IsDroppable hub b) → (IsSound a → IsFairTo a.world b.world → Causes a.world a.entries → Causes b.world b.entries)
-    → (IsSound a → b.world.fault ≡ None → KeepsBulk a b) → DropsSound hub b result c → (IsSound a → b.world.fault ≡ None → NoThreeDamaged a.world → pend b.world.roots hub ≡ true) → KeepsSound a result c
-sound_dropped (Ok done) hub m n a b c p q drops causes bulk d pends = record {
+    → (IsSound a → b.world.fault ≡ None → KeepsBulk a b) → KeepsPlugs a b → DropsSound hub b result c → (IsSound a → b.world.fault ≡ None → NoThreeDamaged a.world → pend b.world.roots hub ≡ true) → KeepsSound a result c
+sound_dropped (Ok done) hub m n a b c p q drops causes bulk plugs d pends = record {
   sound = record {
     sound = λ s. d.sound (drops s);
     caused = λ s fair caused.
@@ -138,8 +141,9 @@ sound_dropped (Ok done) hub m n a b c p q drops causes bulk d pends = record {
         d.caused (drops s) (fair_after m a.world b.world c.world p.went fair) (pends s before.still fair.few) (λ path away. causes s before caused path);
   };
   bulk = λ s still. bulk_then m n a b c p.went q.went still (bulk s (went_sound n b.world c.world q.went still)) (d.bulk (drops s) still);
+  plugs = λ s still. plugs_then m n a b c p.went q.went still plugs d.plugs;
 }
-sound_dropped (Err fault) hub m n a b c p q drops causes bulk d pends = tt
+sound_dropped (Err fault) hub m n a b c p q drops causes bulk plugs d pends = tt
 
 -- An event comes
 
@@ -194,5 +198,5 @@ stays_stopped : (a b : Hosting) (stopped : Bool) → StaysSound a b → StaysSou
 stays_stopped a b stopped x = record { sound = λ s. sound_stopped b stopped (x.sound s); caused = x.caused }
 
 pub rounds_stopped : (result : Result Round HostFault) (a b : Hosting) (stopped : Bool) → RoundsSound a result b → RoundsSound a result (record b { stopped = stopped })
-rounds_stopped (Ok round) a b stopped x = record { keeps = record { sound = stays_stopped a b stopped x.keeps.sound; bulk = λ s still. bulk_stopped a b stopped (x.keeps.bulk s still) }; rest = x.rest }
+rounds_stopped (Ok round) a b stopped x = record { keeps = record { sound = stays_stopped a b stopped x.keeps.sound; bulk = λ s still. bulk_stopped a b stopped (x.keeps.bulk s still); plugs = λ s still. plugs_stopped a b stopped (x.keeps.plugs s still) }; rest = x.rest }
 rounds_stopped (Err fault) a b stopped x = record { keeps = tt; rest = λ s is. absurd (cc is) }

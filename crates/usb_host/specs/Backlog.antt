@@ -59,17 +59,22 @@ ClearsConnection port status old new = (f : Claims) (p : List ℕ) → IsAt f po
 abbrev pub RestsCalm : PortStatus → Hosting → Result (Unit {0}) EnumFault → Hosting → Type 0
 RestsCalm status old result new = status.enable_changed ≡ false → status.reset_changed ≡ false → (result ≡ Ok tt) × (new ≡ old)
 
+-- nothing is found: few attempts were made, and no more hubs are listed
+pub record FindsNone (most : ℕ) (old new : Hosting) : Type 0 where
+  pub went : HostWent most old new
+  pub hubs : hubs new.entries ≤ hubs old.entries
+
 -- Looks
 
 -- a look at a port was paid, counted from where its change was told: a device was seen there; or none was, and few attempts were made
 pub data LookPaid (before : World) (old new : Hosting) : Type 0 where
   seen : PaysLook before new.world → LookPaid before old new
-  unseen : PaysBare before new.world → HostWent clearing_bound old new → LookPaid before old new
+  unseen : PaysBare before new.world → FindsNone clearing_bound old new → LookPaid before old new
 
 -- a hub that is lost may be so before the change is cleared: few attempts were made, and no more is left to do
 abbrev pub LookPays : World → Hosting → Result (Unit {0}) EnumFault → Hosting → Type 0
 LookPays before old (Ok done) new = LookPaid before old new
-LookPays before old (Err ParentLost) new = LookPaid before old new ⊎ (KeepsPlain before new.world × HostWent clearing_bound old new)
+LookPays before old (Err ParentLost) new = LookPaid before old new ⊎ (KeepsPlain before new.world × FindsNone clearing_bound old new)
 LookPays before old (Err (Bus fault)) new = ⊤
 LookPays before old (Err Memory) new = ⊤
 
@@ -84,13 +89,13 @@ pub record PaysAtLook (path : List ℕ) (old : Hosting) (result : Result (Unit {
 -- a port was served: a look was paid; or few attempts were made, and something less was paid; or its status told of no change, and nothing else was done
 pub data ServePaid (path : List ℕ) (old new : Hosting) : Type 0 where
   found : PaysLook old.world new.world → ServePaid path old new
-  bare : PaysBare old.world new.world → HostWent deciding_bound old new → ServePaid path old new
-  tidied : PaysStray old.world new.world → HostWent deciding_bound old new → ServePaid path old new
-  calm : (status : PortStatus) (mid : World) → PortTold path status old.world mid → status.connection_changed ≡ false → status.reset_changed ≡ false → KeepsPlain old.world new.world → HostWent (read_bound 4) old new → ServePaid path old new
+  bare : PaysBare old.world new.world → FindsNone deciding_bound old new → ServePaid path old new
+  tidied : PaysStray old.world new.world → FindsNone deciding_bound old new → ServePaid path old new
+  calm : (status : PortStatus) (mid : World) → PortTold path status old.world mid → status.connection_changed ≡ false → status.reset_changed ≡ false → KeepsPlain old.world new.world → FindsNone (read_bound 4) old new → ServePaid path old new
 
 abbrev pub ServePays : List ℕ → Hosting → Result (Unit {0}) EnumFault → Hosting → Type 0
 ServePays path old (Ok done) new = ServePaid path old new
-ServePays path old (Err ParentLost) new = ServePaid path old new ⊎ (KeepsPlain old.world new.world × HostWent deciding_bound old new)
+ServePays path old (Err ParentLost) new = ServePaid path old new ⊎ (KeepsPlain old.world new.world × FindsNone deciding_bound old new)
 ServePays path old (Err (Bus fault)) new = ⊤
 ServePays path old (Err Memory) new = ⊤
 

@@ -2,10 +2,12 @@ pub mod Accounts
 pub mod Agreement
 pub mod Backlog
 pub mod Bounds
+pub mod Budget
 pub mod BulkPipes
 pub mod PortHandling
 pub mod Hosting
 pub mod Ownership
+pub mod Plugs
 pub mod Ports
 pub mod Progress
 pub mod Service

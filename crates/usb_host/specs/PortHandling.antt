@@ -28,6 +28,7 @@ use Rattle.usb_enum.specs.PresentDevices.{IsInOrder}
 use Rattle.usb_enum.specs.TextLengths.{HasPlanWithin}
 use Rattle.usb_host.specs.BulkPipes.{KeepsBulk}
 use Rattle.usb_host.specs.Hosting.{Hosting}
+use Rattle.usb_host.specs.Plugs.{KeepsPlugs}
 use Rattle.usb_host.specs.Ownership.{IsOwned, KeepsPort, FinishesPort, BaresPort, BaresUpward, KeepsDisabled}
 use Rattle.usb_host.specs.Soundness.{IsSound, IsSoundBut, IsDroppable, IsFairTo, Causes, CausesBut}
 use Rattle.usb_host.specs.declared.fault.HostFault.{HostFault}
@@ -116,6 +117,7 @@ PortCaused path (Err Memory) new = ⊤
 pub record ServesSound (path : List ℕ) (old : Hosting) (result : Result (Unit {0}) EnumFault) (new : Hosting) : Type 0 where
   pub sound : IsSound old → PortSound path result new
   pub bulk : IsSound old → LetsGoOn result → new.world.fault ≡ None → KeepsBulk old new
+  pub plugs : IsSound old → new.world.fault ≡ None → KeepsPlugs old new
   pub caused : IsSound old → IsFairTo old.world new.world → Causes old.world old.entries → PortCaused path result new
 
 -- a look at a port
@@ -146,6 +148,7 @@ pub record DropsLost (path : List ℕ) (served : Result (Unit {0}) EnumFault) (o
   -- no more is left to do, but by events
   pub backlog : PortSound path served old → OnOk result (new.world.fault ≡ None → KeepsAll old.world new.world)
   pub bulk : PortSound path served old → OnOk result (new.world.fault ≡ None → KeepsBulk old new)
+  pub plugs : OnOk result (KeepsPlugs old new)
   pub caused : PortSound path served old → IsFairTo old.world new.world → PortCaused path served old → OnOk result (Causes new.world new.entries)
 
 -- Where a hub is dropped

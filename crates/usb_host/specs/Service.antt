@@ -1,5 +1,5 @@
 -- What a round does, part by part (11.12): how each port was served, how each hub was polled, and in which order.
-use Rattle.std.specs.Prelude.{◌≡◌, ◌⊎◌, ◌≤◌, ◌+◌, ⊤, ℕ, List, [], ◌∷◌, ◌++◌, Bool, true, false, Option, None, Some, Result, Ok, Err, OnOk, IfOk, IsSome}
+use Rattle.std.specs.Prelude.{◌≡◌, ◌⊎◌, ◌≤◌, ◌+◌, ⊤, ℕ, List, [], ◌∷◌, ◌++◌, Bool, true, false, Option, None, Some, Result, Ok, Err, OnOk, IfOk, IsSome, IsSomeAnd}
 use Rattle.std.specs.BTreeMap.{insert_entry}
 use Rattle.arrayvec.specs.ArrayVec.{ArrayVec}
 use Rattle.usb_port.specs.Order.{path_cmp, parent_of}
@@ -8,6 +8,7 @@ use Rattle.usb_port.specs.Status.{has_bit}
 use Rattle.usb_port.specs.declared.call.PortCall.{PortCall}
 use Rattle.usb_port.specs.declared.call.PortCall.TheVariants.{ClearEnable, ClearConnectionChange, ClearEnableChange, ClearResetChange}
 use Rattle.usb_port.specs.declared.status.PortStatus.{PortStatus}
+use Rattle.usb_world.specs.PlanData.{PlanData}
 use Rattle.usb_world.specs.World.{World, changes, root_port_at, root_row, roots_of}
 use Rattle.usb_address.specs.Claims.{Claims}
 use Rattle.usb_address.specs.Ownership.{Owned, TillFault}
@@ -31,6 +32,7 @@ use Rattle.usb_table.specs.Table.{pipes_at}
 use Rattle.usb_table.specs.Transfers.{PipesPolled}
 use Rattle.usb_resources.specs.Pool.{IsFull}
 use Rattle.usb_host.specs.Backlog.{hubs, ClearsConnection, ClearsReset, PaysAtLook, PaysAtServe, RestsCalm}
+use Rattle.usb_host.specs.Budget.{Affords, HubPaid, NumberPaid, PaysPart, PaysRound, PortPaid, RootsPaid, RoundPaid, ToldPaid, Weights, handling_most, hubs_most, poll_most, told_most}
 use Rattle.usb_host.specs.Hosting.{Hosting}
 use Rattle.usb_host.specs.Ownership.{HasLost, IsOwned}
 use Rattle.usb_host.specs.PortHandling.{ClearsChange, DropsLost}
@@ -232,10 +234,15 @@ pub record ServesPort (path : List ℕ) (due : Type 0) (old : Hosting) (result :
   pub hubs : hubs new.entries ≤ hubs old.entries + 1
   pub served : IsOwned old → ServedOrLost path old result new
 
--- how the handling of a port ends
+-- the hub of a port is listed
+abbrev pub HasHub : List ℕ → Entries → Type 0
+HasHub path entries = IsSomeAnd (parent_of path) (λ hub. IsSome (hub_facts_at hub entries))
+
+-- how the handling of a port ends; where its hub was lost, one hub fewer is listed
 pub record FinishesAt (path : List ℕ) (served : Result (Unit {0}) EnumFault) (old : Hosting) (result : Result (Unit {0}) HostFault) (new : Hosting) : Type 0 where
   pub drops : DropsLost path served old result new
   pub left : EndsAt path served old result new
+  pub fewer : served ≡ Err ParentLost → HasHub path old.entries → OnOk result (hubs new.entries + 1 ≤ hubs old.entries)
 
 -- a hub is dropped: no more is left to do, and where it was listed, one hub fewer is
 pub record DropsOne (hub : List ℕ) (old : Hosting) (result : Result (Unit {0}) HostFault) (new : Hosting) : Type 0 where
@@ -247,10 +254,25 @@ pub record HandlesAt (path : List ℕ) (due : Type 0) (old new : Hosting) : Type
   pub advances : due → Advances old new
   pub served : IsOwned old → ServedAt path old new
 
+-- and what that cost
+pub record HandlesPort (path : List ℕ) (due : Type 0) (old : Hosting) (result : Result (Unit {0}) HostFault) (new : Hosting) : Type 0 where
+  pub handled : OnOk result (HandlesAt path due old new)
+  pub pays : PaysPart handling_most (λ c done. PortPaid c path) old result new
+
 -- a port of a hub was handled
 pub record HandlesBelow (hub : List ℕ) (number : ℕ) (round : Round) (old new : Hosting) : Type 0 where
   pub did : Did round old new
   pub served : IsOwned old → ServedBelow hub number old new
+
+-- and what that cost
+pub record HandlesNumber (hub : List ℕ) (number : ℕ) (old : Hosting) (result : Result Round HostFault) (new : Hosting) : Type 0 where
+  pub handled : IfOk result (λ round. HandlesBelow hub number round old new)
+  pub pays : PaysPart handling_most (λ c. NumberPaid c hub number) old result new
+
+-- the ports of which a hub told were handled
+pub record ServesTold (hub : List ℕ) (bits : ℕ) (old : Hosting) (result : Result (Unit {0}) HostFault) (new : Hosting) : Type 0 where
+  pub served : OnOk result (IsOwned old → ServedTold hub bits 8 old new)
+  pub pays : PaysPart told_most (λ c done. ToldPaid hub bits c) old result new
 
 -- a device that waits was looked at again
 pub record LooksOnceMore (path : List ℕ) (round : Round) (old new : Hosting) : Type 0 where
@@ -262,15 +284,31 @@ pub record PollsHub (hub : List ℕ) (round : Round) (old new : Hosting) : Type 
   pub did : Did round old new
   pub polled : IsSound old → new.world.fault ≡ None → HubPolled hub old new round
 
+-- and what that cost
+pub record ServesHub (hub : List ℕ) (old : Hosting) (result : Result Round HostFault) (new : Hosting) : Type 0 where
+  pub polls : IfOk result (λ round. PollsHub hub round old new)
+  pub pays : PaysPart poll_most (HubPaid hub) old result new
+
+-- each hub that is known was polled
+pub record ServesHubs (old : Hosting) (result : Result Round HostFault) (new : Hosting) : Type 0 where
+  pub polls : IfOk result (λ round. IsSound old → new.world.fault ≡ None → EachPolled round old new)
+  pub pays : PaysPart hubs_most RoundPaid old result new
+
 -- the parts of a round; where it is quiet no root port had changed
 pub record WentByParts (old : Hosting) (result : Result Round HostFault) (new : Hosting) : Type 0 where
   pub none : result ≡ Ok Quiet → changes (root_row old.world) ≡ 0
   pub parts : IfOk result (λ round. IsSound old → new.world.fault ≡ None → RoundParts round old new)
+  pub pays : (c : Weights) (plan : PlanData) → Affords c plan old → PaysRound c plan old result new
 
 -- the root ports were served
 pub record ServesRoots (round : Round) (old new : Hosting) : Type 0 where
   pub none : round ≡ Quiet → RootsRest old new
   pub served : IsOwned old → RootsServed (roots_of old.world + 1) round old new
+
+-- and what that cost
+pub record ServesEach (old : Hosting) (result : Result Round HostFault) (new : Hosting) : Type 0 where
+  pub serves : IfOk result (λ round. ServesRoots round old new)
+  pub pays : PaysPart handling_most RootsPaid old result new
 
 -- what a round did, part by part
 pub record DidParts (round : Round) (old new : Hosting) : Type 0 where

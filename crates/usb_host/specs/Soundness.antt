@@ -1,5 +1,5 @@
 -- When what a host knows of its ports is so.
-use Rattle.std.specs.Prelude.{◌≡◌, ◌⊎◌, ◌≤◌, ℕ, List, [], ◌∷◌, ◌++◌, None, Some, IsSome, IfSome, unwrap_or, option_map, true, false, ⊤, Result, Ok, OnOk, All}
+use Rattle.std.specs.Prelude.{◌≡◌, ◌≢◌, ◌⊎◌, ◌≤◌, ℕ, List, [], ◌∷◌, ◌++◌, None, Some, IsSome, IfSome, unwrap_or, option_map, true, false, ⊤, Result, Ok, OnOk, All}
 use Rattle.usb_port.specs.Order.{parent_of, port_on_hub}
 use Rattle.usb_resources.specs.Pool.{Addresses}
 use Rattle.usb_device.specs.Rows.{State}
@@ -31,6 +31,7 @@ use Rattle.usb_enum.specs.PresentDevices.{IsInOrder, IsOrderly}
 use Rattle.usb_host.specs.Agreement.{Agrees}
 use Rattle.usb_host.specs.BulkPipes.{KeepsBulk}
 use Rattle.usb_host.specs.Hosting.{Hosting}
+use Rattle.usb_host.specs.Plugs.{KeepsPlugs}
 use Rattle.usb_host.specs.Transfers.{table_in}
 use Rattle.usb_host.specs.Ownership.{IsOwned, IsOwnedBut, IsRooted, KeepsOwned, Owning}
 use Rattle.usb_host.specs.declared.fault.HostFault.{HostFault}
@@ -102,7 +103,11 @@ pub record Accounted (roots : ℕ) (entries : Entries) (addresses : Addresses) :
   pub agrees : Agrees entries addresses
   pub root : (path : List ℕ) → IsSome (finding_at path entries) → parent_of path ≡ None → port_on_hub path ≤ roots
 
--- a device waits for an address only where each is listed
+-- no device waits for an address
+abbrev pub NoneWait : Entries → Type 0
+NoneWait entries = (path : List ℕ) → finding_at path entries ≢ Some (Refused NoAddress)
+
+-- one does only where each is listed
 abbrev pub NoneWaiting : Entries → Type 0
 NoneWaiting entries = (path : List ℕ) → finding_at path entries ≡ Some (Refused NoAddress) → ListsEach entries
 
@@ -143,10 +148,12 @@ pub record StaysSound (old new : Hosting) : Type 0 where
   pub sound : IsSound old → IsSound new
   pub caused : IsSound old → IsFairTo old.world new.world → Causes old.world old.entries → Causes new.world new.entries
 
--- the same over a part of a round, which leaves bulk pipes and their endpoints alone, but where a device is found anew
+-- the same over a part of a round, which leaves bulk pipes and their endpoints alone, but where a device is found anew; devices stand where one was
+-- plugged, and with few plugs none waits
 pub record PartStays (old new : Hosting) : Type 0 where
   pub sound : StaysSound old new
   pub bulk : IsSound old → new.world.fault ≡ None → KeepsBulk old new
+  pub plugs : IsSound old → new.world.fault ≡ None → KeepsPlugs old new
 
 abbrev pub KeepsSound : {A : Type 0} → Hosting → Result A HostFault → Hosting → Type 0
 KeepsSound old result new = OnOk result (PartStays old new)
@@ -163,6 +170,7 @@ pub record DropsSound (hub : List ℕ) (old : Hosting) (result : Result (Unit {0
   -- no more is left to do, but by events
   pub backlog : IsDroppable hub old → OnOk result (new.world.fault ≡ None → KeepsAll old.world new.world)
   pub bulk : IsDroppable hub old → OnOk result (new.world.fault ≡ None → KeepsBulk old new)
+  pub plugs : OnOk result (KeepsPlugs old new)
   pub caused : IsDroppable hub old → IsFairTo old.world new.world → pend old.world.roots hub ≡ true → CausesBut hub old.world old.entries → OnOk result (Causes new.world new.entries)
 
 -- a round keeps what is known; a quiet one in which no event came leaves nothing to do, as long as the bus is at work
@@ -207,6 +215,7 @@ pub record LooksKeep (old : Hosting) (result : Result Round HostFault) (new : Ho
   pub owned : KeepsOwned old result new
   pub sound : KeepsSound old result new
   pub rest : IsRooted old → result ≡ Ok Quiet → (new ≡ old) × NoneWaiting new.entries
+  pub idle : NoneWait old.entries → (result ≡ Ok Quiet) × (new ≡ old)
 
 -- all of them
 pub record PartsKeep (old : Hosting) (result : Result Round HostFault) (new : Hosting) : Type 0 where
@@ -216,10 +225,6 @@ pub record PartsKeep (old : Hosting) (result : Result Round HostFault) (new : Ho
 -- Whole calls
 
 -- devices hold the addresses that the host has for them, and what is known stays so
-pub record RoundKeeps (old : Hosting) (result : Result Round HostFault) (new : Hosting) : Type 0 where
-  pub owning : Owning old → Owning new
-  pub sound : RoundsSound old result new
-
 pub record TransferKeeps (old new : Hosting) : Type 0 where
   pub owning : Owning old → Owning new
   pub sound : StaysSound old new

@@ -6,11 +6,12 @@ ghost use Rattle.usb_bus.specs.Traces.{Traced};
 ghost use Rattle.usb_transaction.specs.Transactions.{transaction_bound};
 ghost use Rattle.usb_host.specs.Agreement.{Agrees};
 ghost use Rattle.usb_host.specs.Bounds.{round_bound, clear_bound};
+ghost use Rattle.usb_host.specs.Budget.{RoundKeeps};
 ghost use Rattle.usb_host.specs.Hosting.{Hosting, opening_host};
 ghost use Rattle.usb_host.specs.Progress.{HostWent};
 ghost use Rattle.usb_host.specs.Ownership.{Owning, IsUntouched};
 ghost use Rattle.usb_host.specs.Service.{DidParts};
-ghost use Rattle.usb_host.specs.Soundness.{IsSound, IsUnpowered, RoundKeeps, TransferKeeps};
+ghost use Rattle.usb_host.specs.Soundness.{IsSound, IsUnpowered, TransferKeeps};
 ghost use Rattle.usb_host.specs.ToldFaults.{RoundTold, TransferTold, StopsAsRound, StopsAsTransfer, host_told, is_final};
 ghost use Rattle.usb_host.specs.Transfers.{SentAt, ReceivedAt, ClearedAt};
 

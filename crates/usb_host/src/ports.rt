@@ -18,7 +18,7 @@ ghost use Rattle.usb_host.specs.PortHandling.{Watches, Tidies, ServesSound, Look
 ghost use Rattle.usb_host.specs.Ownership.{KeepsOwned, KeepsPort, DropsHub};
 ghost use Rattle.usb_host.specs.Ports.{StandsAt, StandsNowhere, IsDue, Waits, Served, Shown, Gains, Broke, EndsAs, Entered, Forgets};
 ghost use Rattle.usb_host.specs.Progress.{HostGoes, AddsNoWork, Rests};
-ghost use Rattle.usb_host.specs.Service.{ClearsPort, DropsOne, FinishesAt, HandlesAt, HandlesBelow, LooksAnew, LooksOnceMore, ServesPort, TidiesTold};
+ghost use Rattle.usb_host.specs.Service.{ClearsPort, DropsOne, FinishesAt, HandlesNumber, HandlesPort, LooksAnew, LooksOnceMore, ServesPort, TidiesTold};
 ghost use Rattle.usb_host.specs.Soundness.{KeepsSound, DropsSound, PartKeeps};
 ghost use Rattle.usb_host.specs.ToldFaults.{PartTold};
 
@@ -48,8 +48,9 @@ impl<B: Bus> Host<B> {
         requires number { IsPortNumber number }
         ensures goes { HostGoes handling_bound self.old self.new }
         ensures told { IfErr result (λ fault. PartTold fault self.new.world) }
-        ensures handles { OnOk result (HandlesAt (number ∷ [])
-            ((root_port_at self.old.world number).connection_changed ≡ true) self.old self.new) }
+        ensures handles { HandlesPort (number ∷ [])
+            ((root_port_at self.old.world number).connection_changed ≡ true)
+            self.old result self.new }
         ensures owned { KeepsOwned self.old result self.new }
         ensures sound { KeepsSound self.old result self.new }
     {
@@ -66,8 +67,7 @@ impl<B: Bus> Host<B> {
         requires { IsPath hub.now }
         ensures goes { HostGoes handling_bound self.old self.new }
         ensures told { IfErr result (λ fault. PartTold fault self.new.world) }
-        ensures handles { IfOk result (λ round.
-            HandlesBelow hub.now number round self.old self.new) }
+        ensures handles { HandlesNumber hub.now number self.old result self.new }
         ensures owned { KeepsOwned self.old result self.new }
         ensures sound { KeepsSound self.old result self.new }
     {
@@ -118,8 +118,8 @@ impl<B: Bus> Host<B> {
         requires { StandsAt path.now port self.old }
         ensures goes { HostGoes handling_bound self.old self.new }
         ensures told { IfErr result (λ fault. PartTold fault self.new.world) }
-        ensures handles { OnOk result
-            (HandlesAt path.now (IsDue self.old.world port.port) self.old self.new) }
+        ensures handles { HandlesPort path.now (IsDue self.old.world port.port)
+            self.old result self.new }
         ensures owned { KeepsOwned self.old result self.new }
         ensures sound { KeepsSound self.old result self.new }
     {

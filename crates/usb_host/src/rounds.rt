@@ -8,11 +8,10 @@ ghost use Rattle.usb_table.specs.NextEntries.{ComesAfter, IsNext, IsLast};
 ghost use Rattle.usb_resources.specs.Pool.{IsFull};
 ghost use Rattle.usb_host.specs.Agreement.{Agrees};
 ghost use Rattle.usb_host.specs.Bounds.{round_bound, roots_bound, hubs_bound, hub_poll_bound, told_bound, looks_bound};
-ghost use Rattle.usb_host.specs.Ownership.{IsOwned};
 ghost use Rattle.usb_host.specs.Soundness.{IsSound, PartKeeps, PartsKeep, HubKeeps, HubsKeep, LooksKeep};
 ghost use Rattle.usb_host.specs.Ports.{Waits};
 ghost use Rattle.usb_host.specs.Progress.{HostGoes, Did, AddsNoWork, either};
-ghost use Rattle.usb_host.specs.Service.{EachLookedAgain, EachPolled, PollsHub, ServedTold, ServesRoots, WentByParts, first_byte};
+ghost use Rattle.usb_host.specs.Service.{EachLookedAgain, ServesEach, ServesHub, ServesHubs, ServesTold, WentByParts, first_byte};
 ghost use Rattle.usb_host.specs.ToldFaults.{PartTold};
 
 use crate::HostFault;
@@ -55,7 +54,7 @@ impl<B: Bus> Host<B> {
         ensures goes { HostGoes roots_bound self.old self.new }
         ensures told { IfErr result (λ fault. PartTold fault self.new.world) }
         ensures did { IfOk result (λ round. Did round self.old self.new) }
-        ensures roots { IfOk result (λ round. ServesRoots round self.old self.new) }
+        ensures roots { ServesEach self.old result self.new }
         ensures keeps { PartKeeps self.old result self.new }
     {
         let mut round = Round::Quiet;
@@ -75,8 +74,7 @@ impl<B: Bus> Host<B> {
         ensures told { IfErr result (λ fault. PartTold fault self.new.world) }
         ensures did { IfOk result (λ round. Did round self.old self.new) }
         ensures keeps { HubsKeep self.old result self.new }
-        ensures polls { IfOk result (λ round. IsSound self.old → self.new.world.fault ≡ None
-            → EachPolled round self.old self.new) }
+        ensures polls { ServesHubs self.old result self.new }
     {
         let mut round = Round::Quiet;
         let mut last: Option<PortPath> = None;
@@ -93,7 +91,7 @@ impl<B: Bus> Host<B> {
         ensures path { IsPath hub.now }
         ensures goes { HostGoes hub_poll_bound self.old self.new }
         ensures told { IfErr result (λ fault. PartTold fault self.new.world) }
-        ensures polls { IfOk result (λ round. PollsHub hub.now round self.old self.new) }
+        ensures polls { ServesHub hub.now self.old result self.new }
         ensures keeps { HubKeeps hub.now self.old result self.new }
     {
         let _numbers = hub.numbers();
@@ -119,8 +117,7 @@ impl<B: Bus> Host<B> {
         ensures told { IfErr result (λ fault. PartTold fault self.new.world) }
         ensures holds { OnOk result (AddsNoWork self.old self.new) }
         ensures keeps { PartKeeps self.old result self.new }
-        ensures serves { OnOk result (IsOwned self.old
-            → ServedTold hub.now bits 8 self.old self.new) }
+        ensures serves { ServesTold hub.now bits self.old result self.new }
     {
         'ports: for number in 1..8u8 {
             if bits >> number & 1 == 1 {

@@ -13,7 +13,8 @@ use Rattle.usb_host.specs.Bounds.{round_bound}
 use Rattle.usb_host.specs.Hosting.{Hosting}
 use Rattle.usb_host.specs.Progress.{HostWent, Rests}
 use Rattle.usb_host.specs.Service.{DidParts}
-use Rattle.usb_host.specs.Soundness.{Causes, IsAtRest, IsFairTo, IsSound, RoundKeeps}
+use Rattle.usb_host.specs.Budget.{RoundKeeps}
+use Rattle.usb_host.specs.Soundness.{Causes, IsAtRest, IsFairTo, IsSound}
 use Rattle.usb_host.specs.ToldFaults.{RoundTold, StopsAsRound}
 use Rattle.usb_serve.specs.declared.runs.RunFault.{RunFault}
 use Rattle.usb_serve.specs.Run.{round_fault}

@@ -84,4 +84,4 @@ returns-clause-sound g c =
     let drops = drop_ends c.args.hub c.in_ok-lost.lost c.args.self.now c.disable_upward.new.self c.forget.new.self _ c.numbers-numbers.ensures.path c.in_ok-lost.ensures.rests c.disable_upward.ensures.goes.went.spends.roots c.in_ok-lost.ensures.climbs.bares c.forget.ensures.others c.forget.ensures.rest c.forget.ensures.gone here entered in
     let table = c.in_ok-insert.ensures.ok ∙ ap (λ (h : Hosting). with_entry c.in_ok-lost.lost (Refused Lost) (table_in h)) c.self.view_is in
     let climbs = subst (λ r. Climbs c.args.hub c.args.self.now r c.disable_upward.new.self) c.in_ok-lost.was c.disable_upward.ensures.climbs in
-    lost_drops c.in_ok-lost.lost c.disable_upward.new.self c.forget.new.self _ c.numbers-numbers.ensures.path.0 c.forget.ensures.others c.forget.ensures.rest c.forget.ensures.freed.pipes c.forget.ensures.gone here table c.args.hub c.args.self.now c.in_ok-lost.ensures.rests climbs drops
+    lost_drops c.in_ok-lost.lost c.disable_upward.new.self c.forget.new.self _ c.numbers-numbers.ensures.path.0 c.forget.ensures.others c.forget.ensures.rest c.forget.ensures.freed.pipes c.forget.ensures.gone here table c.args.hub c.args.self.now c.in_ok-lost.ensures.rests c.disable_upward.ensures.goes.went.spends.onward climbs drops

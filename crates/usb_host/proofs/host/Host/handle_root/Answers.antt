@@ -1,9 +1,8 @@
 use Rattle.std.proofs.Common.{◌≡◌, ℕ, List, subst, true}
-use Rattle.std.specs.Prelude.{OnOk}
 use Rattle.usb_world.specs.World.{root_port_at}
 use Rattle.usb_host.specs.Agreement.{Agrees}
 use Rattle.usb_host.specs.Hosting.{Hosting}
-use Rattle.usb_host.specs.Service.{HandlesAt}
+use Rattle.usb_host.specs.Service.{HandlesPort}
 use Rattle.usb_host.proofs.Hubs.{root_stands}
 use Rattle.usb_host.proofs.host.Host.handle_root.Goals as goal
 
@@ -13,4 +12,4 @@ handle-requires g c =
 
 pub returns-clause-handles : goal.returns-clause-handles
 returns-clause-handles g c =
-    subst (λ (p : List ℕ). OnOk c.handle.result (HandlesAt p ((root_port_at c.args.self.now.world c.args.number).connection_changed ≡ true) c.args.self.now c.handle.new.self)) c.root_path.ensures c.handle.ensures.handles
+    subst (λ (p : List ℕ). HandlesPort p ((root_port_at c.args.self.now.world c.args.number).connection_changed ≡ true) c.args.self.now c.handle.result c.handle.new.self) c.root_path.ensures c.handle.ensures.handles

@@ -6,14 +6,16 @@ use Rattle.usb_host.specs.PortHandling.{ClearsChange, FindsSound}
 use Rattle.usb_host.proofs.Causes.{cleared_caused, forgot_caused, still_same}
 use Rattle.usb_host.proofs.Fairness.{fair_before, fair_after}
 use Rattle.usb_host.proofs.BulkPipes.{bulk_stays, bulk_then}
+use Rattle.usb_host.proofs.Plugs.{plugs_forgot, plugs_found, plugs_kept, plugs_rests, plugs_then}
 use Rattle.usb_host.proofs.ServedPorts.{cleared_lost, cleared_stay, forgot_open, forgot_sound, forgot_stay}
 use Rattle.usb_host.specs.Progress.{waiting}
+use Rattle.usb_enum.proofs.Interface.{went_sound}
 use Rattle.usb_host.proofs.Joins.{goes_none, goes_then, goes_forgotten}
 use Rattle.usb_host.specs.Ownership.{claims, KeepsPort}
 use Rattle.usb_host.proofs.Handlings.{port_rests, port_stays, port_then, stays_bare}
 use Rattle.usb_host.proofs.Looks.{looks, stands_kept, served_any, enters_few, enters_other, forgets, renews}
 use Rattle.usb_host.proofs.LookPayments.{look_bare, look_lost, look_pays, within_on}
-use Rattle.usb_host.proofs.HubCounts.{hubs-found, hubs-gone, hubs-rest}
+use Rattle.usb_host.proofs.HubCounts.{hubs-found, hubs-gone, hubs-rest, none_rests}
 use Rattle.usb_host.specs.Backlog.{hubs}
 use Rattle.usb_host.proofs.Services.{cleared_failed, found_failed, renews_by, renews_one}
 use Rattle.usb_host.proofs.Stations.{stands_at}
@@ -59,6 +61,7 @@ returns-in_err-status-clause-looks g c =
       sound = record {
         sound = cleared_lost _ c.args.path.now c.args.port c.args.self.now c.clear_change.new.self c.requires c.in_err-status.ensures.rests c.clear_change.ensures.goes.went c.in_err-status.field-0.0 clears fault;
         bulk = λ i on still. bulk_stays _ _ (cleared_stay _ c.args.path.now c.args.port c.args.self.now c.clear_change.new.self c.requires c.in_err-status.ensures.rests c.clear_change.ensures.goes.went c.in_err-status.field-0.0 clears i);
+        plugs = λ i still. plugs_rests _ c.args.self.now c.clear_change.new.self c.clear_change.ensures.goes.went c.in_err-status.ensures.rests;
         caused = cleared_caused _ c.args.path.now c.args.port c.args.self.now c.clear_change.new.self c.requires c.in_err-status.ensures.rests c.clear_change.ensures.goes.went c.in_err-status.field-0.0 clears fault;
       };
     })
@@ -77,6 +80,10 @@ returns-in_err-discover-clause-looks g c =
             bulk_then _ _ c.args.self.now c.forget.new.self c.discover.new.self (goes_forgotten _ _ _ _ c.clear_change.ensures.goes c.forget.ensures.others).went c.discover.ensures.goes.went still
             (bulk_stays _ _ (forgot_stay _ c.args.path.now c.args.port c.args.self.now c.clear_change.new.self c.forget.new.self c.in_ok-status.status c.requires c.in_ok-status.ensures.rests c.clear_change.ensures.goes.went clears c.forget.ensures.others c.forget.ensures.rest c.forget.ensures.freed.pipes c.forget.ensures.gone i))
             (finds.bulk (forgot_open _ c.args.path.now c.args.port c.args.self.now c.clear_change.new.self c.forget.new.self c.in_ok-status.status c.requires c.in_ok-status.ensures.rests c.clear_change.ensures.goes.went clears c.forget.ensures.others c.forget.ensures.rest c.forget.ensures.freed.pipes c.forget.ensures.gone i c.if-status.true) on still);
+        plugs = λ i still.
+            plugs_then _ _ c.args.self.now c.forget.new.self c.discover.new.self (goes_forgotten _ _ _ _ c.clear_change.ensures.goes c.forget.ensures.others).went c.discover.ensures.goes.went still
+            (plugs_forgot _ c.args.path.now c.args.self.now c.clear_change.new.self c.forget.new.self (goes_forgotten _ _ _ _ c.clear_change.ensures.goes c.forget.ensures.others).went c.in_ok-status.ensures.rests c.forget.ensures.rest)
+            (plugs_kept c.forget.new.self c.discover.new.self c.discover.ensures.goes.went.spends.onward c.in_err-discover.ensures.entered);
         caused = λ i fair caused.
             let half = fair_before _ c.args.self.now.world c.forget.new.self.world c.discover.new.self.world c.discover.ensures.goes.went fair in
             let forgot = goes_forgotten _ _ _ _ c.clear_change.ensures.goes c.forget.ensures.others in
@@ -99,6 +106,11 @@ returns-in_ok-discover-clause-looks g c =
             bulk_then _ _ c.args.self.now c.forget.new.self c.discover.new.self (goes_forgotten _ _ _ _ c.clear_change.ensures.goes c.forget.ensures.others).went c.discover.ensures.goes.went still
             (bulk_stays _ _ (forgot_stay _ c.args.path.now c.args.port c.args.self.now c.clear_change.new.self c.forget.new.self c.in_ok-status.status c.requires c.in_ok-status.ensures.rests c.clear_change.ensures.goes.went clears c.forget.ensures.others c.forget.ensures.rest c.forget.ensures.freed.pipes c.forget.ensures.gone i))
             (finds.bulk (forgot_open _ c.args.path.now c.args.port c.args.self.now c.clear_change.new.self c.forget.new.self c.in_ok-status.status c.requires c.in_ok-status.ensures.rests c.clear_change.ensures.goes.went clears c.forget.ensures.others c.forget.ensures.rest c.forget.ensures.freed.pipes c.forget.ensures.gone i c.if-status.true) on still);
+        plugs = λ i still.
+            let before = went_sound _ c.args.self.now.world c.forget.new.self.world (goes_forgotten _ _ _ _ c.clear_change.ensures.goes c.forget.ensures.others).went (went_sound _ c.forget.new.self.world c.discover.new.self.world c.discover.ensures.goes.went still) in
+            plugs_found _ _ c.args.path.now c.in_ok-status.status c.args.self.now c.clear_change.new.self c.forget.new.self c.discover.new.self (goes_forgotten _ _ _ _ c.clear_change.ensures.goes c.forget.ensures.others).went c.discover.ensures.goes.went c.in_ok-status.ensures.rests
+            c.forget.ensures.others c.forget.ensures.rest c.forget.ensures.gone c.forget.ensures.agrees
+            (c.in_ok-status.ensures.clears.reads (claims c.args.self.now.entries) c.args.path.now (stands_at c.args.path.now c.args.port c.args.self.now c.requires) i.owned) (i.order before) c.if-status.true c.in_ok-discover.ensures.entered;
         caused = λ i fair caused.
             let half = fair_before _ c.args.self.now.world c.forget.new.self.world c.discover.new.self.world c.discover.ensures.goes.went fair in
             let forgot = goes_forgotten _ _ _ _ c.clear_change.ensures.goes c.forget.ensures.others in
@@ -116,6 +128,7 @@ returns-else-status-clause-looks g c =
       sound = record {
         sound = λ i. forgot_sound _ c.args.path.now c.args.port c.args.self.now c.clear_change.new.self c.forget.new.self c.in_ok-status.status c.requires c.in_ok-status.ensures.rests c.clear_change.ensures.goes.went clears c.forget.ensures.others c.forget.ensures.rest c.forget.ensures.freed.pipes c.forget.ensures.gone i c.if-status.false;
         bulk = λ i on still. bulk_stays _ _ (forgot_stay _ c.args.path.now c.args.port c.args.self.now c.clear_change.new.self c.forget.new.self c.in_ok-status.status c.requires c.in_ok-status.ensures.rests c.clear_change.ensures.goes.went clears c.forget.ensures.others c.forget.ensures.rest c.forget.ensures.freed.pipes c.forget.ensures.gone i);
+        plugs = λ i still. plugs_forgot _ c.args.path.now c.args.self.now c.clear_change.new.self c.forget.new.self (goes_forgotten _ _ _ _ c.clear_change.ensures.goes c.forget.ensures.others).went c.in_ok-status.ensures.rests c.forget.ensures.rest;
         caused = λ i fair caused.
             forgot_caused _ c.args.path.now c.args.port c.args.self.now c.clear_change.new.self c.requires c.in_ok-status.ensures.rests c.clear_change.ensures.goes.went c.forget.new.self c.in_ok-status.status clears c.forget.ensures.others c.forget.ensures.rest i (still_same c.clear_change.new.self c.forget.new.self c.forget.ensures.others fair.still) caused;
       };
@@ -129,7 +142,7 @@ returns-in_err-status-clause-anew g c =
       renewed = tt;
       pays = record {
         pays = λ i still before status ports at changed.
-            look_lost c.args.path.now c.args.port c.args.self.now c.clear_change.new.self c.requires c.clear_change.ensures.goes.went i before status ports at c.in_err-status.field-0.0 clears;
+            look_lost c.args.path.now c.args.port c.args.self.now c.clear_change.new.self c.requires c.clear_change.ensures.goes.went i before status ports at (none_rests _ c.args.self.now c.clear_change.new.self c.clear_change.ensures.goes.went c.in_err-status.ensures.rests) c.in_err-status.field-0.0 clears;
         few = λ i most plan. omega (arith, c.clear_change.ensures.goes.went.spends.most);
       };
       hubs = omega (arith, hubs-rest c.args.self.now c.clear_change.new.self c.in_err-status.ensures.rests);
@@ -193,7 +206,7 @@ returns-else-status-clause-anew g c =
       pays = record {
         pays = λ i still before status ports at changed.
             look_bare c.args.path.now c.args.port c.args.self.now c.clear_change.new.self c.requires c.clear_change.ensures.goes.went i before status ports at changed c.in_ok-status.status c.in_ok-status.ensures.clears.paid c.forget.new.self c.forget.ensures.others
-            (goes_forgotten _ _ _ _ c.clear_change.ensures.goes c.forget.ensures.others).went still;
+            (record { went = (goes_forgotten _ _ _ _ c.clear_change.ensures.goes c.forget.ensures.others).went; hubs = hubs-gone c.args.path.now c.args.self.now c.clear_change.new.self c.forget.new.self c.in_ok-status.ensures.rests c.forget.ensures.rest }) still;
         few = λ i most plan. omega (arith, (goes_forgotten _ _ _ _ c.clear_change.ensures.goes c.forget.ensures.others).went.spends.most);
       };
       hubs = omega (arith, hubs-gone c.args.path.now c.args.self.now c.clear_change.new.self c.forget.new.self c.in_ok-status.ensures.rests c.forget.ensures.rest);

@@ -1,7 +1,8 @@
-use Rattle.std.proofs.Common.{arith, refl, sym, subst, ◌∙◌, ◌⊎◌}
+use Rattle.std.proofs.Common.{ap, arith, refl, sym, subst, Ok, ◌∙◌, ◌⊎◌}
 use Rattle.usb_resources.specs.Pool.{IsFull}
 use Rattle.usb_table.specs.Findings.{is_waiting}
 use Rattle.usb_table.specs.NextEntries.{IsLast}
+use Rattle.usb_host.specs.declared.host.Round.{Round}
 use Rattle.usb_host.specs.declared.host.Round.TheVariants.{Quiet}
 use Rattle.usb_host.specs.Bounds.{handling_bound}
 use Rattle.usb_host.proofs.Owners.{stays_then, stays_none}
@@ -11,11 +12,12 @@ use Rattle.usb_host.proofs.Soundness.{part_none, part_then}
 use Rattle.usb_host.proofs.Joins.{did_then, goes_none}
 use Rattle.usb_host.proofs.Ranks.{rank_goes, rank_within, rank_rises, rank_most, rank_after_most}
 use Rattle.usb_host.specs.Service.{no_device}
+use Rattle.usb_host.proofs.RoundPayments.{one_waits}
 use Rattle.usb_host.proofs.RoundServices.{looked_then}
 use Rattle.usb_host.proofs.host.Host.look_again.Goals as goal
 
 pub waiting-init : goal.waiting-init
-waiting-init g c = record { goes = goes_none 0 _; did = refl; owned = stays_none _; sound = part_none _; none = λ r quiet. (refl, refl); looked = λ s. no_device _; path = tt }
+waiting-init g c = record { goes = goes_none 0 _; did = refl; owned = stays_none _; sound = part_none _; none = λ r quiet. (refl, refl); idle = λ none. (refl, refl); looked = λ s. no_device _; path = tt }
 
 pub returns-in_err-look_once_more-clause-goes : goal.returns-in_err-look_once_more-clause-goes
 returns-in_err-look_once_more-clause-goes g c =
@@ -33,6 +35,7 @@ waiting-preserved g c = record {
   owned = stays_then _ _ _ c.waiting.invariant.owned c.in_ok-look_once_more.ensures.keeps.owned;
   sound = part_then _ _ _ _ _ c.waiting.invariant.goes.went c.look_once_more.ensures.goes.went c.waiting.invariant.sound c.in_ok-look_once_more.ensures.keeps.sound;
   none = λ r quiet. absurd (c.in_ok-look_once_more.ensures.looks.did.some (c.waiting.invariant.owned.rooted r) (quiet_second c.waiting.round c.in_ok-look_once_more.field-0 (sym c.and-round.ensures ∙ quiet)));
+  idle = λ none. absurd (one_waits c.args.self.now c.waiting.self c.in-Some.path (c.waiting.invariant.idle none).1 c.in-Some.ensures.some.0 none);
   looked = λ s.
       let x = c.in_ok-look_once_more.ensures.looks.looked (c.waiting.invariant.sound.sound.sound s) in
       rw c.and-round.ensures (looked_then c.waiting.last c.in-Some.path c.waiting.round c.in_ok-look_once_more.field-0 c.args.self.now c.waiting.self c.look_once_more.new.self (c.waiting.invariant.looked s) c.in-Some.ensures.some.0 c.in-Some.ensures.some.1 x.0 x.1);
@@ -44,6 +47,7 @@ returns-clause-goes g c = rank_within handling_bound _ _ c.waiting.invariant.goe
 
 pub returns-in_err-look_once_more-clause-keeps : goal.returns-in_err-look_once_more-clause-keeps
 returns-in_err-look_once_more-clause-keeps g c = looks_fail c.from_residual.result _ _ _ c.from_residual.ensures.0 c.waiting.invariant.owned c.in_err-look_once_more.ensures.keeps.owned
+    (λ none. one_waits c.args.self.now c.waiting.self c.in-Some.path (c.waiting.invariant.idle none).1 c.in-Some.ensures.some.0 none)
 
 pub returns-clause-keeps : goal.returns-clause-keeps
 returns-clause-keeps g c = record {
@@ -52,6 +56,7 @@ returns-clause-keeps g c = record {
   rest = λ r is.
       let x = c.waiting.invariant.none r (ok_is c.waiting.round Quiet is) in
       (x.0, none_waits c.waiting.self.entries c.waiting.self.addresses c.in_default.ensures.agree (subst (λ l. IsFull c.waiting.self.addresses ⊎ IsLast is_waiting l c.waiting.self.entries) x.1 c.in_default.ensures.none));
+  idle = λ none. let x = c.waiting.invariant.idle none in (ap (λ (r : Round). Ok r) x.0, x.1);
 }
 
 pub returns-clause-looks : goal.returns-clause-looks

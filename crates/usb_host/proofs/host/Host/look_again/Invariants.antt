@@ -5,7 +5,7 @@ use Rattle.usb_host.specs.Bounds.{handling_bound}
 use Rattle.usb_host.specs.Ownership.{IsRooted, StaysOwned}
 use Rattle.usb_host.specs.Progress.{HostGoes, Did}
 use Rattle.usb_host.specs.Service.{LookedAgain}
-use Rattle.usb_host.specs.Soundness.{IsSound, PartStays}
+use Rattle.usb_host.specs.Soundness.{IsSound, NoneWait, PartStays}
 use Rattle.usb_host.specs.declared.host.Round.TheVariants.{Quiet}
 use Rattle.usb_host.proofs.Ranks.{rank_after}
 use Rattle.usb_host.proofs.host.Host.look_again.Given as goal
@@ -17,6 +17,7 @@ invariant-waiting g l = record {
   owned : StaysOwned l.initial.self l.self;
   sound : PartStays l.initial.self l.self;
   none : IsRooted l.initial.self → l.round ≡ Quiet → (l.self ≡ l.initial.self) × (l.last ≡ None);
+  idle : NoneWait l.initial.self.entries → (l.round ≡ Quiet) × (l.self ≡ l.initial.self);
   looked : IsSound l.initial.self → LookedAgain l.last l.round l.initial.self l.self;
   path : IfSome l.last IsPath;
 }

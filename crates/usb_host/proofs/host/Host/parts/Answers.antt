@@ -7,6 +7,7 @@ use Rattle.usb_enum.proofs.Interface.{went_sound}
 use Rattle.usb_host.specs.Progress.{either}
 use Rattle.usb_host.specs.declared.host.Round.TheVariants.{Quiet}
 use Rattle.usb_host.proofs.RestingRounds.{ok_is, quiet_first}
+use Rattle.usb_host.proofs.RoundPayments.{hubs_fail, looks_fail, parts_pay, roots_fail}
 use Rattle.usb_host.proofs.RoundServices.{parts_failed}
 use Rattle.usb_host.proofs.host.Host.parts.Goals as goal
 
@@ -35,16 +36,23 @@ pub returns-clause-keeps : goal.returns-clause-keeps
 returns-clause-keeps g c =
     rw (c.and-2.ensures, c.and.ensures) (parts_keep roots_bound hubs_bound (roots_bound + hubs_bound) looks_bound c.in_ok-roots.roots c.in_ok-hubs.hubs c.in_ok-looks.looks c.args.self.now c.serve_roots.new.self c.serve_hubs.new.self c.look_again.new.self
     c.serve_roots.ensures.goes c.serve_hubs.ensures.goes (goes_then _ _ _ _ _ _ c.serve_roots.ensures.goes c.serve_hubs.ensures.goes (omega arith)) c.look_again.ensures.goes
-    (λ is. c.in_ok-roots.ensures.roots.none (ok_is c.in_ok-roots.roots Quiet is)) c.in_ok-roots.ensures.keeps c.in_ok-hubs.ensures.keeps c.in_ok-looks.ensures.keeps)
+    (λ is. c.in_ok-roots.ensures.roots.serves.none (ok_is c.in_ok-roots.roots Quiet is)) c.in_ok-roots.ensures.keeps c.in_ok-hubs.ensures.keeps c.in_ok-looks.ensures.keeps)
 
 pub returns-in_err-roots-clause-parts : goal.returns-in_err-roots-clause-parts
-returns-in_err-roots-clause-parts g c = parts_failed c.from_residual.result _ _ c.from_residual.ensures.0
+returns-in_err-roots-clause-parts g c =
+    parts_failed c.from_residual.result _ _ c.from_residual.ensures.0 (λ w plan x. roots_fail w plan c.args.self.now c.serve_roots.new.self c.serve_roots.result c.from_residual.result c.from_residual.ensures.0 c.serve_roots.ensures.roots.pays x)
 
 pub returns-in_err-hubs-clause-parts : goal.returns-in_err-hubs-clause-parts
-returns-in_err-hubs-clause-parts g c = parts_failed c.from_residual-in_err-hubs.result _ _ c.from_residual-in_err-hubs.ensures.0
+returns-in_err-hubs-clause-parts g c =
+    parts_failed c.from_residual-in_err-hubs.result _ _ c.from_residual-in_err-hubs.ensures.0
+    (λ w plan x. hubs_fail _ c.in_ok-roots.roots c.args.self.now c.serve_roots.new.self c.serve_roots.ensures.goes.went c.in_ok-roots.ensures.keeps.sound c.in_ok-roots.ensures.roots.pays _ c.serve_hubs.new.self c.serve_hubs.ensures.goes.went
+    w plan c.serve_hubs.result c.from_residual-in_err-hubs.result c.from_residual-in_err-hubs.ensures.0 c.serve_hubs.ensures.polls.pays x)
 
 pub returns-in_err-looks-clause-parts : goal.returns-in_err-looks-clause-parts
-returns-in_err-looks-clause-parts g c = parts_failed c.from_residual-in_err-looks.result _ _ c.from_residual-in_err-looks.ensures.0
+returns-in_err-looks-clause-parts g c =
+    parts_failed c.from_residual-in_err-looks.result _ _ c.from_residual-in_err-looks.ensures.0
+    (λ w plan x. looks_fail _ c.in_ok-roots.roots c.args.self.now c.serve_roots.new.self c.serve_roots.ensures.goes.went c.in_ok-roots.ensures.keeps.sound c.in_ok-roots.ensures.roots.pays _ c.serve_hubs.new.self c.serve_hubs.ensures.goes.went
+    c.in_ok-hubs.hubs c.in_ok-hubs.ensures.keeps.sound c.in_ok-hubs.ensures.polls.pays _ c.look_again.new.self c.look_again.ensures.goes.went w plan c.look_again.result c.from_residual-in_err-looks.result c.from_residual-in_err-looks.ensures.0 c.look_again.ensures.keeps x)
 
 pub returns-clause-parts : goal.returns-clause-parts
 returns-clause-parts g c =
@@ -55,18 +63,21 @@ returns-clause-parts g c =
     rw (c.and-2.ensures, c.and.ensures) (record {
       none = λ is.
           let both = quiet_first (either c.in_ok-roots.roots c.in_ok-hubs.hubs) c.in_ok-looks.looks (ok_is (either (either c.in_ok-roots.roots c.in_ok-hubs.hubs) c.in_ok-looks.looks) Quiet is) in
-          (c.in_ok-roots.ensures.roots.none (quiet_first c.in_ok-roots.roots c.in_ok-hubs.hubs both)).none;
+          (c.in_ok-roots.ensures.roots.serves.none (quiet_first c.in_ok-roots.roots c.in_ok-hubs.hubs both)).none;
       parts = λ s still.
           let before = c.in_ok-roots.ensures.keeps.sound.sound.sound s in
           record {
             roots = c.in_ok-roots.roots;
             first = first;
-            served = c.in_ok-roots.ensures.roots.served s.owned;
+            served = c.in_ok-roots.ensures.roots.serves.served s.owned;
             hubs = c.in_ok-hubs.hubs;
             second = second;
-            polled = c.in_ok-hubs.ensures.polls before (went_sound _ second.world end.world c.look_again.ensures.goes.went still);
+            polled = c.in_ok-hubs.ensures.polls.polls before (went_sound _ second.world end.world c.look_again.ensures.goes.went still);
             looks = c.in_ok-looks.looks;
             looked = c.in_ok-looks.ensures.looks (c.in_ok-hubs.ensures.keeps.sound.sound.sound before);
             is = refl;
           };
+      pays = λ w plan x.
+          parts_pay _ c.in_ok-roots.roots a first c.serve_roots.ensures.goes.went c.in_ok-roots.ensures.keeps.sound c.in_ok-roots.ensures.roots.pays _ second c.serve_hubs.ensures.goes.went c.in_ok-hubs.hubs c.in_ok-hubs.ensures.keeps.sound c.in_ok-hubs.ensures.polls.pays
+          _ end c.look_again.ensures.goes.went w plan c.in_ok-looks.looks c.in_ok-looks.ensures.keeps x;
     })

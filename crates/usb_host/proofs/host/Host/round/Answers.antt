@@ -1,7 +1,9 @@
 use Rattle.std.proofs.Common.{ap, sym, subst, ◌∙◌}
 use Rattle.std.specs.Prelude.{IfOk}
 use Rattle.usb_host.specs.Bounds.{round_bound}
+use Rattle.usb_host.specs.Budget.{PaysRound}
 use Rattle.usb_host.specs.Hosting.{Hosting}
+use Rattle.usb_host.proofs.RoundPayments.{pays_stopped, stopped_pays}
 use Rattle.usb_host.specs.Service.{DidParts}
 use Rattle.usb_host.specs.Soundness.{RoundsSound}
 use Rattle.usb_host.proofs.Joins.{goes_none}
@@ -14,7 +16,7 @@ pub returns-then-self-clause-went : goal.returns-then-self-clause-went
 returns-then-self-clause-went g c = (goes_none round_bound c.args.self.now).went
 
 pub returns-then-self-clause-keeps : goal.returns-then-self-clause-keeps
-returns-then-self-clause-keeps g c = record { owning = λ o. o; sound = record { keeps = tt; rest = λ s is. absurd (cc is) } }
+returns-then-self-clause-keeps g c = record { owning = λ o. o; sound = record { keeps = tt; rest = λ s is. absurd (cc is) }; pays = λ w plan x. stopped_pays w plan _ c.args.self.now }
 
 pub returns-clause-keeps : goal.returns-clause-keeps
 returns-clause-keeps g c = record {
@@ -22,6 +24,9 @@ returns-clause-keeps g c = record {
       (ap (λ (h : Hosting). h.entries) c.self-2.view_is) c.is_err-self-inside.ensures.value c.parts-round.ensures.keeps.owned;
   sound = rounds_stopped c.parts-round.result c.args.self.now _ c.is_err-self-inside.result
       (subst (λ (h : Hosting). RoundsSound c.args.self.now c.parts-round.result h) (sym c.self-2.view_is) c.parts-round.ensures.keeps.sound);
+  pays = λ w plan x.
+      pays_stopped w plan c.parts-round.result c.args.self.now _ c.is_err-self-inside.result
+      (subst (λ (h : Hosting). PaysRound w plan c.args.self.now c.parts-round.result h) (sym c.self-2.view_is) (c.parts-round.ensures.parts.pays w plan x));
 }
 
 pub returns-clause-did : goal.returns-clause-did

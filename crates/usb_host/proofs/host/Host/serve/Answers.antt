@@ -15,8 +15,9 @@ use Rattle.usb_host.proofs.Handlings.{port_rests, port_then, stays_rests}
 use Rattle.usb_host.proofs.Joins.{rests_then, goes_then}
 use Rattle.usb_enum.proofs.Interface.{went_sound}
 use Rattle.usb_host.proofs.ServePayments.{after_look, after_tidy, status_lost, told_there}
-use Rattle.usb_host.proofs.HubCounts.{hubs-rest}
+use Rattle.usb_host.proofs.HubCounts.{hubs-rest, none_rests}
 use Rattle.usb_host.proofs.LookPayments.{within_on}
+use Rattle.usb_host.proofs.Plugs.{plugs_rests, plugs_then}
 use Rattle.usb_host.proofs.host.Host.serve.Goals as goal
 
 pub returns-then-status-clause-goes : goal.returns-then-status-clause-goes
@@ -44,6 +45,7 @@ returns-in_err-status-clause-sound g c =
     rw (told.1, told.2) (record {
       sound = watched_lost _ c.args.path.now c.args.port c.args.self.now c.status.new.self c.requires c.in_err-status.ensures.rests c.status.ensures.goes.went c.in_err-status.field-0.0 watches fault;
       bulk = λ i on still. bulk_stays _ _ (watched_stay _ c.args.path.now c.args.port c.args.self.now c.status.new.self c.requires c.in_err-status.ensures.rests c.status.ensures.goes.went (Err c.in_err-status.field-0.0) watches i);
+      plugs = λ i still. plugs_rests _ c.args.self.now c.status.new.self c.status.ensures.goes.went c.in_err-status.ensures.rests;
       caused = watched_caused _ c.args.path.now c.args.port c.args.self.now c.status.new.self c.requires c.in_err-status.ensures.rests c.status.ensures.goes.went c.in_err-status.field-0.0 watches fault;
     })
 
@@ -56,6 +58,10 @@ returns-then-status-clause-sound g c =
           bulk_then _ _ c.args.self.now c.status.new.self c.look.new.self c.status.ensures.goes.went c.look.ensures.goes.went still
           (bulk_stays _ _ (watched_stay _ c.args.path.now c.args.port c.args.self.now c.status.new.self c.requires c.in_ok-status.ensures.rests c.status.ensures.goes.went (Ok c.in_ok-status.status) watches i))
           (c.look.ensures.looks.sound.bulk (watched_sound _ c.args.path.now c.args.port c.args.self.now c.status.new.self c.requires c.in_ok-status.ensures.rests c.status.ensures.goes.went c.in_ok-status.status watches i) on still);
+      plugs = λ i still.
+          plugs_then _ _ c.args.self.now c.status.new.self c.look.new.self c.status.ensures.goes.went c.look.ensures.goes.went still
+          (plugs_rests _ c.args.self.now c.status.new.self c.status.ensures.goes.went c.in_ok-status.ensures.rests)
+          (c.look.ensures.looks.sound.plugs (watched_sound _ c.args.path.now c.args.port c.args.self.now c.status.new.self c.requires c.in_ok-status.ensures.rests c.status.ensures.goes.went c.in_ok-status.status watches i) still);
       caused = λ i fair caused.
           let half = fair_before _ c.args.self.now.world c.status.new.self.world c.look.new.self.world c.look.ensures.goes.went fair in
           c.look.ensures.looks.sound.caused (watched_sound _ c.args.path.now c.args.port c.args.self.now c.status.new.self c.requires c.in_ok-status.ensures.rests c.status.ensures.goes.went c.in_ok-status.status watches i)
@@ -74,6 +80,9 @@ returns-else-status-clause-sound g c =
           bulk_stays _ _ (stay_joined c.args.self.now c.status.new.self c.tidy.new.self (watched_stay _ c.args.path.now c.args.port c.args.self.now c.status.new.self c.requires c.in_ok-status.ensures.rests c.status.ensures.goes.went (Ok c.in_ok-status.status) watches i)
           (tidied_stay _ c.args.path.now c.args.port c.status.new.self c.tidy.new.self stands c.tidy.ensures.rests c.tidy.ensures.goes.went c.tidy.result c.tidy.ensures.tidies
           (watched_sound _ c.args.path.now c.args.port c.args.self.now c.status.new.self c.requires c.in_ok-status.ensures.rests c.status.ensures.goes.went c.in_ok-status.status watches i)));
+      plugs = λ i still.
+          plugs_then _ _ c.args.self.now c.status.new.self c.tidy.new.self c.status.ensures.goes.went c.tidy.ensures.goes.went still
+          (plugs_rests _ c.args.self.now c.status.new.self c.status.ensures.goes.went c.in_ok-status.ensures.rests) (plugs_rests _ c.status.new.self c.tidy.new.self c.tidy.ensures.goes.went c.tidy.ensures.rests);
       caused = λ i fair caused.
           let half = fair_before _ c.args.self.now.world c.status.new.self.world c.tidy.new.self.world c.tidy.ensures.goes.went fair in
           tidied_caused _ c.args.path.now c.args.port c.status.new.self c.tidy.new.self stands c.tidy.ensures.rests c.tidy.ensures.goes.went c.tidy.result c.tidy.ensures.tidies c.tidy.ensures.told
@@ -126,7 +135,7 @@ returns-else-status-clause-serves g c =
       pays = record {
         pays = λ i ports still.
             let order = i.order (went_sound _ c.args.self.now.world c.status.new.self.world c.status.ensures.goes.went (went_sound _ c.status.new.self.world c.tidy.new.self.world c.tidy.ensures.goes.went still)) in
-            after_tidy c.args.path.now c.args.port c.args.self.now c.status.new.self c.requires c.in_ok-status.ensures.rests c.status.ensures.goes.went i ports c.in_ok-status.status watches c.if-status.false c.tidy.new.self c.tidy.ensures.goes.went
+            after_tidy c.args.path.now c.args.port c.args.self.now c.status.new.self c.requires c.in_ok-status.ensures.rests c.status.ensures.goes.went i ports c.in_ok-status.status watches c.if-status.false c.tidy.new.self (none_rests _ c.status.new.self c.tidy.new.self c.tidy.ensures.goes.went c.tidy.ensures.rests)
             order c.tidy.result c.tidy.ensures.tidies c.tidy.ensures.clears.reset c.tidy.ensures.clears.calm;
         few = λ i most plan. omega (arith, c.status.ensures.goes.went.spends.most, c.tidy.ensures.goes.went.spends.most);
       };

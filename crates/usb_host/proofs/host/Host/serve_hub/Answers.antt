@@ -9,7 +9,9 @@ use Rattle.usb_host.proofs.Owners.{stays_none, stays_kept, single_kept}
 use Rattle.usb_host.proofs.Joins.{goes_after}
 use Rattle.usb_host.proofs.Parts.{hub_fails, hub_stopped, hub_quiet, hub_told, hub_gone, hub_listed, unserved}
 use Rattle.usb_host.specs.Service.{first_byte}
-use Rattle.usb_host.proofs.HubServices.{failed_more, polls_lost, polls_quiet, polls_told}
+use Rattle.usb_host.proofs.HubPayments.{drop_fails, drop_pays, poll_fails, poll_none, tells_shows, told_fails, told_pays}
+use Rattle.usb_host.proofs.HubServices.{failed_more, hub_tells, polls_lost, polls_quiet, polls_told}
+use Rattle.usb_host.proofs.Payments.{on_err}
 use Rattle.usb_host.proofs.host.Host.serve_hub.Goals as goal
 
 pub returns-in_err-drop_hub-in-Err-clause-goes : goal.returns-in_err-drop_hub-in-Err-clause-goes
@@ -57,19 +59,51 @@ returns-in_ok-drop_hub-in-Err-clause-keeps g c =
 pub returns-in-Ok-None-clause-polls : goal.returns-in-Ok-None-clause-polls
 returns-in-Ok-None-clause-polls g c =
     let listed = subst (λ (h : Hosting). IsSome (hub_facts_at c.args.hub.now h.entries)) (sym c.self.view_is) c.requires in
-    rw (← c.self.view_is) (polls_quiet c.args.hub.now _ _ c.poll.ensures.through.entries refl refl c.poll.ensures.went listed _ c.in-Ok-None.ensures.polled c.in-Ok-None.ensures.keeps c.in-Ok-None.field-0-is)
+    rw (← c.self.view_is) (record {
+      polls = polls_quiet c.args.hub.now _ _ c.poll.ensures.through.entries refl refl c.poll.ensures.went listed _ c.in-Ok-None.ensures.polled c.in-Ok-None.ensures.keeps c.in-Ok-None.field-0-is;
+      pays = poll_none c.args.hub.now _ _ c.self.invariant c.poll.ensures.through.entries refl c.poll.ensures.went _ c.in-Ok-None.ensures.keeps
+          (hub_tells c.args.hub.now _ _ c.poll.ensures.through.entries refl refl c.poll.ensures.went listed _ c.in-Ok-None.ensures.polled c.in-Ok-None.ensures.keeps);
+    })
 
 pub returns-in_ok-serve_told-in-Ok-Some-clause-polls : goal.returns-in_ok-serve_told-in-Ok-Some-clause-polls
 returns-in_ok-serve_told-in-Ok-Some-clause-polls g c =
     let listed = subst (λ (h : Hosting). IsSome (hub_facts_at c.args.hub.now h.entries)) (sym c.self.view_is) c.requires in
     let more = (rw c.in-Ok-Some.field-0-is at c.in-Ok-Some.ensures.ends).least in
-    rw (← c.self.view_is) (polls_told c.args.hub.now _ _ c.poll.ensures.through.entries refl refl c.poll.ensures.went listed _ c.in-Ok-Some.ensures.polled c.in-Ok-Some.ensures.keeps c.in-Ok-Some.bits c.first_byte.result _ c.serve_told.new.self c.in-Ok-Some.field-0-is (c.first_byte.ensures ∙ ap first_byte c.as_slice.ensures.value)
-    c.serve_told.ensures.goes more c.in_ok-serve_told-in-Ok-Some.ensures.holds c.in_ok-serve_told-in-Ok-Some.ensures.serves)
+    rw (← c.self.view_is) (record {
+      polls = polls_told c.args.hub.now _ _ c.poll.ensures.through.entries refl refl c.poll.ensures.went listed _ c.in-Ok-Some.ensures.polled c.in-Ok-Some.ensures.keeps c.in-Ok-Some.bits c.first_byte.result _ c.serve_told.new.self c.in-Ok-Some.field-0-is
+          (c.first_byte.ensures ∙ ap first_byte c.as_slice.ensures.value) c.serve_told.ensures.goes more c.in_ok-serve_told-in-Ok-Some.ensures.holds c.in_ok-serve_told-in-Ok-Some.ensures.serves.served;
+      pays = told_pays c.args.hub.now _ _ c.self.invariant c.poll.ensures.through.entries refl c.poll.ensures.went c.serve_told.new.self _ c.serve_told.ensures.goes.went c.first_byte.result _ refl c.in-Ok-Some.ensures.keeps _ c.in_ok-serve_told-in-Ok-Some.ensures.serves.pays
+          (tells_shows c.args.hub.now _ _ c.self.invariant c.poll.ensures.through.entries refl refl c.poll.ensures.went listed _ c.in-Ok-Some.ensures.polled c.in-Ok-Some.ensures.keeps c.in-Ok-Some.bits c.first_byte.result c.in-Ok-Some.field-0-is (c.first_byte.ensures ∙ ap first_byte c.as_slice.ensures.value));
+    })
+
+pub returns-in_err-serve_told-in-Ok-Some-clause-polls : goal.returns-in_err-serve_told-in-Ok-Some-clause-polls
+returns-in_err-serve_told-in-Ok-Some-clause-polls g c =
+    rw (← c.self.view_is) (record {
+      polls = on_err c.from_residual.result _ c.from_residual.ensures.0;
+      pays = told_fails c.args.hub.now _ _ c.self.invariant c.poll.ensures.through.entries refl c.poll.ensures.went c.serve_told.new.self _ c.serve_told.ensures.goes.went c.first_byte.result _ refl c.in-Ok-Some.ensures.keeps c.serve_told.result c.serve_told.ensures.serves.pays
+          c.from_residual.result c.from_residual.ensures.0;
+    })
+
+pub returns-in-Err-Bus-clause-polls : goal.returns-in-Err-Bus-clause-polls
+returns-in-Err-Bus-clause-polls g c =
+    rw (← c.self.view_is) (record { polls = tt; pays = poll_fails c.args.hub.now _ _ c.self.invariant c.poll.ensures.through.entries refl c.poll.ensures.went _ refl })
+
+pub returns-in_err-drop_hub-in-Err-clause-polls : goal.returns-in_err-drop_hub-in-Err-clause-polls
+returns-in_err-drop_hub-in-Err-clause-polls g c =
+    rw (← c.self.view_is) (record {
+      polls = on_err c.from_residual-in_err-drop_hub-in-Err.result _ c.from_residual-in_err-drop_hub-in-Err.ensures.0;
+      pays = drop_fails c.args.hub.now _ c.drop_hub.new.self c.poll.ensures.went c.drop_hub.ensures.goes.went
+          c.from_residual-in_err-drop_hub-in-Err.result c.from_residual-in_err-drop_hub-in-Err.ensures.0;
+    })
 
 pub returns-in_ok-drop_hub-in-Err-clause-polls : goal.returns-in_ok-drop_hub-in-Err-clause-polls
 returns-in_ok-drop_hub-in-Err-clause-polls g c =
     let listed = subst (λ (h : Hosting). IsSome (hub_facts_at c.args.hub.now h.entries)) (sym c.self.view_is) c.requires in
     let failed = unserved _ _ c.in-Err.field-0 _ _ c.in-Err.ensures.polled in
     let more = failed_more _ _ c.in-Err.field-0 (λ told is. first_of (search rules, grind (arith, common_steps))) c.in-Err.ensures.ends in
-    rw (← c.self.view_is) (polls_lost c.args.hub.now _ _ c.poll.ensures.through.entries refl refl c.poll.ensures.went listed c.in-Err.field-0 c.in-Err.ensures.polled c.in-Err.ensures.keeps _ c.drop_hub.new.self failed
-    c.drop_hub.ensures.goes more c.drop_hub.ensures.counts.holds (rw c.duplicate.ensures at c.in_ok-drop_hub-in-Err.ensures.owned.lost))
+    rw (← c.self.view_is) (record {
+      polls = polls_lost c.args.hub.now _ _ c.poll.ensures.through.entries refl refl c.poll.ensures.went listed c.in-Err.field-0 c.in-Err.ensures.polled c.in-Err.ensures.keeps _ c.drop_hub.new.self failed
+          c.drop_hub.ensures.goes more c.drop_hub.ensures.counts.holds (rw c.duplicate.ensures at c.in_ok-drop_hub-in-Err.ensures.owned.lost);
+      pays = drop_pays c.args.hub.now _ _ c.self.invariant c.poll.ensures.through.entries refl c.poll.ensures.went c.drop_hub.new.self c.drop_hub.ensures.goes.went _ c.in-Err.ensures.keeps listed (rw c.duplicate.ensures at c.in_ok-drop_hub-in-Err.ensures.sound)
+          (rw c.duplicate.ensures at c.in_ok-drop_hub-in-Err.ensures.counts.hubs);
+    })

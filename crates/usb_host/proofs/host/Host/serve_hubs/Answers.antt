@@ -8,12 +8,15 @@ use Rattle.usb_host.specs.declared.host.Round.TheVariants.{Quiet}
 use Rattle.usb_host.proofs.Soundness.{part_none, part_then}
 use Rattle.usb_host.proofs.Joins.{did_then, goes_none}
 use Rattle.usb_host.proofs.Ranks.{rank_goes, rank_within, rank_rises, rank_most, rank_after_most}
+use Rattle.usb_host.specs.Budget.{RoundPaid}
 use Rattle.usb_host.specs.Service.{next_hub, no_hub}
+use Rattle.usb_host.proofs.HubPayments.{hubs_all, hubs_failed, hubs_next, hubs_none, rank_before}
+use Rattle.usb_host.proofs.Payments.{on_err}
 use Rattle.usb_enum.proofs.Interface.{went_sound}
 use Rattle.usb_host.proofs.host.Host.serve_hubs.Goals as goal
 
 pub hubs-init : goal.hubs-init
-hubs-init g c = record { goes = goes_none 0 _; did = refl; owned = stays_none _; sound = part_none _; calm = λ quiet still x. here _; polled = λ s quiet still taken hub first. absurd (first tt); polls = λ s still. no_hub _; path = tt }
+hubs-init g c = record { goes = goes_none 0 _; did = refl; owned = stays_none _; sound = part_none _; calm = λ quiet still x. here _; polled = λ s quiet still taken hub first. absurd (first tt); polls = λ s still. no_hub _; pays = hubs_none _; path = tt }
 
 pub returns-in_err-serve_hub-clause-goes : goal.returns-in_err-serve_hub-clause-goes
 returns-in_err-serve_hub-clause-goes g c =
@@ -30,17 +33,19 @@ hubs-smaller g c =
 pub hubs-preserved : goal.hubs-preserved
 hubs-preserved g c = record {
   goes = rank_goes hub_poll_bound c.hubs.last c.in-Some.hub _ _ _ c.hubs.invariant.path c.serve_hub.ensures.path c.in-Some.ensures.some.stands.after c.hubs.invariant.goes c.serve_hub.ensures.goes;
-  did = rw c.and-round.ensures (did_then _ _ c.hubs.round c.in_ok-serve_hub.field-0 c.args.self.now c.hubs.self c.serve_hub.new.self c.hubs.invariant.goes c.serve_hub.ensures.goes c.hubs.invariant.did c.in_ok-serve_hub.ensures.polls.did);
+  did = rw c.and-round.ensures (did_then _ _ c.hubs.round c.in_ok-serve_hub.field-0 c.args.self.now c.hubs.self c.serve_hub.new.self c.hubs.invariant.goes c.serve_hub.ensures.goes c.hubs.invariant.did c.in_ok-serve_hub.ensures.polls.polls.did);
   owned = stays_then _ _ _ c.hubs.invariant.owned c.in_ok-serve_hub.ensures.keeps.owned;
   sound = part_then _ _ _ _ _ c.hubs.invariant.goes.went c.serve_hub.ensures.goes.went c.hubs.invariant.sound c.in_ok-serve_hub.ensures.keeps.sound;
   calm = λ quiet still.
       calm_then _ _ c.hubs.round c.in_ok-serve_hub.field-0 c.args.self.now c.hubs.self c.serve_hub.new.self c.hubs.invariant.goes c.serve_hub.ensures.goes (sym c.and-round.ensures ∙ quiet) still c.hubs.invariant.calm c.in_ok-serve_hub.ensures.keeps.calm;
   polled = λ s quiet still taken.
       polled_then _ _ c.hubs.round c.in_ok-serve_hub.field-0 c.args.self.now c.hubs.self c.serve_hub.new.self c.hubs.invariant.goes c.serve_hub.ensures.goes (sym c.and-round.ensures ∙ quiet) still c.hubs.last c.in-Some.hub c.in-Some.ensures.some taken s
-      c.hubs.invariant.sound.sound c.in_ok-serve_hub.ensures.polls.did c.hubs.invariant.polled c.in_ok-serve_hub.ensures.keeps;
+      c.hubs.invariant.sound.sound c.in_ok-serve_hub.ensures.polls.polls.did c.hubs.invariant.polled c.in_ok-serve_hub.ensures.keeps;
   polls = λ s still.
       rw c.and-round.ensures (next_hub c.hubs.last c.in-Some.hub c.hubs.round c.in_ok-serve_hub.field-0 (c.hubs.invariant.polls s (went_sound _ c.hubs.self.world c.serve_hub.new.self.world c.serve_hub.ensures.goes.went still)) c.in-Some.ensures.some
-      (c.in_ok-serve_hub.ensures.polls.polled (c.hubs.invariant.sound.sound.sound s) still));
+      (c.in_ok-serve_hub.ensures.polls.polls.polled (c.hubs.invariant.sound.sound.sound s) still));
+  pays = rw c.and-round.ensures (hubs_next _ _ c.hubs.last c.in-Some.hub c.hubs.round c.args.self.now c.hubs.self c.serve_hub.new.self c.hubs.invariant.goes.went c.serve_hub.ensures.goes.went c.hubs.invariant.sound c.hubs.invariant.pays c.in_ok-serve_hub.field-0
+      (rank_before c.hubs.last c.in-Some.hub c.hubs.invariant.path c.serve_hub.ensures.path c.in-Some.ensures.some.stands.after) c.in_ok-serve_hub.ensures.polls.pays);
   path = c.serve_hub.ensures.path;
 }
 
@@ -60,4 +65,14 @@ returns-clause-keeps g c = record {
 }
 
 pub returns-clause-polls : goal.returns-clause-polls
-returns-clause-polls g c = λ s still. record { last = c.hubs.last; polled = c.hubs.invariant.polls s still; all = c.in_default.ensures.none }
+returns-clause-polls g c = record {
+  polls = λ s still. record { last = c.hubs.last; polled = c.hubs.invariant.polls s still; all = c.in_default.ensures.none };
+  pays = hubs_all c.hubs.last c.hubs.round c.args.self.now c.hubs.self c.hubs.invariant.pays;
+}
+
+pub returns-in_err-serve_hub-clause-polls : goal.returns-in_err-serve_hub-clause-polls
+returns-in_err-serve_hub-clause-polls g c = record {
+  polls = on_err c.from_residual.result _ c.from_residual.ensures.0;
+  pays = hubs_failed _ _ c.hubs.last c.in-Some.hub c.hubs.round c.args.self.now c.hubs.self c.serve_hub.new.self c.hubs.invariant.goes.went c.serve_hub.ensures.goes.went c.hubs.invariant.sound c.hubs.invariant.pays c.serve_hub.result c.serve_hub.ensures.polls.pays
+      c.from_residual.result RoundPaid c.from_residual.ensures.0;
+}

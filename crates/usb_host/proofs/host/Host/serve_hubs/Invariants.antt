@@ -8,6 +8,7 @@ use Rattle.usb_host.specs.Progress.{HostGoes, Did}
 use Rattle.usb_host.specs.Service.{HubsPolled}
 use Rattle.usb_host.specs.Soundness.{IsSound, PartStays}
 use Rattle.usb_host.specs.declared.host.Round.TheVariants.{Quiet}
+use Rattle.usb_host.proofs.HubPayments.{HubsSoFar}
 use Rattle.usb_host.proofs.Ranks.{rank_after}
 use Rattle.usb_host.proofs.RestingRounds.{Polled}
 use Rattle.usb_host.proofs.host.Host.serve_hubs.Given as goal
@@ -21,6 +22,7 @@ invariant-hubs g l = record {
   calm : l.round ≡ Quiet → l.self.world.fault ≡ None → AllRest l.initial.self.world l.self.world;
   polled : IsSound l.initial.self → l.round ≡ Quiet → l.self.world.fault ≡ None → l.self.world.taken ≡ l.initial.self.world.taken → Polled l.last l.self;
   polls : IsSound l.initial.self → l.self.world.fault ≡ None → HubsPolled l.last l.round l.initial.self l.self;
+  pays : HubsSoFar l.last l.round l.initial.self l.self;
   path : IfSome l.last IsPath;
 }
 

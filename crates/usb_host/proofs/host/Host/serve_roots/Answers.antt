@@ -6,12 +6,16 @@ use Rattle.usb_host.proofs.Owners.{stays_none, stays_then}
 use Rattle.usb_host.proofs.Parts.{part_fails}
 use Rattle.usb_host.proofs.QuietPorts.{none_changed}
 use Rattle.usb_host.proofs.Soundness.{part_none, part_then}
-use Rattle.usb_host.specs.Service.{RootsServed, no_root, root_changed, root_steady}
+use Rattle.usb_host.specs.Budget.{RootsPaid}
+use Rattle.usb_host.specs.Service.{RootsServed, ServesRoots, no_root, root_changed, root_steady}
+use Rattle.usb_host.specs.declared.host.Round.{Round}
+use Rattle.usb_host.proofs.Payments.{on_err}
+use Rattle.usb_host.proofs.ToldPayments.{root_shows, roots_failed, roots_next, roots_none}
 use Rattle.usb_host.proofs.host.Host.serve_roots.Goals as goal
 use Rattle.usb_host.proofs.host.Host.serve_roots.Goals.{then-has_changed+in_ok-handle_root, else-has_changed}
 
 pub ports-init : goal.ports-init
-ports-init g c = record { goes = goes_none 0 _; did = refl; owned = stays_none _; sound = part_none _; same = λ _. refl; unchanged = λ _ n least below. absurd (omega (arith, least, below)); served = λ o. no_root _ }
+ports-init g c = record { goes = goes_none 0 _; did = refl; owned = stays_none _; sound = part_none _; same = λ _. refl; unchanged = λ _ n least below. absurd (omega (arith, least, below)); served = λ o. no_root _; pays = roots_none _ }
 
 pub returns-in_err-handle_root-clause-goes : goal.returns-in_err-handle_root-clause-goes
 returns-in_err-handle_root-clause-goes g c = goes_then _ _ _ _ _ _ c.ports.invariant.goes c.handle_root.ensures.goes (omega (arith, c.ports.auto.number, c.ports-test.true, c.root_ports-roots.ensures.most))
@@ -20,12 +24,15 @@ pub ports-preserved : goal.ports-preserved
 ports-preserved g c = elim c.if-has_changed.branch [
   | then-has_changed+in_ok-handle_root w ↦ rw (w.self-is, w.round-is) (record {
     goes = goes_then _ _ _ _ _ _ c.ports.invariant.goes w.handle_root.ensures.goes (omega (arith, c.ports.auto.number));
-    did = worked_after _ c.ports.round c.args.self.now c.ports.self w.handle_root.new.self c.ports.invariant.goes c.ports.invariant.did (w.in_ok-handle_root.ensures.handles.advances (sym c.has_changed.ensures ∙ w.if-has_changed.true));
+    did = worked_after _ c.ports.round c.args.self.now c.ports.self w.handle_root.new.self c.ports.invariant.goes c.ports.invariant.did (w.in_ok-handle_root.ensures.handles.handled.advances (sym c.has_changed.ensures ∙ w.if-has_changed.true));
     owned = stays_then _ _ _ c.ports.invariant.owned w.in_ok-handle_root.ensures.owned;
     sound = part_then _ _ _ _ _ c.ports.invariant.goes.went w.handle_root.ensures.goes.went c.ports.invariant.sound w.in_ok-handle_root.ensures.sound;
     same = λ quiet. absurd (cc quiet);
     unchanged = λ quiet. absurd (cc quiet);
-    served = λ o. root_changed c.ports.number c.ports.round (c.ports.invariant.served o) (sym c.has_changed.ensures ∙ w.if-has_changed.true) (w.in_ok-handle_root.ensures.handles.served (c.ports.invariant.owned.stays o));
+    served = λ o. root_changed c.ports.number c.ports.round (c.ports.invariant.served o) (sym c.has_changed.ensures ∙ w.if-has_changed.true) (w.in_ok-handle_root.ensures.handles.handled.served (c.ports.invariant.owned.stays o));
+    pays = roots_next _ _ c.ports.round c.ports.number c.args.self.now c.ports.self w.handle_root.new.self c.ports.invariant.goes.went w.handle_root.ensures.goes.went c.ports.invariant.sound c.ports.invariant.pays w.in_ok-handle_root.field-0
+        (root_shows c.ports.self.world c.ports.number (omega (arith, c.ports.auto.number)) (omega (arith, c.ports-test.true, c.root_ports-roots.ensures.count, c.ports.invariant.goes.went.spends.roots, ap (λ (h : Hosting). roots_of h.world) c.self.view_is)) (sym c.has_changed.ensures ∙ w.if-has_changed.true))
+        w.in_ok-handle_root.ensures.handles.pays;
   })
   | else-has_changed w ↦ rw (w.self-is, w.round-is) (record {
     goes = goes_wider _ _ _ _ c.ports.invariant.goes (omega (arith, c.ports.auto.number));
@@ -38,6 +45,7 @@ ports-preserved g c = elim c.if-has_changed.branch [
         let P : ℕ → Type 0 = λ k. 1 ≤ k → (root_port_at c.args.self.now.world k).connection_changed ≡ false in
         below_more P c.ports.number (λ k lt first. c.ports.invariant.unchanged quiet k first lt) (λ _. here) n below least;
     served = λ o. root_steady c.ports.number c.ports.round (c.ports.invariant.served o) (sym c.has_changed.ensures ∙ w.if-has_changed.false);
+    pays = c.ports.invariant.pays;
   })
 ]
 
@@ -49,12 +57,22 @@ returns-clause-roots g c =
     let roots = ap (λ (h : Hosting). roots_of h.world) c.self.view_is in
     let end : c.ports.number ≡ roots_of c.args.self.now.world + 1 = omega (arith, c.ports-test.false, c.ports.auto.number, c.ports.auto.number-end, c.root_ports-roots.ensures.count, roots) in
     record {
-      none = λ quiet. record {
-        same = c.ports.invariant.same quiet;
-        none = none_changed c.args.self.now.world c.ports.number (omega (arith, c.ports-test.false, c.root_ports-roots.ensures.count, roots)) (c.ports.invariant.unchanged quiet);
+      serves = record {
+        none = λ quiet. record {
+          same = c.ports.invariant.same quiet;
+          none = none_changed c.args.self.now.world c.ports.number (omega (arith, c.ports-test.false, c.root_ports-roots.ensures.count, roots)) (c.ports.invariant.unchanged quiet);
+        };
+        served = λ o. subst (λ n. RootsServed n c.ports.round c.args.self.now c.ports.self) end (c.ports.invariant.served o);
       };
-      served = λ o. subst (λ n. RootsServed n c.ports.round c.args.self.now c.ports.self) end (c.ports.invariant.served o);
+      pays = record { stops = c.ports.invariant.pays.stops; pays = c.ports.invariant.pays.pays };
     }
+
+pub returns-in_err-handle_root-clause-roots : goal.returns-in_err-handle_root-clause-roots
+returns-in_err-handle_root-clause-roots g c = record {
+  serves = on_err c.from_residual.result (λ (round : Round). ServesRoots round c.args.self.now c.handle_root.new.self) c.from_residual.ensures.0;
+  pays = roots_failed _ _ c.ports.round c.ports.number c.args.self.now c.ports.self c.handle_root.new.self c.ports.invariant.goes.went c.handle_root.ensures.goes.went c.ports.invariant.sound c.ports.invariant.pays c.handle_root.result c.handle_root.ensures.handles.pays
+      c.from_residual.result RootsPaid c.from_residual.ensures.0;
+}
 
 pub returns-in_err-handle_root-clause-keeps : goal.returns-in_err-handle_root-clause-keeps
 returns-in_err-handle_root-clause-keeps g c = part_fails c.from_residual.result _ _ _ c.from_residual.ensures.0 c.ports.invariant.owned c.in_err-handle_root.ensures.owned

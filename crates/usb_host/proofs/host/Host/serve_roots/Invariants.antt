@@ -7,6 +7,7 @@ use Rattle.usb_host.specs.Progress.{HostGoes, Did}
 use Rattle.usb_host.specs.Service.{RootsServed}
 use Rattle.usb_host.specs.Soundness.{PartStays}
 use Rattle.usb_host.specs.declared.host.Round.TheVariants.{Quiet}
+use Rattle.usb_host.proofs.ToldPayments.{RootsSoFar}
 use Rattle.usb_host.proofs.host.Host.serve_roots.Given as goal
 
 abbrev pub invariant-ports : goal.invariant-ports
@@ -18,4 +19,5 @@ invariant-ports g l = record {
   same : l.round ≡ Quiet → l.self ≡ l.initial.self;
   unchanged : l.round ≡ Quiet → (n : ℕ) → 1 ≤ n → n < l.number → (root_port_at l.initial.self.world n).connection_changed ≡ false;
   served : IsOwned l.initial.self → RootsServed l.number l.round l.initial.self l.self;
+  pays : RootsSoFar l.round l.initial.self l.self;
 }

@@ -4,6 +4,7 @@ use Rattle.usb_host.specs.Ownership.{IsOwned, StaysOwned}
 use Rattle.usb_host.specs.Progress.{HostGoes, AddsNoWork}
 use Rattle.usb_host.specs.Service.{ServedTold}
 use Rattle.usb_host.specs.Soundness.{PartStays}
+use Rattle.usb_host.proofs.ToldPayments.{ToldSoFar}
 use Rattle.usb_host.proofs.host.Host.serve_told.Given as goal
 
 abbrev pub invariant-ports : goal.invariant-ports
@@ -13,4 +14,5 @@ invariant-ports g l = record {
   owned : StaysOwned l.initial.self l.self;
   sound : PartStays l.initial.self l.self;
   serves : IsOwned l.initial.self → ServedTold l.hub l.bits l.number l.initial.self l.self;
+  pays : ToldSoFar l.hub l.bits l.number l.initial.self l.self;
 }

@@ -1,0 +1,150 @@
+-- A host at work, and how what parts of a round cost is joined.
+use Rattle.std.proofs.Common.{◌≡◌, ◌≤◌, ◌∙◌, refl, sym, ap, subst, arith, ℕ, ◌+◌, ◌*◌, List, Option, None, Some, Result, Ok, Err}
+use Rattle.std.specs.Prelude.{IfOk, IsErr}
+use Rattle.std.proofs.Math.Nat.{mul-le-mul_left}
+use Rattle.std.proofs.lemmas.List.Elements.{All-drop}
+use Rattle.usb_world.specs.declared.types.BusFault.{BusFault}
+use Rattle.usb_world.specs.PlanData.{PlanData}
+use Rattle.usb_world.specs.PlanCourses.{AtPorts, FollowsPlan, PlugsAtPort}
+use Rattle.usb_world.specs.Steps.{AnyStep, Course, after, opening}
+use Rattle.usb_world.specs.World.{World}
+use Rattle.usb_world.proofs.Interface.{course_joined}
+use Rattle.usb_world.proofs.PluggedDevices.{events_went}
+use Rattle.usb_bus.specs.Traces.{Traced, still, attempted, called}
+use Rattle.usb_backlog.specs.Marks.{looks_by, strays_by, unmarked}
+use Rattle.usb_enum.specs.TextLengths.{HasPlanWithin}
+use Rattle.usb_enum.proofs.Interface.{went_course}
+use Rattle.usb_host.specs.Backlog.{hubs}
+use Rattle.usb_host.specs.Budget.{Costs, Pays, PaysPart, StopsWithin, Weights, WorksOn, debt, event_weight, hub_weight, look_weight, stray_weight}
+use Rattle.usb_host.specs.Hosting.{Hosting}
+use Rattle.usb_host.specs.Progress.{HostWent}
+use Rattle.usb_host.specs.Soundness.{IsSound}
+use Rattle.usb_host.specs.declared.fault.HostFault.{HostFault}
+use Rattle.usb_host.proofs.Ledgers.{sums_costs, sums_look, sums_plain}
+
+-- A host at work on a plan
+
+ports_course : (plan : PlanData) → AtPorts plan.events → (w : World) → Course AnyStep (opening plan) w → AtPorts w.left
+ports_course plan paths w course =
+    let follows : FollowsPlan plan w = events_went plan w course in
+    subst AtPorts (sym follows.left) (All-drop (λ e. PlugsAtPort e.action) w.taken plan.events paths)
+
+-- the events to come are at ports
+pub ports_left : (c : Weights) (plan : PlanData) (h : Hosting) → WorksOn c plan h → AtPorts h.world.left
+ports_left c plan h x = ports_course plan x.paths h.world x.course
+
+pub ports_after : (n : ℕ) (c : Weights) (plan : PlanData) (a b : Hosting) → HostWent n a b → WorksOn c plan a → b.world.fault ≡ None → AtPorts b.world.left
+ports_after n c plan a b went x work = ports_course plan x.paths b.world (course_joined x.course (went_course n a.world b.world went work))
+
+pub plan_within : (c : Weights) (plan : PlanData) (h : Hosting) → WorksOn c plan h → HasPlanWithin c.most h.world
+plan_within c plan h x = record { planned = record { plan = plan; is = x.is; paths = x.paths; course = x.course }; plugs = x.within }
+
+pub works_on : (n : ℕ) (c : Weights) (plan : PlanData) (a b : Hosting) → HostWent n a b → WorksOn c plan a → IsSound b → b.world.fault ≡ None → WorksOn c plan b
+works_on n c plan a b went x sound work = record {
+  sound = sound;
+  working = work;
+  is = x.is;
+  paths = x.paths;
+  course = course_joined x.course (went_course n a.world b.world went work);
+  within = x.within;
+  polls = x.polls;
+}
+
+-- behind a fault no attempt is made
+stays_faulted : {old : World} {t : Option (List ℕ)} {new : World} {s : Option (List ℕ)} → Traced old t new s → (f : BusFault) → old.fault ≡ Some f
+    → (new.attempts ≡ old.attempts) × (new.fault ≡ Some f)
+unfolding after
+stays_faulted still f is = (refl, is)
+stays_faulted {old} (attempted {w} {v} a result fits before made) f is =
+    let x : (w.attempts ≡ old.attempts) × (w.fault ≡ Some f) = stays_faulted before f is in
+    let same : v ≡ w = (made.counts.again f x.1).1 in
+    (ap (λ (u : World). u.attempts) same ∙ x.0, ap (λ (u : World). u.fault) same ∙ x.1)
+stays_faulted (called c port before) f is = stays_faulted before f is
+
+none_made : (n : ℕ) (a b : Hosting) → HostWent n a b → (f : BusFault) → a.world.fault ≡ Some f → b.world.attempts ≡ a.world.attempts
+none_made n a b went f is = (stays_faulted went.traced f is).0
+
+-- What is paid
+
+pub looks_pay : (c : Weights) (n spare : ℕ) (a b : Hosting) → b.world.attempts ≤ a.world.attempts + n
+    → looks_by unmarked b.world.roots + 1 + 8 * a.world.taken ≤ looks_by unmarked a.world.roots + 8 * b.world.taken
+    → strays_by unmarked unmarked b.world.roots + a.world.taken ≤ strays_by unmarked unmarked a.world.roots + 1 + b.world.taken → a.world.taken ≤ b.world.taken
+    → n + hub_weight c * hubs b.entries + spare ≤ hub_weight c * hubs a.entries + 301136 + 100 * c.most + 2 * c.polls → Pays c spare a b
+looks_pay c n spare a b few looks strays on fits =
+    sums_look c.most c.polls n (hubs a.entries) (hubs b.entries) spare a.world.attempts b.world.attempts (looks_by unmarked a.world.roots) (looks_by unmarked b.world.roots) (strays_by unmarked unmarked a.world.roots)
+    (strays_by unmarked unmarked b.world.roots) a.world.taken b.world.taken few looks strays on fits
+
+-- so many looks, other changes, hubs and events are paid
+pub plain_pays : (c : Weights) (n spare i j f g : ℕ) (a b : Hosting) → b.world.attempts ≤ a.world.attempts + n
+    → looks_by unmarked b.world.roots + i + 7 * a.world.taken ≤ looks_by unmarked a.world.roots + 7 * b.world.taken
+    → strays_by unmarked unmarked b.world.roots + j + a.world.taken ≤ strays_by unmarked unmarked a.world.roots + b.world.taken → hubs b.entries + f ≤ hubs a.entries → a.world.taken + g ≤ b.world.taken
+    → n + spare ≤ look_weight c * i + stray_weight c * j + hub_weight c * f + (344272 + 100 * c.most + 4 * c.polls) * g → Pays c spare a b
+plain_pays c n spare i j f g a b few looks strays fewer on fits =
+    sums_plain c.most c.polls n spare i j f g a.world.attempts b.world.attempts (looks_by unmarked a.world.roots) (looks_by unmarked b.world.roots) (strays_by unmarked unmarked a.world.roots)
+    (strays_by unmarked unmarked b.world.roots) (hubs a.entries) (hubs b.entries) a.world.taken b.world.taken few looks strays fewer on fits
+
+pub plain_costs : (c : Weights) (n : ℕ) (a b : Hosting) → b.world.attempts ≤ a.world.attempts + n
+    → looks_by unmarked b.world.roots + 7 * a.world.taken ≤ looks_by unmarked a.world.roots + 7 * b.world.taken
+    → strays_by unmarked unmarked b.world.roots + a.world.taken ≤ strays_by unmarked unmarked a.world.roots + b.world.taken → hubs b.entries ≤ hubs a.entries → a.world.taken ≤ b.world.taken → Costs c n a b
+plain_costs c n a b few looks strays fewer on =
+    sums_costs c.most c.polls n a.world.attempts b.world.attempts (looks_by unmarked a.world.roots) (looks_by unmarked b.world.roots) (strays_by unmarked unmarked a.world.roots) (strays_by unmarked unmarked b.world.roots)
+    (hubs a.entries) (hubs b.entries) a.world.taken b.world.taken few looks strays fewer on
+
+pub few_stop : (c : Weights) (n : ℕ) (a b : Hosting) → b.world.attempts ≤ a.world.attempts + n → a.world.taken ≤ b.world.taken → StopsWithin c n a b
+few_stop c n a b few on = let y = mul-le-mul_left (event_weight c) on in omega (arith, few, y)
+
+-- Joins
+
+pub costs_none : (c : Weights) (n : ℕ) (a : Hosting) → Costs c n a a
+costs_none c n a = omega arith
+
+module _ (c : Weights) (a b : Hosting) where
+  pub pays_less : (m n : ℕ) → Pays c m a b → n ≤ m → Pays c n a b
+  pays_less m n x le = omega (arith, x, le)
+
+  pub costs_more : (m n : ℕ) → Costs c m a b → m ≤ n → Costs c n a b
+  costs_more m n x le = omega (arith, x, le)
+
+  pub stops_more : (m n : ℕ) → StopsWithin c m a b → m ≤ n → StopsWithin c n a b
+  stops_more m n x le = omega (arith, x, le)
+
+  pub pays_none : (m n : ℕ) → Pays c m a b → Costs c n a b
+  pays_none m n x = omega (arith, x)
+
+module _ (c : Weights) (a b d : Hosting) where
+  pub pays_then : (m n k : ℕ) → Pays c m a b → Pays c n b d → k ≤ m + n → Pays c k a d
+  pays_then m n k x y le = omega (arith, x, y, le)
+
+  pub pays_costs : (m n k : ℕ) → Pays c m a b → Costs c n b d → k + n ≤ m → Pays c k a d
+  pays_costs m n k x y le = omega (arith, x, y, le)
+
+  pub costs_pays : (m n k : ℕ) → Costs c m a b → Pays c n b d → k + m ≤ n → Pays c k a d
+  costs_pays m n k x y le = omega (arith, x, y, le)
+
+  pub costs_then : (m n k : ℕ) → Costs c m a b → Costs c n b d → m + n ≤ k → Costs c k a d
+  costs_then m n k x y le = omega (arith, x, y, le)
+
+  pub costs_stop : (m n k : ℕ) → Costs c m a b → StopsWithin c n b d → m + n ≤ k → StopsWithin c k a d
+  costs_stop m n k x y le = omega (arith, x, y, le)
+
+  stops_same : (k : ℕ) → StopsWithin c k a b → d.world.attempts ≡ b.world.attempts → b.world.taken ≤ d.world.taken → StopsWithin c k a d
+  stops_same k x same on = let y = mul-le-mul_left (event_weight c) on in omega (arith, x, same, y)
+
+  -- a part stopped after others, or the bus had stopped before
+  pub stops_after : (n m k l : ℕ) → HostWent n b d → StopsWithin c l a b → (b.world.fault ≡ None → Costs c m a b)
+      → (b.world.fault ≡ None → StopsWithin c k b d) → m + k ≤ l → StopsWithin c l a d
+  stops_after n m k l went before cost then le = pick b.world.fault refl
+    where
+      pick : (o : Option BusFault) → b.world.fault ≡ o → StopsWithin c l a d
+      pick None is = costs_stop m k l (cost is) (then is) le
+      pick (Some f) is = stops_same l before (none_made n b d went f is) went.spends.onward
+
+-- Parts that failed, and those that did nothing
+
+pub on_err : {A : Type 0} (result : Result A HostFault) (P : A → Type 0) → IsErr result → IfOk result P
+on_err (Ok x) P e = absurd (cc e)
+on_err (Err fault) P e = tt
+
+pub part_failed : {A B : Type 0} (result : Result A HostFault) (inner : Result B HostFault) (most : Weights → ℕ) (Done : Weights → A → Hosting → Hosting → Type 0) (Other : Weights → B → Hosting → Hosting → Type 0) (a b : Hosting)
+    → IsErr result → PaysPart most Other a inner b → PaysPart most Done a result b
+part_failed result inner most Done Other a b e x = record { stops = x.stops; pays = λ c plan w work. on_err result (λ y. Done c y a b) e }

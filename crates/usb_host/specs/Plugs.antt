@@ -1,0 +1,50 @@
+-- Where devices were plugged, and that none waits for an address where few were.
+use Rattle.std.specs.Prelude.{◌≡◌, ◌≢◌, ◌≤◌, ℕ, Bool, true, false, List, take, Any, Some}
+use Rattle.std.specs.List.{count_by}
+use Rattle.usb_world.specs.declared.event.Action.{Action}
+use Rattle.usb_world.specs.declared.event.Action.TheVariants.{Plug, Unplug, Show, Send, Receive, Clear}
+use Rattle.usb_world.specs.declared.event.Event.{Event}
+use Rattle.usb_world.specs.PlanData.{PlanData, IsPlan}
+use Rattle.usb_world.specs.PlanCourses.{AtPorts}
+use Rattle.usb_world.specs.Steps.{AnyStep, Course, opening}
+use Rattle.usb_enum.specs.declared.cause.Cause.TheVariants.{NoAddress}
+use Rattle.usb_enum.specs.declared.finding.Accepted.{Accepted}
+use Rattle.usb_enum.specs.declared.finding.Finding.TheVariants.{Refused}
+use Rattle.usb_table.specs.Findings.{accepted_device_at}
+use Rattle.usb_table.specs.Listing.{finding_at}
+use Rattle.usb_host.specs.Hosting.{Hosting}
+
+-- a device is plugged at the path
+abbrev pub PlugsAt : List ℕ → Action → Type 0
+PlugsAt path (Plug at device) = at ≡ path
+PlugsAt path (Unplug at) = ⊥
+PlugsAt path Show = ⊥
+PlugsAt path (Send at bytes) = ⊥
+PlugsAt path (Receive at packets) = ⊥
+PlugsAt path (Clear at) = ⊥
+
+abbrev pub is_plug : Action → Bool
+is_plug (Plug at device) = true
+is_plug (Unplug at) = false
+is_plug Show = false
+is_plug (Send at bytes) = false
+is_plug (Receive at packets) = false
+is_plug (Clear at) = false
+
+-- how many events plug a device
+abbrev pub plug_events : List Event → ℕ
+plug_events events = count_by (λ e. is_plug e.action) events
+
+-- among the events that came, one plugged a device at the path
+abbrev pub WasPlugged : List Event → ℕ → List ℕ → Type 0
+WasPlugged events came path = Any (λ e. PlugsAt path e.action) (take came events)
+
+-- each accepted device stands where one was plugged; and where at most 127 are plugged, none waits for an address
+pub record HasPlugs (events : List Event) (h : Hosting) : Type 0 where
+  pub each : (path : List ℕ) (device : Accepted) → accepted_device_at path h.entries ≡ Some device → WasPlugged events h.world.taken path
+  pub none_waits : plug_events events ≤ 127 → (path : List ℕ) → finding_at path h.entries ≢ Some (Refused NoAddress)
+
+-- so it stays, in a course of a plan
+abbrev pub KeepsPlugs : Hosting → Hosting → Type 0
+KeepsPlugs old new = (plan : PlanData) → IsPlan plan → AtPorts plan.events → Course AnyStep (opening plan) old.world
+    → HasPlugs plan.events old → HasPlugs plan.events new
