@@ -31,6 +31,7 @@ pub mod CalmPorts
 pub mod Silences
 pub mod Polls
 pub mod RestingRounds
+mod IdleRounds
 pub mod Parts
 pub mod Handlings
 pub mod Hubs

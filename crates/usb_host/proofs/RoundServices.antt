@@ -1,8 +1,9 @@
 -- How the parts of a round join as what was done in it.
 use Rattle.std.proofs.Common.{◌≡◌, ◌∙◌, refl, sym, ap, subst, Bool, false, List, ℕ, Option, Some, Result, Ok, Err, is_err}
-use Rattle.std.specs.Prelude.{IfOk, IsErr}
+use Rattle.std.specs.Prelude.{[], IfOk, IsErr}
 use Rattle.usb_table.specs.NextEntries.{ComesAfter}
 use Rattle.usb_world.specs.PlanData.{PlanData}
+use Rattle.usb_world.specs.World.{changes, root_row}
 use Rattle.usb_host.specs.Budget.{Affords, PaysRound, Weights}
 use Rattle.usb_host.specs.Hosting.{Hosting}
 use Rattle.usb_host.specs.Ownership.{KeepsOwned}
@@ -26,9 +27,10 @@ looked_then last path before round a b c looked waits after is once =
 
 -- The parts
 
-pub parts_failed : (result : Result Round HostFault) (a b : Hosting) → IsErr result → ((c : Weights) (plan : PlanData) → Affords c plan a → PaysRound c plan a result b) → WentByParts a result b
-parts_failed (Ok round) a b e pays = absurd (cc e)
-parts_failed (Err fault) a b e pays = record { none = λ is. absurd (cc is); parts = tt; pays = pays }
+pub parts_failed : (result : Result Round HostFault) (a b : Hosting) → IsErr result → ((c : Weights) (plan : PlanData) → Affords c plan a → PaysRound c plan a result b)
+    → (a.entries ≡ [] → changes (root_row a.world) ≡ 0 → ⊥) → WentByParts a result b
+parts_failed (Ok round) a b e pays idle = absurd (cc e)
+parts_failed (Err fault) a b e pays idle = record { none = λ is. absurd (cc is); parts = tt; pays = pays; idle = λ entries none. absurd (idle entries none) }
 
 did_worked : (r : Round) (a b : Hosting) → Did r a b → r ≡ Worked → Advances a b
 did_worked Worked a b did is = did

@@ -8,7 +8,7 @@ use Rattle.usb_device.specs.View.{port_there, state_there}
 use Rattle.usb_world.specs.PlanData.{PlanData, IsPlan}
 use Rattle.usb_world.specs.PlanCourses.{AtPorts}
 use Rattle.usb_world.specs.Steps.{AnyStep, Course, opening}
-use Rattle.usb_world.specs.World.{World}
+use Rattle.usb_world.specs.World.{World, changes, root_row}
 use Rattle.usb_backlog.specs.Marks.{looks_by, strays_by, unmarked}
 use Rattle.usb_hub.specs.Moments.{PortTold}
 use Rattle.usb_enum.specs.TextLengths.{PlugsWithin}
@@ -170,8 +170,10 @@ pub record PaysRound (c : Weights) (plan : PlanData) (old : Hosting) (result : R
   pub pays : new.world.fault ≡ None → PaysDone c result old new
   pub plugs : OnOk result (new.world.fault ≡ None → HasPlugs plan.events new)
 
--- a whole round: devices hold the addresses that the host has for them, what is known stays so, and what was left to do pays
+-- a whole round: devices hold the addresses that the host has for them, what is known stays so, and what was left to do pays; where nothing is listed,
+-- and no root port had changed, nothing is done
 pub record RoundKeeps (old : Hosting) (result : Result Round HostFault) (new : Hosting) : Type 0 where
   pub owning : Owning old → Owning new
   pub sound : RoundsSound old result new
   pub pays : (c : Weights) (plan : PlanData) → Affords c plan old → PaysRound c plan old result new
+  pub rests : old.entries ≡ [] → changes (root_row old.world) ≡ 0 → new ≡ old

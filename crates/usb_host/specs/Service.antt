@@ -293,12 +293,16 @@ pub record ServesHub (hub : List ℕ) (old : Hosting) (result : Result Round Hos
 pub record ServesHubs (old : Hosting) (result : Result Round HostFault) (new : Hosting) : Type 0 where
   pub polls : IfOk result (λ round. IsSound old → new.world.fault ≡ None → EachPolled round old new)
   pub pays : PaysPart hubs_most RoundPaid old result new
+  -- where nothing is listed, nothing is done
+  pub idle : old.entries ≡ [] → (result ≡ Ok Quiet) × (new ≡ old)
 
 -- the parts of a round; where it is quiet no root port had changed
 pub record WentByParts (old : Hosting) (result : Result Round HostFault) (new : Hosting) : Type 0 where
   pub none : result ≡ Ok Quiet → changes (root_row old.world) ≡ 0
   pub parts : IfOk result (λ round. IsSound old → new.world.fault ≡ None → RoundParts round old new)
   pub pays : (c : Weights) (plan : PlanData) → Affords c plan old → PaysRound c plan old result new
+  -- where nothing is listed, and no root port had changed, nothing is done
+  pub idle : old.entries ≡ [] → changes (root_row old.world) ≡ 0 → (result ≡ Ok Quiet) × (new ≡ old)
 
 -- the root ports were served
 pub record ServesRoots (round : Round) (old new : Hosting) : Type 0 where
@@ -309,6 +313,8 @@ pub record ServesRoots (round : Round) (old new : Hosting) : Type 0 where
 pub record ServesEach (old : Hosting) (result : Result Round HostFault) (new : Hosting) : Type 0 where
   pub serves : IfOk result (λ round. ServesRoots round old new)
   pub pays : PaysPart handling_most RootsPaid old result new
+  -- where none had changed, nothing is done
+  pub idle : changes (root_row old.world) ≡ 0 → (result ≡ Ok Quiet) × (new ≡ old)
 
 -- what a round did, part by part
 pub record DidParts (round : Round) (old new : Hosting) : Type 0 where

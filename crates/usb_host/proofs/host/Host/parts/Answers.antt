@@ -1,4 +1,5 @@
 use Rattle.std.proofs.Common.{arith, refl, ◌+◌}
+use Rattle.usb_host.proofs.IdleRounds.{all_idle, hubs_idle, looks_idle, roots_idle}
 use Rattle.usb_host.proofs.Joins.{goes_then}
 use Rattle.usb_host.proofs.Owners.{stays_then, stays_none}
 use Rattle.usb_host.proofs.Parts.{parts_fail, parts_keep}
@@ -41,18 +42,21 @@ returns-clause-keeps g c =
 pub returns-in_err-roots-clause-parts : goal.returns-in_err-roots-clause-parts
 returns-in_err-roots-clause-parts g c =
     parts_failed c.from_residual.result _ _ c.from_residual.ensures.0 (λ w plan x. roots_fail w plan c.args.self.now c.serve_roots.new.self c.serve_roots.result c.from_residual.result c.from_residual.ensures.0 c.serve_roots.ensures.roots.pays x)
+    (λ entries none. roots_idle c.args.self.now entries none c.serve_roots.new.self _ c.in_err-roots.ensures.roots.idle)
 
 pub returns-in_err-hubs-clause-parts : goal.returns-in_err-hubs-clause-parts
 returns-in_err-hubs-clause-parts g c =
     parts_failed c.from_residual-in_err-hubs.result _ _ c.from_residual-in_err-hubs.ensures.0
     (λ w plan x. hubs_fail _ c.in_ok-roots.roots c.args.self.now c.serve_roots.new.self c.serve_roots.ensures.goes.went c.in_ok-roots.ensures.keeps.sound c.in_ok-roots.ensures.roots.pays _ c.serve_hubs.new.self c.serve_hubs.ensures.goes.went
     w plan c.serve_hubs.result c.from_residual-in_err-hubs.result c.from_residual-in_err-hubs.ensures.0 c.serve_hubs.ensures.polls.pays x)
+    (λ entries none. hubs_idle c.args.self.now entries none c.serve_roots.new.self c.in_ok-roots.roots c.in_ok-roots.ensures.roots.idle c.serve_hubs.new.self _ c.in_err-hubs.ensures.polls.idle)
 
 pub returns-in_err-looks-clause-parts : goal.returns-in_err-looks-clause-parts
 returns-in_err-looks-clause-parts g c =
     parts_failed c.from_residual-in_err-looks.result _ _ c.from_residual-in_err-looks.ensures.0
     (λ w plan x. looks_fail _ c.in_ok-roots.roots c.args.self.now c.serve_roots.new.self c.serve_roots.ensures.goes.went c.in_ok-roots.ensures.keeps.sound c.in_ok-roots.ensures.roots.pays _ c.serve_hubs.new.self c.serve_hubs.ensures.goes.went
     c.in_ok-hubs.hubs c.in_ok-hubs.ensures.keeps.sound c.in_ok-hubs.ensures.polls.pays _ c.look_again.new.self c.look_again.ensures.goes.went w plan c.look_again.result c.from_residual-in_err-looks.result c.from_residual-in_err-looks.ensures.0 c.look_again.ensures.keeps x)
+    (λ entries none. looks_idle c.args.self.now entries none c.serve_roots.new.self c.in_ok-roots.roots c.in_ok-roots.ensures.roots.idle c.serve_hubs.new.self c.in_ok-hubs.hubs c.in_ok-hubs.ensures.polls.idle c.look_again.new.self _ c.in_err-looks.ensures.keeps.idle)
 
 pub returns-clause-parts : goal.returns-clause-parts
 returns-clause-parts g c =
@@ -80,4 +84,5 @@ returns-clause-parts g c =
       pays = λ w plan x.
           parts_pay _ c.in_ok-roots.roots a first c.serve_roots.ensures.goes.went c.in_ok-roots.ensures.keeps.sound c.in_ok-roots.ensures.roots.pays _ second c.serve_hubs.ensures.goes.went c.in_ok-hubs.hubs c.in_ok-hubs.ensures.keeps.sound c.in_ok-hubs.ensures.polls.pays
           _ end c.look_again.ensures.goes.went w plan c.in_ok-looks.looks c.in_ok-looks.ensures.keeps x;
+      idle = λ entries none. all_idle a entries none first c.in_ok-roots.roots c.in_ok-roots.ensures.roots.idle second c.in_ok-hubs.hubs c.in_ok-hubs.ensures.polls.idle end c.in_ok-looks.looks c.in_ok-looks.ensures.keeps.idle;
     })

@@ -1,4 +1,4 @@
-use Rattle.std.proofs.Common.{ap, sym, subst, ◌∙◌}
+use Rattle.std.proofs.Common.{◌≡◌, ap, refl, sym, subst, ◌∙◌}
 use Rattle.std.specs.Prelude.{IfOk}
 use Rattle.usb_host.specs.Bounds.{round_bound}
 use Rattle.usb_host.specs.Budget.{PaysRound}
@@ -6,6 +6,7 @@ use Rattle.usb_host.specs.Hosting.{Hosting}
 use Rattle.usb_host.proofs.RoundPayments.{pays_stopped, stopped_pays}
 use Rattle.usb_host.specs.Service.{DidParts}
 use Rattle.usb_host.specs.Soundness.{RoundsSound}
+use Rattle.usb_host.proofs.IdleRounds.{round_rests}
 use Rattle.usb_host.proofs.Joins.{goes_none}
 use Rattle.usb_host.proofs.Owners.{round_owning}
 use Rattle.usb_host.proofs.RoundServices.{parts_done}
@@ -16,7 +17,7 @@ pub returns-then-self-clause-went : goal.returns-then-self-clause-went
 returns-then-self-clause-went g c = (goes_none round_bound c.args.self.now).went
 
 pub returns-then-self-clause-keeps : goal.returns-then-self-clause-keeps
-returns-then-self-clause-keeps g c = record { owning = λ o. o; sound = record { keeps = tt; rest = λ s is. absurd (cc is) }; pays = λ w plan x. stopped_pays w plan _ c.args.self.now }
+returns-then-self-clause-keeps g c = record { owning = λ o. o; sound = record { keeps = tt; rest = λ s is. absurd (cc is) }; pays = λ w plan x. stopped_pays w plan _ c.args.self.now; rests = λ entries none. refl }
 
 pub returns-clause-keeps : goal.returns-clause-keeps
 returns-clause-keeps g c = record {
@@ -27,6 +28,9 @@ returns-clause-keeps g c = record {
   pays = λ w plan x.
       pays_stopped w plan c.parts-round.result c.args.self.now _ c.is_err-self-inside.result
       (subst (λ (h : Hosting). PaysRound w plan c.args.self.now c.parts-round.result h) (sym c.self-2.view_is) (c.parts-round.ensures.parts.pays w plan x));
+  rests = λ entries none.
+      subst (λ (h : Hosting). record h { stopped = c.is_err-self-inside.result } ≡ c.args.self.now) (sym c.self-2.view_is)
+      (round_rests c.parts-round.result c.args.self.now c.parts-round.new.self c.is_err-self-inside.result (ap (λ (h : Hosting). h.stopped) (sym c.self.view_is) ∙ c.if-self.false) c.is_err-self-inside.ensures.value (c.parts-round.ensures.parts.idle entries none));
 }
 
 pub returns-clause-did : goal.returns-clause-did

@@ -1,4 +1,4 @@
-use Rattle.std.proofs.Common.{arith, refl, sym, ◌∙◌}
+use Rattle.std.proofs.Common.{ap, arith, refl, sym, Ok, ◌∙◌}
 use Rattle.usb_host.specs.Bounds.{hub_poll_bound}
 use Rattle.usb_world.specs.Steps.{here}
 use Rattle.usb_host.proofs.Owners.{stays_then, stays_none}
@@ -6,6 +6,9 @@ use Rattle.usb_host.proofs.Parts.{hubs_fail}
 use Rattle.usb_host.proofs.RestingRounds.{ok_is, next_listed, calm_then, polled_then, polled_all}
 use Rattle.usb_host.specs.declared.host.Round.TheVariants.{Quiet}
 use Rattle.usb_host.proofs.Soundness.{part_none, part_then}
+use Rattle.usb_table.specs.Findings.{is_hub}
+use Rattle.usb_host.specs.declared.host.Round.{Round}
+use Rattle.usb_host.proofs.IdleRounds.{none_next}
 use Rattle.usb_host.proofs.Joins.{did_then, goes_none}
 use Rattle.usb_host.proofs.Ranks.{rank_goes, rank_within, rank_rises, rank_most, rank_after_most}
 use Rattle.usb_host.specs.Budget.{RoundPaid}
@@ -16,7 +19,7 @@ use Rattle.usb_enum.proofs.Interface.{went_sound}
 use Rattle.usb_host.proofs.host.Host.serve_hubs.Goals as goal
 
 pub hubs-init : goal.hubs-init
-hubs-init g c = record { goes = goes_none 0 _; did = refl; owned = stays_none _; sound = part_none _; calm = λ quiet still x. here _; polled = λ s quiet still taken hub first. absurd (first tt); polls = λ s still. no_hub _; pays = hubs_none _; path = tt }
+hubs-init g c = record { goes = goes_none 0 _; did = refl; owned = stays_none _; sound = part_none _; calm = λ quiet still x. here _; polled = λ s quiet still taken hub first. absurd (first tt); polls = λ s still. no_hub _; pays = hubs_none _; idle = λ none. (refl, refl); path = tt }
 
 pub returns-in_err-serve_hub-clause-goes : goal.returns-in_err-serve_hub-clause-goes
 returns-in_err-serve_hub-clause-goes g c =
@@ -46,6 +49,7 @@ hubs-preserved g c = record {
       (c.in_ok-serve_hub.ensures.polls.polls.polled (c.hubs.invariant.sound.sound.sound s) still));
   pays = rw c.and-round.ensures (hubs_next _ _ c.hubs.last c.in-Some.hub c.hubs.round c.args.self.now c.hubs.self c.serve_hub.new.self c.hubs.invariant.goes.went c.serve_hub.ensures.goes.went c.hubs.invariant.sound c.hubs.invariant.pays c.in_ok-serve_hub.field-0
       (rank_before c.hubs.last c.in-Some.hub c.hubs.invariant.path c.serve_hub.ensures.path c.in-Some.ensures.some.stands.after) c.in_ok-serve_hub.ensures.polls.pays);
+  idle = λ none. absurd (none_next is_hub c.hubs.last c.args.self.now c.hubs.self c.in-Some.hub (c.hubs.invariant.idle none).1 none c.in-Some.ensures.some);
   path = c.serve_hub.ensures.path;
 }
 
@@ -68,6 +72,7 @@ pub returns-clause-polls : goal.returns-clause-polls
 returns-clause-polls g c = record {
   polls = λ s still. record { last = c.hubs.last; polled = c.hubs.invariant.polls s still; all = c.in_default.ensures.none };
   pays = hubs_all c.hubs.last c.hubs.round c.args.self.now c.hubs.self c.hubs.invariant.pays;
+  idle = λ none. let x = c.hubs.invariant.idle none in (ap (λ (r : Round). Ok r) x.0, x.1);
 }
 
 pub returns-in_err-serve_hub-clause-polls : goal.returns-in_err-serve_hub-clause-polls
@@ -75,4 +80,5 @@ returns-in_err-serve_hub-clause-polls g c = record {
   polls = on_err c.from_residual.result _ c.from_residual.ensures.0;
   pays = hubs_failed _ _ c.hubs.last c.in-Some.hub c.hubs.round c.args.self.now c.hubs.self c.serve_hub.new.self c.hubs.invariant.goes.went c.serve_hub.ensures.goes.went c.hubs.invariant.sound c.hubs.invariant.pays c.serve_hub.result c.serve_hub.ensures.polls.pays
       c.from_residual.result RoundPaid c.from_residual.ensures.0;
+  idle = λ none. absurd (none_next is_hub c.hubs.last c.args.self.now c.hubs.self c.in-Some.hub (c.hubs.invariant.idle none).1 none c.in-Some.ensures.some);
 }

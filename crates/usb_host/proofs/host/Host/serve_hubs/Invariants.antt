@@ -1,5 +1,5 @@
 use Rattle.std.proofs.Common.{◌≡◌, ◌-◌, ◌*◌, None}
-use Rattle.std.specs.Prelude.{IfSome}
+use Rattle.std.specs.Prelude.{[], IfSome}
 use Rattle.usb_port.specs.Path.{IsPath}
 use Rattle.usb_hub.specs.Requests.{AllRest}
 use Rattle.usb_host.specs.Bounds.{hub_poll_bound}
@@ -23,6 +23,7 @@ invariant-hubs g l = record {
   polled : IsSound l.initial.self → l.round ≡ Quiet → l.self.world.fault ≡ None → l.self.world.taken ≡ l.initial.self.world.taken → Polled l.last l.self;
   polls : IsSound l.initial.self → l.self.world.fault ≡ None → HubsPolled l.last l.round l.initial.self l.self;
   pays : HubsSoFar l.last l.round l.initial.self l.self;
+  idle : l.initial.self.entries ≡ [] → (l.round ≡ Quiet) × (l.self ≡ l.initial.self);
   path : IfSome l.last IsPath;
 }
 

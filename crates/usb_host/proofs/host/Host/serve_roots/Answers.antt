@@ -1,6 +1,7 @@
-use Rattle.std.proofs.Common.{◌≡◌, ◌∙◌, ◌+◌, subst, sym, ap, arith, below_more, refl, ℕ, ◌≤◌, false}
+use Rattle.std.proofs.Common.{◌≡◌, ◌∙◌, ◌+◌, subst, sym, ap, arith, below_more, refl, ℕ, ◌≤◌, false, Ok}
 use Rattle.usb_world.specs.World.{root_port_at, roots_of}
 use Rattle.usb_host.specs.Hosting.{Hosting}
+use Rattle.usb_host.proofs.IdleRounds.{none_shows}
 use Rattle.usb_host.proofs.Joins.{goes_none, goes_then, goes_wider, worked_after}
 use Rattle.usb_host.proofs.Owners.{stays_none, stays_then}
 use Rattle.usb_host.proofs.Parts.{part_fails}
@@ -15,7 +16,7 @@ use Rattle.usb_host.proofs.host.Host.serve_roots.Goals as goal
 use Rattle.usb_host.proofs.host.Host.serve_roots.Goals.{then-has_changed+in_ok-handle_root, else-has_changed}
 
 pub ports-init : goal.ports-init
-ports-init g c = record { goes = goes_none 0 _; did = refl; owned = stays_none _; sound = part_none _; same = λ _. refl; unchanged = λ _ n least below. absurd (omega (arith, least, below)); served = λ o. no_root _; pays = roots_none _ }
+ports-init g c = record { goes = goes_none 0 _; did = refl; owned = stays_none _; sound = part_none _; same = λ _. refl; unchanged = λ _ n least below. absurd (omega (arith, least, below)); served = λ o. no_root _; pays = roots_none _; idle = λ none. refl }
 
 pub returns-in_err-handle_root-clause-goes : goal.returns-in_err-handle_root-clause-goes
 returns-in_err-handle_root-clause-goes g c = goes_then _ _ _ _ _ _ c.ports.invariant.goes c.handle_root.ensures.goes (omega (arith, c.ports.auto.number, c.ports-test.true, c.root_ports-roots.ensures.most))
@@ -33,6 +34,7 @@ ports-preserved g c = elim c.if-has_changed.branch [
     pays = roots_next _ _ c.ports.round c.ports.number c.args.self.now c.ports.self w.handle_root.new.self c.ports.invariant.goes.went w.handle_root.ensures.goes.went c.ports.invariant.sound c.ports.invariant.pays w.in_ok-handle_root.field-0
         (root_shows c.ports.self.world c.ports.number (omega (arith, c.ports.auto.number)) (omega (arith, c.ports-test.true, c.root_ports-roots.ensures.count, c.ports.invariant.goes.went.spends.roots, ap (λ (h : Hosting). roots_of h.world) c.self.view_is)) (sym c.has_changed.ensures ∙ w.if-has_changed.true))
         w.in_ok-handle_root.ensures.handles.pays;
+    idle = λ none. absurd (none_shows c.args.self.now c.ports.self c.ports.number (c.ports.invariant.same (c.ports.invariant.idle none)) none (sym c.has_changed.ensures ∙ w.if-has_changed.true));
   })
   | else-has_changed w ↦ rw (w.self-is, w.round-is) (record {
     goes = goes_wider _ _ _ _ c.ports.invariant.goes (omega (arith, c.ports.auto.number));
@@ -46,6 +48,7 @@ ports-preserved g c = elim c.if-has_changed.branch [
         below_more P c.ports.number (λ k lt first. c.ports.invariant.unchanged quiet k first lt) (λ _. here) n below least;
     served = λ o. root_steady c.ports.number c.ports.round (c.ports.invariant.served o) (sym c.has_changed.ensures ∙ w.if-has_changed.false);
     pays = c.ports.invariant.pays;
+    idle = c.ports.invariant.idle;
   })
 ]
 
@@ -65,6 +68,7 @@ returns-clause-roots g c =
         served = λ o. subst (λ n. RootsServed n c.ports.round c.args.self.now c.ports.self) end (c.ports.invariant.served o);
       };
       pays = record { stops = c.ports.invariant.pays.stops; pays = c.ports.invariant.pays.pays };
+      idle = λ none. let quiet = c.ports.invariant.idle none in (ap (λ (r : Round). Ok r) quiet, c.ports.invariant.same quiet);
     }
 
 pub returns-in_err-handle_root-clause-roots : goal.returns-in_err-handle_root-clause-roots
@@ -72,6 +76,7 @@ returns-in_err-handle_root-clause-roots g c = record {
   serves = on_err c.from_residual.result (λ (round : Round). ServesRoots round c.args.self.now c.handle_root.new.self) c.from_residual.ensures.0;
   pays = roots_failed _ _ c.ports.round c.ports.number c.args.self.now c.ports.self c.handle_root.new.self c.ports.invariant.goes.went c.handle_root.ensures.goes.went c.ports.invariant.sound c.ports.invariant.pays c.handle_root.result c.handle_root.ensures.handles.pays
       c.from_residual.result RootsPaid c.from_residual.ensures.0;
+  idle = λ none. absurd (none_shows c.args.self.now c.ports.self c.ports.number (c.ports.invariant.same (c.ports.invariant.idle none)) none (sym c.has_changed.ensures ∙ c.if-has_changed.true));
 }
 
 pub returns-in_err-handle_root-clause-keeps : goal.returns-in_err-handle_root-clause-keeps

@@ -1,6 +1,6 @@
 use Rattle.std.proofs.Common.{◌≡◌, ◌-◌, ◌*◌, ◌<◌}
 use Rattle.std.specs.Prelude.{ℕ, ◌≤◌, false}
-use Rattle.usb_world.specs.World.{root_port_at}
+use Rattle.usb_world.specs.World.{changes, root_port_at, root_row}
 use Rattle.usb_host.specs.Bounds.{handling_bound}
 use Rattle.usb_host.specs.Ownership.{IsOwned, StaysOwned}
 use Rattle.usb_host.specs.Progress.{HostGoes, Did}
@@ -20,4 +20,5 @@ invariant-ports g l = record {
   unchanged : l.round ≡ Quiet → (n : ℕ) → 1 ≤ n → n < l.number → (root_port_at l.initial.self.world n).connection_changed ≡ false;
   served : IsOwned l.initial.self → RootsServed l.number l.round l.initial.self l.self;
   pays : RootsSoFar l.round l.initial.self l.self;
+  idle : changes (root_row l.initial.self.world) ≡ 0 → l.round ≡ Quiet;
 }
