@@ -87,7 +87,7 @@ settles_leaves a b settles = record {
 
 -- An event that came, and none that was left
 
-came_stays : (h k : Hosting) (due : Option Due) → Comes h (Ok due) k → StaysSound h k
+pub came_stays : (h k : Hosting) (due : Option Due) → Comes h (Ok due) k → StaysSound h k
 came_stays h k due comes =
     let takes = comes.takes in
     sound_event h k comes.agrees (ap (λ (x : Hosting). x.entries) comes.rests) (ap (λ (x : Hosting). x.pipes) comes.rests) takes.exact

@@ -13,3 +13,10 @@ pub mod RoundEnds
 pub mod Transcripts
 pub mod Refused
 pub mod AskedItems
+pub mod Sums
+pub mod EventsLeft
+pub mod PlanWeights
+pub mod RunBounds
+pub mod Ledgers
+pub mod VoidRuns
+pub mod Enough

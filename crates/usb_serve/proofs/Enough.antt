@@ -1,0 +1,78 @@
+-- A plan of at most 127 plugs whose limit is its bound never comes to its limit.
+use Rattle.std.proofs.Common.{◌≡◌, ◌≢◌, ◌≤◌, ◌∙◌, ℕ, zero, suc, ◌+◌, refl, sym, subst, arith, inl, inr, List, length, Bool, false, Option, Result, Ok, Err}
+use Rattle.std.proofs.Math.Nat.{le_trans}
+use Rattle.std.specs.Prelude.{◌⊎◌, IfErr}
+use Rattle.std.specs.List.{sum_by}
+use Rattle.usb_world.specs.PlanData.{PlanData}
+use Rattle.usb_world.specs.World.{World}
+use Rattle.usb_host.specs.Budget.{Weights, event_weight}
+use Rattle.usb_host.specs.Plugs.{plug_events}
+use Rattle.usb_host.specs.Hosting.{Hosting}
+use Rattle.usb_plan.specs.Attempts.{bound_of, enough_for, greatest_total, moved}
+use Rattle.usb_serve.specs.declared.runs.Item.{Item}
+use Rattle.usb_serve.specs.declared.runs.Report.{Report}
+use Rattle.usb_serve.specs.declared.runs.RunFault.{RunFault}
+use Rattle.usb_serve.specs.declared.runs.RunFault.TheVariants.{LimitReached}
+use Rattle.usb_serve.specs.declared.serving.Mode.{Mode}
+use Rattle.usb_serve.specs.declared.serving.Mode.TheVariants.{Tree, Run}
+use Rattle.usb_serve.specs.declared.serving.ServeFault.{ServeFault}
+use Rattle.usb_serve.specs.declared.serving.ServeFault.TheVariants as serve
+use Rattle.usb_serve.specs.Run.{IsCaused}
+use Rattle.usb_serve.specs.ServedRuns.{EndsWell, IsWritten, Opens}
+use Rattle.usb_serve.specs.ServeResults.{IsCausedInRun, IsCausedInTree}
+use Rattle.usb_serve.specs.Transcript.{RunsTo, at_write, itself, never, of_run}
+use Rattle.usb_serve.proofs.Ledgers.{Paid, carries_paid, most_owed, opens_paid}
+use Rattle.usb_serve.proofs.PlanWeights.{bound_uncut, weights}
+use Rattle.usb_serve.proofs.RunBounds.{run_few}
+use Rattle.usb_serve.proofs.Sums.{none_enough, within_enough}
+use Rattle.usb_serve.proofs.VoidRuns.{Void, carries_void, opens_void}
+
+-- the attempts of a run, and two more
+run_enough : {A E : Type 0} (mode : Mode) (words : RunFault → E) (CutsAt : E → Type 0) (plan : PlanData) (before : Option (List ℕ)) (first last : Hosting) (items : List Item) (result : Result A E)
+    → plug_events plan.events ≤ 127 → Opens plan before first → RunsTo mode words CutsAt false first items result last
+    → last.world.attempts + 2 ≤ enough_for (length plan.events) (greatest_total plan.devices plan.events) (sum_by moved plan.events)
+run_enough mode words CutsAt plan before first last items result few opens ends = split (length plan.events) refl
+  where
+    c : Weights
+    c = weights plan
+
+    v : ℕ
+    v = length plan.events
+
+    w : ℕ
+    w = greatest_total plan.devices plan.events
+
+    m : ℕ
+    m = sum_by moved plan.events
+
+    split : (n : ℕ) → length plan.events ≡ n → last.world.attempts + 2 ≤ enough_for v w m
+    split zero e = none_enough v w m last.world.attempts
+        (run_few 0 Void Void (λ due h. ⊥) carries_void mode words CutsAt false first items result last ends (opens_void plan before first e opens))
+    split (suc n) e = within_enough v w m last.world.attempts (event_weight c) (omega (arith, e)) refl
+        (run_few (most_owed c plan + event_weight c) (Paid c plan c.polls) (Paid c plan 0) _ (carries_paid c plan) mode words CutsAt false first items result last ends (opens_paid plan few before first opens))
+
+not_limited : {A E : Type 0} (mode : Mode) (words : RunFault → E) (CutsAt : E → Type 0) (plan : PlanData) (before : Option (List ℕ)) (first last : Hosting) (items : List Item) (result : Result A E)
+    → plug_events plan.events ≤ 127 → bound_of plan ≤ plan.limit → Opens plan before first → RunsTo mode words CutsAt false first items result last → last.world.limit ≡ plan.limit
+    → IsCaused LimitReached last.world → ⊥
+not_limited mode words CutsAt plan before first last items result few below opens ends limit caused =
+    let within : last.world.attempts + 2 ≤ plan.limit = le_trans (run_enough mode words CutsAt plan before first last items result few opens ends) (bound_uncut plan opens.rules below) in
+    absurd (omega (arith, within, limit, caused.0))
+
+-- in `run`
+pub ends_enough : (plan : PlanData) (result : Result Report RunFault) → EndsWell plan result → plug_events plan.events ≤ 127 → bound_of plan ≤ plan.limit → result ≢ Err LimitReached
+ends_enough plan result (inl refused) few below is = cc (refused, is)
+ends_enough plan result (inr runs) few below is =
+    not_limited Tree itself never plan runs.before runs.first runs.last runs.finishes.items result few below runs.opens runs.finishes.ends runs.limit
+    (subst (λ (r : Result Report RunFault). IfErr r (λ fault. IsCaused fault runs.last.world)) is runs.finishes.caused)
+
+-- in both modes of `serve`
+pub written_enough : (mode : Mode) (plan : PlanData) (before now : Option (List ℕ)) (result : Result (Unit {0}) ServeFault) → IsWritten mode plan before result now
+    → plug_events plan.events ≤ 127 → bound_of plan ≤ plan.limit → result ≢ Err (serve.Run LimitReached)
+written_enough Tree plan before now result (inl none) few below is = cc (none.refused, is)
+written_enough Tree plan before now result (inr tree) few below is =
+    not_limited Tree of_run never plan tree.thrown tree.first tree.last tree.items result few below tree.opens tree.ends tree.limit
+    (subst (λ (r : Result (Unit {0}) ServeFault). IfErr r (λ fault. IsCausedInTree fault tree.last.world)) is tree.caused).1
+written_enough Run plan before now result (inl none) few below is = cc (none.refused, is)
+written_enough Run plan before now result (inr run) few below is =
+    not_limited Run of_run at_write plan before run.first run.last run.items result few below run.opens run.ends run.limit
+    (subst (λ (r : Result (Unit {0}) ServeFault). IfErr r (λ fault. IsCausedInRun fault run.last.world)) is run.caused)

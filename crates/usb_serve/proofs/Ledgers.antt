@@ -1,0 +1,367 @@
+-- What was left to do and the events pay for the attempts of a run, as each round pays for its own.
+use Rattle.std.proofs.Common.{◌≡◌, ◌≢◌, ◌≤◌, ◌<◌, ◌∙◌, ℕ, zero, suc, ◌+◌, ◌*◌, refl, sym, ap, subst, arith, List, [], ◌∷◌, length, take, get_or, Bool, true, false, Option, None, Some, Result, Ok, Err}
+use Rattle.std.specs.Prelude.{All}
+use Rattle.std.specs.List.{sum_by}
+use Rattle.std.proofs.lemmas.List.Sums.{sum_by-cons}
+use Rattle.usb_world.specs.declared.event.Action.{Action}
+use Rattle.usb_world.specs.declared.event.Action.TheVariants as action
+use Rattle.usb_world.specs.declared.event.Due.{Due}
+use Rattle.usb_world.specs.declared.event.Due.TheVariants.{Changed, Show, Send, Receive, Clear}
+use Rattle.usb_world.specs.declared.event.Event.{Event}
+use Rattle.usb_world.specs.declared.types.BusFault.{BusFault}
+use Rattle.usb_world.specs.PlanData.{PlanData, IsPlan}
+use Rattle.usb_world.specs.PlanCourses.{AtPorts}
+use Rattle.usb_world.specs.Steps.{AnyStep, Course, after, due_of, event, event_taken, opening, root_call, took, took_first}
+use Rattle.usb_world.specs.World.{World, to_come}
+use Rattle.usb_world.proofs.Interface.{course_joined}
+use Rattle.usb_backlog.specs.Marks.{KeepsAll, KeepsBy, looks_by, strays_by, unmarked}
+use Rattle.usb_backlog.proofs.Interface.{few-none, keeps-event}
+use Rattle.usb_bus.specs.Lines.{next_due}
+use Rattle.usb_bus.specs.Traces.{Traced, still, attempted, called}
+use Rattle.usb_transaction.specs.Transactions.{transaction_bound}
+use Rattle.usb_host.specs.declared.fault.HostFault.{HostFault}
+use Rattle.usb_host.specs.declared.host.Round.{Round}
+use Rattle.usb_host.specs.declared.host.Round.TheVariants.{Worked, Quiet}
+use Rattle.usb_host.specs.Backlog.{hubs}
+use Rattle.usb_host.specs.Bounds.{clear_bound}
+use Rattle.usb_host.specs.Budget.{Affords, Costs, PaysRound, RoundPaid, Weights, debt, event_weight, hub_weight, look_weight, stray_weight}
+use Rattle.usb_host.specs.Plugs.{HasPlugs, plug_events}
+use Rattle.usb_host.specs.Hosting.{Hosting, opening_host as host_opening}
+use Rattle.usb_host.specs.Soundness.{IsSound}
+use Rattle.usb_host.proofs.Interface.{plugs_opening, plugs_same}
+use Rattle.usb_plan.specs.Attempts.{moved, moved_in}
+use Rattle.usb_serve.specs.declared.runs.Item.{Item}
+use Rattle.usb_serve.specs.declared.runs.RunFault.{RunFault}
+use Rattle.usb_serve.specs.RunSegments.{Comes, EndsSettling, RoundTells}
+use Rattle.usb_serve.specs.ServedRuns.{Opens}
+use Rattle.usb_serve.specs.Transfers.{IsItemOf, StopsAt, TransferTells}
+use Rattle.usb_serve.proofs.EventsLeft.{moved_left, ports_left}
+use Rattle.usb_serve.proofs.KnowledgeKept.{came_stays}
+use Rattle.usb_serve.proofs.PlanWeights.{looks_by-opening, strays_by-opening, totals_within, weights}
+use Rattle.usb_serve.proofs.RunBounds.{Carries, Few}
+use Rattle.usb_serve.proofs.RunCourses.{AtWork, called_onward, comes_onward, traced_onward}
+use Rattle.usb_serve.proofs.RunParts.{Called, round_called}
+use Rattle.usb_serve.proofs.Sums.{debt_grown, grown_pays, moved_within, owed_after, owed_behind, owed_came, owed_due, owed_first, owed_moved, owed_settled, owed_worked, pays_costs, room_within, still_within, stopped_within}
+
+-- attempts that were made, what is enough for what is left to do, and what the events to come pay
+abbrev pub owed : Weights → Hosting → ℕ
+owed c h = h.world.attempts + debt c h + (event_weight c + c.polls) * to_come h.world + 1000 * sum_by moved h.world.left
+
+-- what all events pay, and the polls of the last round
+abbrev pub most_owed : Weights → PlanData → ℕ
+most_owed c plan = (event_weight c + c.polls) * length plan.events + 1000 * sum_by moved plan.events + c.polls
+
+-- attempts are few, whatever became of the bus; where it is at work, so many more may be made
+pub record Paid (c : Weights) (plan : PlanData) (room : ℕ) (h : Hosting) : Type 0 where
+  pub few : Few (most_owed c plan + event_weight c) h
+  pub affords : h.world.fault ≡ None → Affords c plan h
+  pub owes : h.world.fault ≡ None → owed c h + room ≤ most_owed c plan
+
+-- Faults
+
+-- behind a fault no attempt is made
+pub still_traced : {w : World} {t : Option (List ℕ)} {v : World} {s : Option (List ℕ)} → Traced w t v s → (fault : BusFault) → w.fault ≡ Some fault → (v.attempts ≡ w.attempts) × (v.fault ≡ Some fault)
+unfolding after
+still_traced still fault e = (refl, e)
+still_traced (attempted {w = m} {v = v} a result fits before made) fault e =
+    let so_far = still_traced before fault e in
+    let same : v ≡ m = (made.counts.again fault so_far.1).1 in
+    (ap (λ (x : World). x.attempts) same ∙ so_far.0, ap (λ (x : World). x.fault) same ∙ so_far.1)
+still_traced (called c port before) fault e = still_traced before fault e
+
+few_called : {a b : Hosting} (most : ℕ) → Called a b → Few most a → (a.world.fault ≡ None → Few most b) → Few most b
+few_called {a} {b} most calls few working = split a.world.fault refl
+  where
+    split : (f : Option BusFault) → a.world.fault ≡ f → Few most b
+    split None e = working e
+    split (Some fault) e = subst (λ n. n ≤ most) (sym (still_traced calls.went.traced fault e).0) few
+
+-- What an event pays
+
+-- a clear, what is sent, and what is received
+abbrev pub room_of : Due → ℕ
+room_of Changed = 0
+room_of Show = 0
+room_of (Send path bytes) = transaction_bound * length bytes
+room_of (Receive path packets) = transaction_bound * packets
+room_of (Clear path) = clear_bound
+
+room_paid : (a : Action) → room_of (due_of a) ≤ 3200 + 1000 * moved_in a
+unfolding due_of
+room_paid (action.Plug path device) = omega arith
+room_paid (action.Unplug path) = omega arith
+room_paid action.Show = omega arith
+room_paid (action.Send path bytes) = omega arith
+room_paid (action.Receive path packets) = omega arith
+room_paid (action.Clear path) = omega arith
+
+room_moved : (e : Event) → room_of (due_of e.action) ≤ 3200 + 1000 * moved e
+unfolding moved
+room_moved e = room_paid e.action
+
+-- the first event to come asks for this
+record IsFirst (w : World) (due : Due) : Type 0 where
+  e : Event
+  events : List Event
+  left : w.left ≡ e ∷ events
+  asks : due_of e.action ≡ due
+
+first_due : (w : World) (due : Due) → Some due ≡ next_due w → IsFirst w due
+unfolding next_due
+first_due w due is = split w.left refl is
+  where
+    split : (l : List Event) → w.left ≡ l → Some due ≡ elim l [ [] ↦ None | e ∷ events ↦ Some (due_of e.action) ] → IsFirst w due
+    split [] same h = absurd (cc h)
+    split (e ∷ events) same h = record { e = e; events = events; left = same; asks = cc h }
+
+after_left : (w : World) (e : Event) (events : List Event) → w.fault ≡ None → w.left ≡ e ∷ events → (after event w).left ≡ events
+unfolding after took
+after_left w e events working same = ap (λ f. (event_taken f w).left) working ∙ ap (λ l. (took_first l w).left) same
+
+module _ (c : Weights) where
+  -- what one event adds, and what it pays beside that
+  abbrev added : ℕ
+  added = 7 * look_weight c + stray_weight c
+
+  abbrev beside : ℕ
+  beside = look_weight c + stray_weight c + 3200
+
+  event_is : event_weight c ≡ added + beside
+  event_is = omega arith
+
+  debt_kept : (a b : Hosting) → KeepsBy unmarked unmarked unmarked a.world b.world → b.entries ≡ a.entries → debt c b + added * a.world.taken ≤ debt c a + added * b.world.taken
+  debt_kept a b keeps same =
+      let fewer : hubs b.entries ≤ hubs a.entries = rw same (omega arith) in
+      debt_grown (look_weight c) (stray_weight c) (hub_weight c) (looks_by unmarked a.world.roots) (strays_by unmarked unmarked a.world.roots) (hubs a.entries)
+      (looks_by unmarked b.world.roots) (strays_by unmarked unmarked b.world.roots) (hubs b.entries) a.world.taken b.world.taken keeps.looks keeps.strays fewer
+
+  owed_on : (a b : Hosting) (k more : ℕ) → Course AnyStep a.world b.world → Costs c more a b → b.world.taken + to_come b.world ≡ a.world.taken + to_come a.world → to_come b.world + k ≤ to_come a.world
+      → owed c b + c.polls * k ≤ owed c a + more
+  owed_on a b k more course costs events fewer =
+      owed_after (event_weight c) c.polls a.world.attempts (debt c a) a.world.taken (to_come a.world) (sum_by moved a.world.left)
+      b.world.attempts (debt c b) b.world.taken (to_come b.world) (sum_by moved b.world.left) k more costs events fewer (moved_left a.world b.world course)
+
+module _ (c : Weights) (plan : PlanData) where
+  abbrev pub most : ℕ
+  most = most_owed c plan
+
+  abbrev pub all : ℕ
+  all = most_owed c plan + event_weight c
+
+  ports_at : (h : Hosting) → Affords c plan h → AtPorts h.world.left
+  ports_at h x = ports_left x.works.course x.works.paths
+
+  affords_on : (a b : Hosting) → Affords c plan a → AtWork a.world b.world → (IsSound a → IsSound b) → HasPlugs plan.events b → b.world.fault ≡ None → Affords c plan b
+  affords_on a b x on sound plugs none = record {
+    works = record {
+      sound = sound x.works.sound;
+      working = none;
+      is = x.works.is;
+      paths = x.works.paths;
+      course = course_joined x.works.course on.course;
+      within = x.works.within;
+      polls = x.works.polls;
+    };
+    few = x.few;
+    plugs = plugs;
+  }
+
+  paid_less : (h : Hosting) (r q : ℕ) → q ≤ r → Paid c plan r h → Paid c plan q h
+  paid_less h r q less x = record { few = x.few; affords = x.affords; owes = λ none. room_within (owed c h) q r most less (x.owes none) }
+
+  -- A round
+
+  round_few : (a b : Hosting) (room : ℕ) (result : Result Round HostFault) → Paid c plan room a → RoundTells a result b → Few all b
+  round_few a b room result x tells = few_called all (round_called tells) x.few (λ working.
+      stopped_within (event_weight c) c.polls a.world.attempts (debt c a) a.world.taken (to_come a.world) (sum_by moved a.world.left) b.world.attempts b.world.taken most room
+      (tells.keeps.pays c plan (x.affords working)).most (omega (arith, tells.went.spends.events)) (x.owes working))
+
+  module _ (a b : Hosting) (round : Round) (x : Paid c plan c.polls a) (tells : RoundTells a (Ok round) b) (none : b.world.fault ≡ None) where
+    round_work : AtWork a.world b.world
+    round_work = called_onward (round_called tells) none
+
+    round_paid : PaysRound c plan a (Ok round) b
+    round_paid = tells.keeps.pays c plan (x.affords round_work.sound)
+
+    round_affords : Affords c plan b
+    round_affords = affords_on a b (x.affords round_work.sound) round_work tells.keeps.sound.keeps.sound.sound (round_paid.plugs none) none
+
+    round_owed : (k more : ℕ) → Costs c more a b → to_come b.world + k ≤ to_come a.world → owed c b + c.polls * k ≤ owed c a + more
+    round_owed k more costs fewer = owed_on c a b k more round_work.course costs tells.went.spends.events fewer
+
+    -- no event is added
+    none_added : to_come b.world + 0 ≤ to_come a.world
+    none_added = omega (arith, tells.went.spends.events, tells.went.spends.onward)
+
+    event_came : (b.world.taken ≢ a.world.taken) → to_come b.world + 1 ≤ to_come a.world
+    event_came other = omega (arith, other, tells.went.spends.events, tells.went.spends.onward)
+
+    round_goes : (r : Round) → RoundPaid c r a b → (r ≡ Quiet → b.world.taken ≢ a.world.taken) → owed c b + c.polls ≤ most
+    round_goes Worked done came = owed_worked (owed c b) (owed c a) c.polls most
+        (round_owed 0 0 (pays_costs (b.world.attempts + debt c b) (event_weight c * a.world.taken) (a.world.attempts + debt c a + event_weight c * b.world.taken) done) none_added) (x.owes round_work.sound)
+    round_goes Quiet done came = owed_came (owed c b) (owed c a) c.polls most (round_owed 1 c.polls done (event_came (came refl))) (x.owes round_work.sound)
+
+    round_settles : round ≡ Quiet → owed c b + 0 ≤ most
+    round_settles quiet =
+        let done : RoundPaid c Quiet a b = subst (λ r. RoundPaid c r a b) quiet (round_paid.pays none) in
+        owed_settled (owed c b) (owed c a) c.polls most (round_owed 0 c.polls done none_added) (x.owes round_work.sound)
+
+  -- An event
+
+  module _ (a b : Hosting) (due : Due) (x : Paid c plan 0 a) (comes : Comes a (Ok (Some due)) b) where
+    came_work : AtWork a.world b.world
+    came_work = comes_onward comes comes.takes.took.ends.still
+
+    came_keeps : KeepsBy unmarked unmarked unmarked a.world b.world
+    came_keeps = subst (KeepsBy unmarked unmarked unmarked a.world) (sym comes.takes.exact) (keeps-event unmarked unmarked unmarked few-none a.world (ports_at a (x.affords came_work.sound)))
+
+    came_entries : b.entries ≡ a.entries
+    came_entries = ap (λ (h : Hosting). h.entries) comes.rests
+
+    came_affords : Affords c plan b
+    came_affords = affords_on a b (x.affords came_work.sound) came_work (came_stays a b (Some due) comes).sound
+        (plugs_same plan.events a b comes.takes.took.spends.onward came_entries (x.affords came_work.sound).plugs) comes.takes.took.ends.still
+
+    came_owed : owed c b + (c.polls + room_of due) ≤ most
+    came_owed =
+        let first : IsFirst a.world due = first_due a.world due comes.takes.asked in
+        let left : b.world.left ≡ first.events = ap (λ (w : World). w.left) comes.takes.exact ∙ after_left a.world first.e first.events came_work.sound first.left in
+        let fewer : to_come a.world ≡ to_come b.world + 1 = omega (arith, ap length first.left, ap length left) in
+        let less : sum_by moved a.world.left ≡ moved first.e + sum_by moved b.world.left = ap (sum_by moved) first.left ∙ (sum_by-cons moved first.e first.events ∙ ap (λ l. moved first.e + sum_by moved l) (sym left)) in
+        let fits : room_of due ≤ 3200 + 1000 * moved first.e = subst (λ d. room_of d ≤ 3200 + 1000 * moved first.e) first.asks (room_moved first.e) in
+        owed_due (owed c b) (owed c a) (look_weight c) (stray_weight c) c.polls (moved first.e) (room_of due) most
+        (owed_behind (event_weight c) (added c) (beside c) c.polls a.world.attempts (debt c a) a.world.taken (to_come a.world) (sum_by moved a.world.left)
+        b.world.attempts (debt c b) b.world.taken (to_come b.world) (sum_by moved b.world.left) (moved first.e)
+        (event_is c) comes.takes.took.spends.most (debt_kept c a b came_keeps came_entries) comes.takes.took.ends.one fewer less) fits (x.owes came_work.sound)
+
+    came_paid : Paid c plan (c.polls + room_of due) b
+    came_paid = record {
+      few = still_within b.world.attempts a.world.attempts all comes.takes.took.spends.most x.few;
+      affords = λ none. came_affords;
+      owes = λ none. came_owed;
+    }
+
+  -- A transfer
+
+  module _ {A : Type 0} (n : ℕ) {Did : Hosting → Result A HostFault → Hosting → Type 0} (a b : Hosting) (result : Result A HostFault) (x : Paid c plan (c.polls + n) a) (tells : TransferTells n Did a result b) where
+    transfer_calls : Called a b
+    transfer_calls = record { most = n; went = tells.went }
+
+    transfer_few : Few all b
+    transfer_few = few_called all transfer_calls x.few (λ working.
+        moved_within b.world.attempts a.world.attempts (debt c a) ((event_weight c + c.polls) * to_come a.world) (1000 * sum_by moved a.world.left) c.polls n most (event_weight c) tells.went.spends.most (x.owes working))
+
+    module _ (none : b.world.fault ≡ None) where
+      transfer_work : AtWork a.world b.world
+      transfer_work = called_onward transfer_calls none
+
+      transfer_keeps : KeepsBy unmarked unmarked unmarked a.world b.world
+      transfer_keeps = (tells.keeps.backlog none).all (ports_at a (x.affords transfer_work.sound)) unmarked unmarked unmarked few-none
+
+      transfer_affords : Affords c plan b
+      transfer_affords = affords_on a b (x.affords transfer_work.sound) transfer_work tells.keeps.sound.sound
+          (plugs_same plan.events a b tells.went.spends.onward tells.stopped.kept (x.affords transfer_work.sound).plugs) none
+
+      transfer_owed : owed c b + c.polls ≤ most
+      transfer_owed =
+          let fewer : to_come b.world + 0 ≤ to_come a.world = omega (arith, tells.went.spends.events, tells.went.spends.onward) in
+          let costs : Costs c n a b = grown_pays (event_weight c) (added c) (beside c) a.world.attempts (debt c a) a.world.taken b.world.attempts (debt c b) b.world.taken n
+          (event_is c) tells.went.spends.most (debt_kept c a b transfer_keeps tells.stopped.kept) tells.went.spends.onward in
+          owed_moved (owed c b) (owed c a) c.polls n most (owed_on c a b 0 n transfer_work.course costs tells.went.spends.events fewer) (x.owes transfer_work.sound)
+
+    transfer_paid : Paid c plan c.polls b
+    transfer_paid = record { few = transfer_few; affords = transfer_affords; owes = transfer_owed }
+
+  item_paid : (a b : Hosting) (due : Due) (item : Option Item) → Paid c plan (c.polls + room_of due) a → IsItemOf due item a b → Paid c plan c.polls b
+  item_paid a b Changed item x is = subst (Paid c plan c.polls) (sym is.1) (paid_less a (c.polls + 0) c.polls (omega arith) x)
+  item_paid a b Show item x is = subst (Paid c plan c.polls) (sym is.1) (paid_less a (c.polls + 0) c.polls (omega arith) x)
+  item_paid a b (Send path bytes) item x is = transfer_paid (transaction_bound * length bytes) a b is.2.answer x is.2.call
+  item_paid a b (Receive path packets) item x is = transfer_paid (transaction_bound * packets) a b is.2.answer x is.2.call
+  item_paid a b (Clear path) item x is = transfer_paid clear_bound a b is.2.answer x is.2.call
+
+  stop_few : (a b : Hosting) (due : Due) (fault : RunFault) → Paid c plan (c.polls + room_of due) a → StopsAt due fault a b → Few all b
+  stop_few a b Changed fault x stops = absurd stops
+  stop_few a b Show fault x stops = subst (Few all) (sym stops.1) x.few
+  stop_few a b (Send path bytes) fault x stops = transfer_few (transaction_bound * length bytes) a b stops.answer x stops.call
+  stop_few a b (Receive path packets) fault x stops = transfer_few (transaction_bound * packets) a b stops.answer x stops.call
+  stop_few a b (Clear path) fault x stops = transfer_few clear_bound a b stops.answer x stops.call
+
+  -- The trace
+
+  written_paid : (a : Hosting) (trace : Option (List ℕ)) → Paid c plan c.polls a → Paid c plan c.polls (record a { trace = trace })
+  written_paid a trace x = record { few = x.few; affords = λ none. so (x.affords none); owes = x.owes }
+    where
+      so : Affords c plan a → Affords c plan (record a { trace = trace })
+      so y =
+          let s = y.works.sound in
+          record {
+            works = record {
+              sound = record { owned = s.owned; rooted = s.rooted; order = s.order; known = s.known; truthful = s.truthful; level = s.level };
+              working = y.works.working;
+              is = y.works.is;
+              paths = y.works.paths;
+              course = y.works.course;
+              within = y.works.within;
+              polls = y.works.polls;
+            };
+            few = y.few;
+            plugs = record { each = y.plugs.each; none_waits = y.plugs.none_waits };
+          }
+
+  -- A run
+
+  pub carries_paid : Carries all (Paid c plan c.polls) (Paid c plan 0) (λ due. Paid c plan (c.polls + room_of due))
+  carries_paid = record {
+    few = λ a x. x.few;
+    goes = λ a b round x tells goes. record {
+      few = round_few a b c.polls (Ok round) x tells;
+      affords = round_affords a b round x tells;
+      owes = λ none. round_goes a b round x tells none round ((round_paid a b round x tells none).pays none) (λ quiet same. goes (record { quiet = quiet; none = same }));
+    };
+    settles = λ a b round x tells ends. record {
+      few = round_few a b c.polls (Ok round) x tells;
+      affords = round_affords a b round x tells;
+      owes = λ none. round_settles a b round x tells none ends.quiet;
+    };
+    fails = λ a b why x tells. round_few a b c.polls (Err why) x tells;
+    comes = λ a b due x comes. came_paid a b due x comes;
+    ends = λ a b result x comes. still_within b.world.attempts a.world.attempts all comes.takes.took.spends.most x.few;
+    answers = λ a b due item x is. item_paid a b due item x is;
+    stops = λ a b due fault x stops. stop_few a b due fault x stops;
+    writes = λ a trace x. written_paid a trace x;
+  }
+
+-- A run begins
+
+module _ (plan : PlanData) (few : plug_events plan.events ≤ 127) (before : Option (List ℕ)) where
+  abbrev first : Hosting
+  first = host_opening (opening plan) before
+
+  first_affords : IsSound first → IsPlan plan → AtPorts plan.events → Course AnyStep (opening plan) first.world → Affords (weights plan) plan first
+  first_affords sound is paths course = record {
+    works = record {
+      sound = sound;
+      working = refl;
+      is = is;
+      paths = paths;
+      course = course;
+      within = totals_within (weights plan).most plan.devices plan.events (omega arith);
+      polls = refl;
+    };
+    few = few;
+    plugs = plugs_opening plan.events first refl;
+  }
+
+  first_owed : owed (weights plan) first + (weights plan).polls ≤ most_owed (weights plan) plan
+  first_owed =
+      let c = weights plan in
+      owed_first (look_weight c) (stray_weight c) (hub_weight c) (looks_by unmarked first.world.roots) (strays_by unmarked unmarked first.world.roots) (hubs first.entries)
+      ((event_weight c + c.polls) * length plan.events) (1000 * sum_by moved plan.events) c.polls (looks_by-opening unmarked plan.roots) (strays_by-opening unmarked unmarked (λ i. refl) (λ i. refl) plan.roots) refl
+
+  pub opens_paid : (h : Hosting) → Opens plan before h → Paid (weights plan) plan (weights plan).polls h
+  opens_paid h opens = subst (Paid (weights plan) plan (weights plan).polls) (sym opens.is) (record {
+    few = omega arith;
+    affords = λ none. first_affords (subst IsSound opens.is opens.sound) opens.rules opens.paths
+        (traced_onward (subst (λ (k : Hosting). Traced (opening plan) before k.world k.trace) opens.is opens.traced) refl).course;
+    owes = λ none. first_owed;
+  })
