@@ -88,7 +88,7 @@ pub no_text_fault : (mode : Mode) (t : List ℕ) (plan : PlanData) (fault : Plan
 no_text_fault mode t plan fault before now utf8 good other (unread f is why same) =
     let no = subst (IsUnread (Some t)) (same_fault (serve.Plan fault) f is) why in
     cc (good, no.spelled utf8 other)
-no_text_fault mode t plan fault before now utf8 good other (of_plan p spelled of_run written) = of_run
+no_text_fault mode t plan fault before now utf8 good other (of_plan p spelled of_run written enough) = of_run
 
 -- no trace fails where none is made
 pub no_tree_trace : (plan : PlanData) (before now : Option (List ℕ)) → IsWritten Tree plan before (Err (serve.Run TraceFailed)) now → ⊥

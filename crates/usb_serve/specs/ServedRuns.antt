@@ -1,5 +1,5 @@
 -- Where a plan's run ends, and what serving a plan wrote of it.
-use Rattle.std.specs.Prelude.{◌≡◌, ◌≢◌, ⊤, ◌⊎◌, ℕ, List, ◌++◌, reverse, Option, Bool, true, false, Result, Ok, Err, IfOk, IfErr, IfSome, IsUtf8}
+use Rattle.std.specs.Prelude.{◌≡◌, ◌≢◌, ◌≤◌, ⊤, ◌⊎◌, ℕ, List, ◌++◌, reverse, Option, Bool, true, false, Result, Ok, Err, IfOk, IfErr, IfSome, IsUtf8}
 use Rattle.std.specs.Io.KnownBytes.{Appends}
 use Rattle.usb_world.specs.PlanData.{PlanData, IsPlan}
 use Rattle.usb_world.specs.PlanCourses.{AtPorts}
@@ -9,6 +9,7 @@ use Rattle.usb_bus.specs.Traces.{Traced}
 use Rattle.usb_bus.specs.Watch.{AppendsFront}
 use Rattle.usb_host.specs.Hosting.{Hosting, opening_host as host_opening}
 use Rattle.usb_host.specs.Soundness.{IsSound}
+use Rattle.usb_host.specs.Plugs.{plug_events}
 use Rattle.usb_plan.specs.declared.fault.PlanFault.{PlanFault}
 use Rattle.usb_plan.specs.declared.fault.PlanFault.TheVariants as plan
 use Rattle.usb_plan.specs.Attempts.{bound_of}
@@ -16,7 +17,7 @@ use Rattle.usb_plan.specs.Plan.{spelled_plan}
 use Rattle.usb_serve.specs.declared.runs.Item.{Item}
 use Rattle.usb_serve.specs.declared.runs.Report.{Report}
 use Rattle.usb_serve.specs.declared.runs.RunFault.{RunFault}
-use Rattle.usb_serve.specs.declared.runs.RunFault.TheVariants.{Memory, TraceFailed}
+use Rattle.usb_serve.specs.declared.runs.RunFault.TheVariants.{LimitReached, Memory, TraceFailed}
 use Rattle.usb_serve.specs.declared.serving.Mode.{Mode}
 use Rattle.usb_serve.specs.declared.serving.Mode.TheVariants.{Tree, Run}
 use Rattle.usb_serve.specs.declared.serving.ServeFault.{ServeFault}
@@ -125,7 +126,12 @@ IsUnread text (serve.Run fault) = ⊥
 IsUnread text serve.Write = ⊥
 IsUnread text serve.Memory = ⊤
 
+-- a plan of at most 127 plugs whose limit is its bound never comes to its limit
+abbrev pub NeverAtLimit : PlanData → Result (Unit {0}) ServeFault → Type 0
+NeverAtLimit plan result = plug_events plan.events ≤ 127 → bound_of plan ≤ plan.limit → result ≢ Err (serve.Run LimitReached)
+
 -- what serving a text wrote: nothing, where no plan was read; else what the mode asks for, of a run of the plan that the text spells, and then no fault is the text's or the reader's
 pub data IsServed (mode : Mode) (text before : Option (List ℕ)) (result : Result (Unit {0}) ServeFault) (now : Option (List ℕ)) : Type 0 where
   unread : (fault : ServeFault) → result ≡ Err fault → IsUnread text fault → now ≡ before → IsServed mode text before result now
-  of_plan : (plan : PlanData) → IfSome text (λ t. spelled_plan t ≡ Ok plan) → IsOfRun result → IsWritten mode plan before result now → IsServed mode text before result now
+  of_plan : (plan : PlanData) → IfSome text (λ t. spelled_plan t ≡ Ok plan) → IsOfRun result → IsWritten mode plan before result now → NeverAtLimit plan result
+      → IsServed mode text before result now

@@ -8,8 +8,10 @@ ghost use Rattle.usb_bus.specs.Sim.{world_of, trace_of};
 ghost use Rattle.std.specs.Io.KnownBytes.{Appends};
 ghost use Rattle.usb_bus.specs.Watch.{inner_of, has_failed, tells_failure, AppendsFront};
 ghost use Rattle.usb_world.specs.Steps.{PutLine, opening};
+ghost use Rattle.usb_host.specs.Plugs.{plug_events};
 ghost use Rattle.usb_host.specs.Progress.{Rests};
 ghost use Rattle.usb_host.specs.Ownership.{Owning};
+ghost use Rattle.usb_plan.specs.Attempts.{bound_of};
 ghost use Rattle.usb_serve.specs.declared.runs.RunFault.TheVariants.{Memory as NoMemory};
 ghost use Rattle.usb_serve.specs.Moments.{ListsPlugged};
 ghost use Rattle.usb_serve.specs.RunSegments.{Knowing, Knows, LeavesSettled, OneRound, Settling};
@@ -155,6 +157,9 @@ pub fn run(alloc: Global, plan: &Plan) -> Result<Report, RunFault>
     // Where no three attempts running are damaged, and no address was lost three times running,
     // each listing is what is plugged when it is made.
     ensures listings { AtMostTwoRunning plan.now.damages → IfOk result (ListsPlugged plan.now) }
+    // A plan of at most 127 plugs whose limit is its bound never comes to its limit.
+    ensures enough { plug_events plan.now.events ≤ 127 → bound_of plan.now ≤ plan.now.limit
+        → result ≢ Err RunFault.LimitReached }
 {
     let mut runner = match Runner::untraced(alloc, plan) {
         Ok(runner) => runner,

@@ -95,7 +95,7 @@ impl From<WriteFailed> for ServeFault {
 /// of each listing and transfer behind the attempts that it took. In mode Tree it is the lines of the listings and
 /// transfers of a run, and the plan's bound behind them. Where the run ended early it is all that the run made so far,
 /// with no bound; where the writer failed it is a front of that. At no attempt of the run did two devices that could be
-/// reached hold one address.
+/// reached hold one address. A plan of at most 127 plugs whose limit is its bound never comes to its limit.
 ///
 /// # Errors
 /// Read where the reader failed, TooLong for a text over the limit, Plan for a text that is no plan,

@@ -1,8 +1,10 @@
-use Rattle.std.proofs.Common.{◌≡◌, ◌≢◌, ◌∙◌, ap, inl, refl, subst, Some}
+use Rattle.std.proofs.Common.{◌≡◌, ◌≢◌, ◌∙◌, ap, inl, refl, subst, Some, Err}
 use Rattle.usb_world.specs.declared.types.BusFault.TheVariants as bus
 use Rattle.usb_world.specs.World.{World}
 use Rattle.usb_host.specs.Hosting.{Hosting}
+use Rattle.usb_serve.specs.declared.runs.RunFault.TheVariants.{Memory}
 use Rattle.usb_serve.proofs.Ends.{knows_opened}
+use Rattle.usb_serve.proofs.Enough.{ends_enough}
 use Rattle.usb_serve.proofs.ReportedItems.{ends_plugged, ends_untraced, reports_limit}
 use Rattle.usb_serve.proofs.runs.run.Goals as goal
 
@@ -24,3 +26,9 @@ returns-clause-limit c =
 
 pub returns-clause-listings : goal.returns-clause-listings
 returns-clause-listings c = ends_plugged c.args.plan.now c.finish-report.result (returns-clause-ends c)
+
+pub returns-in-Err-clause-enough : goal.returns-in-Err-clause-enough
+returns-in-Err-clause-enough c = ends_enough c.args.plan.now (Err Memory) (inl refl)
+
+pub returns-clause-enough : goal.returns-clause-enough
+returns-clause-enough c = ends_enough c.args.plan.now c.finish-report.result (returns-clause-ends c)

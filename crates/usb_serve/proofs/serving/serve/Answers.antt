@@ -1,6 +1,8 @@
 use Rattle.std.proofs.Common.{refl, sym, subst}
 use Rattle.usb_bus.specs.Watch.{inner_of}
+use Rattle.usb_serve.specs.declared.serving.Mode.TheVariants.{Tree, Run}
 use Rattle.usb_serve.specs.ServedRuns.{IsWritten, of_plan, unread}
+use Rattle.usb_serve.proofs.Enough.{written_enough}
 use Rattle.usb_serve.proofs.serving.serve.Goals as goal
 
 pub returns-in-Err-clause-served : goal.returns-in-Err-clause-served
@@ -11,12 +13,14 @@ returns-in-Tree-clause-served g c =
     let before = g.W.Write.contents (inner_of c.args.writer) in
     let now = g.W.Write.contents (inner_of c.serve_tree.result.1) in
     of_plan c.in-Ok.plan c.in-Ok.ensures.plan c.serve_tree.ensures.reader (subst (λ m. IsWritten m c.in-Ok.plan before c.serve_tree.result.0 now) (sym c.in-Tree.is) c.serve_tree.ensures.written)
+    (written_enough Tree c.in-Ok.plan before now c.serve_tree.result.0 c.serve_tree.ensures.written)
 
 pub returns-clause-served : goal.returns-clause-served
 returns-clause-served g c =
     let before = g.W.Write.contents (inner_of c.args.writer) in
     let now = g.W.Write.contents (inner_of c.serve_run.result.1) in
     of_plan c.in-Ok.plan c.in-Ok.ensures.plan c.serve_run.ensures.reader (subst (λ m. IsWritten m c.in-Ok.plan before c.serve_run.result.0 now) (sym c.in-Run.is) c.serve_run.ensures.written)
+    (written_enough Run c.in-Ok.plan before now c.serve_run.result.0 c.serve_run.ensures.written)
 
 pub returns-in-Tree-clause-writer : goal.returns-in-Tree-clause-writer
 returns-in-Tree-clause-writer g c = record {
