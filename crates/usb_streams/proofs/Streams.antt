@@ -1,5 +1,5 @@
 -- Over a stretch of a run transfers join end to end.
-use Rattle.std.proofs.Common.{◌≡◌, ◌⊎◌, inl, inr, ◌∙◌, refl, sym, ap, subst, true, ℕ, List, [], ◌∷◌, None, Some, Ok}
+use Rattle.std.proofs.Common.{◌≡◌, ◌⊎◌, inl, inr, ◌∙◌, refl, sym, ap, subst, true, ℕ, List, [], ◌∷◌, Option, None, Some, Ok}
 use Rattle.usb_device.specs.Rows.{State}
 use Rattle.usb_device.specs.Tree.{Spot, path_to, reach, reach_on, state_on}
 use Rattle.usb_device.specs.View.{state_there}
@@ -27,7 +27,7 @@ use Rattle.usb_serve.specs.Transcript.{AppendsText}
 use Rattle.usb_serve.specs.Transfers.{IsItemOf}
 use Rattle.usb_serve.proofs.KnowledgeKept.{came_running, came_still}
 use Rattle.usb_serve.proofs.RunCourses.{comes_onward}
-use Rattle.usb_streams.specs.Stretches.{LiesBetween, round, changed, wrote, Stretch, begun, further, more, Told}
+use Rattle.usb_streams.specs.Stretches.{LiesBetween, round, changed, last, wrote, Stretch, begun, further, more, Told}
 use Rattle.usb_streams.specs.Streams.{StartsAt, StoodAt, StoodOrFound, Streams, StreamsAt}
 use Rattle.usb_streams.proofs.Devices.{Moves, Stays, at_then, spares_stays, streams_move, streams_none, streams_stay}
 use Rattle.usb_streams.proofs.Items.{MovesAt, item_moves}
@@ -90,7 +90,7 @@ moved_stands path device told due item a b c stood moves =
 -- Parts
 
 -- an event that comes leaves each device
-came_stays : (due : Due) (a b : Hosting) → Comes a (Ok (Some due)) b → (path : List ℕ) (device : Accepted) → accepted_device_at path b.entries ≡ Some device → StayedAt path device a b
+came_stays : (due : Option Due) (a b : Hosting) → Comes a (Ok due) b → (path : List ℕ) (device : Accepted) → accepted_device_at path b.entries ≡ Some device → StayedAt path device a b
 came_stays due a b comes = (stay_event a b (ap (λ (h : Hosting). h.entries) comes.rests) (ap (λ (h : Hosting). h.pipes) comes.rests) comes.takes.exact).each
 
 -- and so does text that is written
@@ -116,7 +116,8 @@ between_bulk {a} {b} (round done tells) knows still path device at = pick ((tell
     pick : StayedAt path device a b ⊎ RenewedAt path device a b → StayedAt path device a b ⊎ ((done : Round) × RoundTells a (Ok done) b × RenewedAt path device a b)
     pick (inl stayed) = inl stayed
     pick (inr renewed) = inr (done, tells, renewed)
-between_bulk {a} {b} (changed comes) knows still path device at = inl (came_stays Changed a b comes path device at)
+between_bulk {a} {b} (changed comes) knows still path device at = inl (came_stays (Some Changed) a b comes path device at)
+between_bulk {a} {b} (last comes) knows still path device at = inl (came_stays None a b comes path device at)
 between_bulk {a} {b} (wrote text puts) knows still path device at = inl (wrote_stays text a b puts path device at)
 
 -- A stretch
@@ -168,7 +169,7 @@ module _ (path : List ℕ) (device : Accepted) where
       moves = item_moves path device mid new at (came_knows h mid (Some due) comes settled.knows) (came_still (Some due) h.world mid.world comes.takes.took.ends) (came_running h mid (Some due) comes ∙ settled.running) due item is
 
       stayed : StayedAt path device h mid
-      stayed = came_stays due h mid comes path device moves.listed
+      stayed = came_stays (Some due) h mid comes path device moves.listed
 
       on_to : (since : List Told) (from : Hosting) → StoodAt path device since from h → StoodAt path device (record { due = due; asked = mid; item = item } ∷ since) from new
       on_to since from stood = moved_stands path device since due item from mid new (stayed_stands path device since from h mid stood stayed) moves

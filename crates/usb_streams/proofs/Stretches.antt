@@ -1,5 +1,5 @@
 -- What a host knows over a stretch, and a run as a stretch.
-use Rattle.std.proofs.Common.{◌≡◌, refl, sym, ap, subst, Bool, false, ℕ, List, [], ◌∷◌, Option, Some, Result, Ok}
+use Rattle.std.proofs.Common.{◌≡◌, refl, sym, ap, subst, Bool, false, ℕ, List, [], ◌∷◌, Option, None, Some, Result, Ok}
 use Rattle.std.specs.Prelude.{is_some}
 use Rattle.usb_world.specs.declared.event.Due.{Due}
 use Rattle.usb_world.specs.declared.event.Due.TheVariants.{Changed, Show, Send, Receive, Clear}
@@ -11,13 +11,14 @@ use Rattle.usb_host.specs.Soundness.{StaysSound}
 use Rattle.usb_host.proofs.Interface.{sound_event, sound_none}
 use Rattle.usb_serve.specs.declared.runs.Item.{Item}
 use Rattle.usb_serve.specs.declared.serving.Mode.{Mode}
+use Rattle.usb_serve.specs.Run.{listing_of}
 use Rattle.usb_serve.specs.RunSegments.{Comes, Knows, Ran, idle, changed as ran_changed, Rounds, none, more as one_more, RoundTells, Settles}
-use Rattle.usb_serve.specs.Transcript.{AppendsText, Makes, asked, last, Transcript, begun as run_begun, told as run_told, shown}
+use Rattle.usb_serve.specs.Transcript.{AppendsText, Makes, asked, last as run_last, Transcript, begun as run_begun, told as run_told, shown}
 use Rattle.usb_serve.specs.Transfers.{IsItemOf, TransferTells}
 use Rattle.usb_serve.proofs.KnowledgeKept.{knows_then, puts_knows}
 use Rattle.usb_serve.proofs.RunCourses.{Onward, called_onward, comes_onward, puts_onward}
 use Rattle.usb_serve.proofs.RunParts.{item_called, round_called}
-use Rattle.usb_streams.specs.Stretches.{IsStretch, LiesBetween, round, changed, wrote, Stretch, begun, further, more, Told}
+use Rattle.usb_streams.specs.Stretches.{IsStretch, LiesBetween, round, changed, last, wrote, Stretch, begun, further, more, Told}
 
 -- A part
 
@@ -33,6 +34,7 @@ came_knows h k due comes s = knows_then h k (comes_onward comes) (came_stays h k
 pub between_onward : {a b : Hosting} → LiesBetween a b → Onward a.world b.world
 between_onward (round done tells) = called_onward (round_called tells)
 between_onward (changed comes) = comes_onward comes
+between_onward (last comes) = comes_onward comes
 between_onward (wrote text puts) = puts_onward puts
 
 pub round_knows : {a b : Hosting} {done : Round} → RoundTells a (Ok done) b → Knows a → Knows b
@@ -41,6 +43,7 @@ round_knows {a} {b} tells s = knows_then a b (called_onward (round_called tells)
 pub between_knows : {a b : Hosting} → LiesBetween a b → Knows a → Knows b
 between_knows (round done tells) s = round_knows tells s
 between_knows {a} {b} (changed comes) s = came_knows a b (Some Changed) comes s
+between_knows {a} {b} (last comes) s = came_knows a b None comes s
 between_knows (wrote text puts) s = puts_knows puts s
 
 transfer_stays : {A : Type 0} {most : ℕ} {Did : Hosting → Result A HostFault → Hosting → Type 0} {a b : Hosting} {result : Result A HostFault} → TransferTells most Did a result b → StaysSound a b
@@ -77,19 +80,25 @@ with_ran : {old a b : Hosting} {told : List Told} → Stretch old told a → Ran
 with_ran t idle = t
 with_ran t (ran_changed {h} {k} before arrives) = further (with_settling (with_ran t before) arrives.settles) (changed arrives.comes)
 
-with_item : {old h k new : Hosting} {items : List Item} {item : Item} {over : Bool} {text : List ℕ} → IsStretch items old h → Makes h item over k → over ≡ false → AppendsText text k new → IsStretch (item ∷ items) old new
-with_item {text = text} s (asked {item} {mid} {new = k} due reaches is right) goes_on puts =
+with_item : {old h k new : Hosting} {items : List Item} {item : Item} {over : Bool} {text : List ℕ} → IsStretch items false old h → Makes h item over k → AppendsText text k new → IsStretch (item ∷ items) over old new
+with_item {text = text} s (asked {item} {mid} {new = k} due reaches is right) puts =
     let arrives = reaches.arrives in
     record {
       told = record { due = due; asked = mid; item = item } ∷ s.told;
       stretch = further (more due item (with_settling (with_ran s.stretch reaches.ran) arrives.settles) arrives.settled arrives.comes is) (wrote text puts);
-      items_told = ap (λ l. item ∷ l) s.items_told;
+      made = ap (λ l. item ∷ l) s.made;
     }
-with_item s (last reaches settled) goes_on puts = absurd (cc goes_on)
+with_item {k = k} {text = text} s (run_last reaches settled) puts =
+    let arrives = reaches.arrives in
+    record {
+      told = s.told;
+      stretch = further (further (with_settling (with_ran s.stretch reaches.ran) arrives.settles) (last arrives.comes)) (wrote text puts);
+      made = (listing_of k, ap (λ l. listing_of k ∷ l) s.made);
+    }
 
-run_stretch : {mode : Mode} {was : Bool} {old : Hosting} {items : List Item} {over : Bool} {new : Hosting} → Transcript mode was old items over new → over ≡ false → IsStretch items old new
-run_stretch run_begun goes_on = record { told = []; stretch = begun; items_told = refl }
-run_stretch {mode = mode} (run_told {items} {item} t makes puts) goes_on = with_item {text = shown mode items item} (run_stretch t refl) makes goes_on puts
+run_stretch : {mode : Mode} {was : Bool} {old : Hosting} {items : List Item} {over : Bool} {new : Hosting} → Transcript mode was old items over new → was ≡ false → IsStretch items over old new
+run_stretch {old = old} run_begun at_work = subst (λ o. IsStretch [] o old old) (sym at_work) (record { told = []; stretch = begun; made = refl })
+run_stretch {mode = mode} (run_told {items} {item} t makes puts) at_work = with_item {text = shown mode items item} (run_stretch t at_work) makes puts
 
-pub run_is_stretch : (mode : Mode) (was : Bool) (old new : Hosting) (items : List Item) → Transcript mode was old items false new → IsStretch items old new
-run_is_stretch mode was old new items t = run_stretch t refl
+pub run_is_stretch : (mode : Mode) (old new : Hosting) (items : List Item) (over : Bool) → Transcript mode false old items over new → IsStretch items over old new
+run_is_stretch mode old new items over t = run_stretch t refl

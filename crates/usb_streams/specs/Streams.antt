@@ -123,7 +123,8 @@ pub record Streams (path : List ℕ) (told : List Told) (pipes left : Pipes) (s 
 
 -- so it is of the device that is reached at a path in the new world, which was reached there in the old one
 abbrev pub StreamsAt : List ℕ → (State → State → Type 0) → Hosting → Hosting → Type 0
-StreamsAt path So old new = (x : Spot) (v : State) → path ≡ path_to x → reach_on new.world.roots x ≡ true → state_on new.world.roots x ≡ Some v → Was (λ y s v. So s v) old.world x v
+StreamsAt path So old new = (x : Spot) (v : State) → path ≡ path_to x → reach_on new.world.roots x ≡ true → state_on new.world.roots x ≡ Some v
+    → Was (λ y s v. So s v) old.world x v
 
 -- the accepted device at a path stood there from the beginning of a stretch
 pub record StoodAt (path : List ℕ) (device : Accepted) (told : List Told) (old new : Hosting) : Type 0 where
@@ -132,7 +133,8 @@ pub record StoodAt (path : List ℕ) (device : Accepted) (told : List Told) (old
 
 -- the IN pipe to the device that is reached at a path has got as many bytes of its source as the device counts
 abbrev pub StartsAt : List ℕ → Hosting → Type 0
-StartsAt path h = (x : Spot) (s : State) (pipe : Bulk) → path ≡ path_to x → reach_on h.world.roots x ≡ true → state_on h.world.roots x ≡ Some s → pipe_in (pipes_at path (table_in h)) ≡ Some pipe → FitsSource pipe s.place s
+StartsAt path h = (x : Spot) (s : State) (pipe : Bulk) → path ≡ path_to x → reach_on h.world.roots x ≡ true → state_on h.world.roots x ≡ Some s
+    → pipe_in (pipes_at path (table_in h)) ≡ Some pipe → FitsSource pipe s.place s
 
 -- it was found anew in a round of the stretch, and stood there since
 pub record FoundAt (path : List ℕ) (device : Accepted) (told : List Told) (old new : Hosting) : Type 0 where

@@ -1,5 +1,5 @@
 -- Stretches of a run, with what was told in them.
-use Rattle.std.specs.Prelude.{◌≡◌, ℕ, Some, List, [], ◌∷◌, Ok, map}
+use Rattle.std.specs.Prelude.{◌≡◌, ℕ, Bool, true, false, None, Some, List, [], ◌∷◌, Ok, map}
 use Rattle.usb_world.specs.declared.event.Due.{Due}
 use Rattle.usb_world.specs.declared.event.Due.TheVariants.{Changed}
 use Rattle.usb_host.specs.declared.host.Round.{Round}
@@ -15,10 +15,11 @@ pub record Told : Type 0 where
   pub asked : Hosting
   pub item : Item
 
--- what lies between two items: a round, an event that asks nothing of the host, or text that is written
+-- what lies between two items: a round, an event that asks nothing of the host, that no event is left, or text that is written
 pub data LiesBetween (old : Hosting) : Hosting → Type 0 where
   round : {new : Hosting} (done : Round) → RoundTells old (Ok done) new → LiesBetween old new
   changed : {new : Hosting} → Comes old (Ok (Some Changed)) new → LiesBetween old new
+  last : {new : Hosting} → Comes old (Ok None) new → LiesBetween old new
   wrote : {new : Hosting} (text : List ℕ) → AppendsText text old new → LiesBetween old new
 
 -- a stretch of a run, from one of its hosts to a later one, with what was told in it, the newest first: to a host that had settled an event comes, and it
@@ -26,11 +27,16 @@ pub data LiesBetween (old : Hosting) : Hosting → Type 0 where
 pub data Stretch (old : Hosting) : List Told → Hosting → Type 0 where
   begun : Stretch old [] old
   further : {told : List Told} {h new : Hosting} → Stretch old told h → LiesBetween h new → Stretch old told new
-  more : {told : List Told} {h mid new : Hosting} (due : Due) (item : Item) → Stretch old told h → Settled h → Comes h (Ok (Some due)) mid → IsItemOf due (Some item) mid new
-      → Stretch old (record { due = due; asked = mid; item = item } ∷ told) new
+  more : {told : List Told} {h mid new : Hosting} (due : Due) (item : Item) → Stretch old told h → Settled h → Comes h (Ok (Some due)) mid
+      → IsItemOf due (Some item) mid new → Stretch old (record { due = due; asked = mid; item = item } ∷ told) new
+
+-- the items that events asked for, and behind them the last listing where the run is over
+abbrev pub AreMade : Bool → List Item → List Item → Type 0
+AreMade false asked items = items ≡ asked
+AreMade true asked items = (listing : Item) × (items ≡ listing ∷ asked)
 
 -- a run in which these items were made is a stretch
-pub record IsStretch (items : List Item) (old new : Hosting) : Type 0 where
+pub record IsStretch (items : List Item) (over : Bool) (old new : Hosting) : Type 0 where
   pub told : List Told
   pub stretch : Stretch old told new
-  pub items_told : map (λ (t : Told). t.item) told ≡ items
+  pub made : AreMade over (map (λ (t : Told). t.item) told) items

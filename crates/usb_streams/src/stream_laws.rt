@@ -12,11 +12,11 @@ ghost use Rattle.usb_serve.specs.Transcript.{Transcript};
 ghost use Rattle.usb_streams.specs.Streams.{StoodOrFound};
 ghost use Rattle.usb_streams.specs.Stretches.{IsStretch, Stretch, Told};
 
-/// Over any stretch of a run up to a host whose bus is at work, a device that is listed in the end stood at its path from
-/// the beginning, or since a round that found it anew. From there on its sink got, end to end, the bytes of the sends to it
-/// that are told done, with at most a front of a failed one behind them; and the receives from it that are told done handed
-/// back, end to end, the next bytes of its source, none twice and none left out: each as long as no halt of the endpoint is
-/// cleared.
+/// Over any stretch of a run up to a host whose bus is at work, a device that is listed in the end stood at its path
+/// from the beginning, or since a round that found it anew. From there on its sink got, end to end, the bytes of the
+/// sends to it that are told done, with at most a front of a failed one behind them; and the receives from it that are
+/// told done handed back, end to end, the next bytes of its source, none twice and none left out: each as long as no
+/// halt of the endpoint is cleared.
 pub fn transfers_join()
     ensures { (old new : Hosting) (told : List Told) → Stretch old told new → Knows old
         → new.world.fault ≡ None
@@ -24,8 +24,9 @@ pub fn transfers_join()
         → StoodOrFound path device told old new }
 {}
 
-/// A run that is not over is a stretch, in which its items are told.
+/// A run is a stretch, in which the items that events asked for are told; where it is over, its last listing stands behind
+/// them.
 pub fn runs_are_stretches()
-    ensures { (mode : Mode) (was : Bool) (old new : Hosting) (items : List Item)
-        → Transcript mode was old items false new → IsStretch items old new }
+    ensures { (mode : Mode) (old new : Hosting) (items : List Item) (over : Bool)
+        → Transcript mode false old items over new → IsStretch items over old new }
 {}
