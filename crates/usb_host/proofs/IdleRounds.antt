@@ -21,7 +21,7 @@ at_none [] (suc i) h = refl
 at_none (p ∷ ps) zero h = split p.connection_changed refl
   where
     split : (x : Bool) → p.connection_changed ≡ x → p.connection_changed ≡ false
-    split true e = absurd (omega (arith, h, ap (λ (x : Bool). if x then 1 else 0) e))
+    split true e = absurd (omega (arith, h, ap {B = ℕ} (λ (x : Bool). if x then 1 else 0) e))
     split false e = e
 at_none (p ∷ ps) (suc i) h = at_none ps i (omega (arith, h))
 
