@@ -7,7 +7,9 @@ use Rattle.usb_packet.specs.declared.Toggle.{Toggle}
 use Rattle.usb_packet.specs.declared.Toggle.TheVariants.{Zero, One}
 use Rattle.usb_packet.specs.declared.Packet.{Packet}
 use Rattle.usb_packet.specs.declared.Packet.TheVariants.{Token, Payload, Ack, Nak, Stall}
-use Rattle.usb_pcap.specs.Text.{bytes_on, number_in, strip}
+use Rattle.usb_world.specs.declared.wire.Mark.{Mark}
+use Rattle.usb_world.specs.declared.wire.Mark.TheVariants.{Whole, Lost, PreLost, Flipped}
+use Rattle.usb_pcap.specs.Text.{bytes_on, if_found, number_in, strip}
 
 -- an address and an endpoint, where they fit a token
 abbrev pub token_of : TokenKind → ℕ → ℕ × List ℕ → Option (Packet × List ℕ)
@@ -23,21 +25,33 @@ data_of toggle (byte ∷ bytes, rest) = Some (Payload toggle (record { items = b
 
 -- digits, or a dash for no data
 unfoldable pub data_in : Toggle → List ℕ → Option (Packet × List ℕ)
-data_in toggle text = elim (strip (codes "-") text) [ Some rest ↦ Some (Payload toggle (record { items = [] }), rest) | None ↦ option_and_then (data_of toggle) (bytes_on [] text) ]
+data_in toggle text =
+    if_found (strip (codes "-") text) (λ rest. Some (Payload toggle (record { items = [] }), rest))
+    (option_and_then (data_of toggle) (bytes_on [] text))
 
 -- ACK, NAK or STALL
 unfoldable pub handshake_in : List ℕ → Option (Packet × List ℕ)
 handshake_in text =
-    elim (strip (codes "ACK") text) [ Some rest ↦ Some (Ack, rest) | None ↦
-    elim (strip (codes "NAK") text) [ Some rest ↦ Some (Nak, rest) | None ↦
-    option_map (λ rest. (Stall, rest)) (strip (codes "STALL") text) ] ]
+    if_found (strip (codes "ACK") text) (λ rest. Some (Ack, rest))
+    (if_found (strip (codes "NAK") text) (λ rest. Some (Nak, rest))
+    (option_map (λ rest. (Stall, rest)) (strip (codes "STALL") text)))
 
 -- a token, a data packet or a handshake
 unfoldable pub packet_in : List ℕ → Option (Packet × List ℕ)
 packet_in text =
-    elim (strip (codes "SETUP ") text) [ Some rest ↦ token_in SetupTok rest | None ↦
-    elim (strip (codes "IN ") text) [ Some rest ↦ token_in InTok rest | None ↦
-    elim (strip (codes "OUT ") text) [ Some rest ↦ token_in OutTok rest | None ↦
-    elim (strip (codes "DATA0 ") text) [ Some rest ↦ data_in Zero rest | None ↦
-    elim (strip (codes "DATA1 ") text) [ Some rest ↦ data_in One rest | None ↦
-    handshake_in text ] ] ] ] ]
+    if_found (strip (codes "SETUP ") text) (token_in SetupTok)
+    (if_found (strip (codes "IN ") text) (token_in InTok)
+    (if_found (strip (codes "OUT ") text) (token_in OutTok)
+    (if_found (strip (codes "DATA0 ") text) (data_in Zero)
+    (if_found (strip (codes "DATA1 ") text) (data_in One) (handshake_in text)))))
+
+-- the number of a flipped bit
+unfoldable pub bit_in : List ℕ → Option (Mark × List ℕ)
+bit_in text = option_and_then (λ bit. if nat_lt bit.0 65536 then option_map (λ rest. (Flipped bit.0, rest)) (strip (codes "]") bit.1) else None) (number_in text)
+
+-- the mark behind a packet, none where damage did nothing to it
+unfoldable pub mark_in : List ℕ → Option (Mark × List ℕ)
+mark_in text =
+    if_found (strip (codes " [lost]") text) (λ rest. Some (Lost, rest))
+    (if_found (strip (codes " [pre lost]") text) (λ rest. Some (PreLost, rest))
+    (if_found (strip (codes " [bit ") text) bit_in (Some (Whole, text))))

@@ -9,6 +9,11 @@ strip [] text = Some text
 strip (c ∷ word) [] = None
 strip (c ∷ word) (d ∷ text) = if d == c then strip word text else None
 
+-- what is read of what was found, else another reading
+abbrev pub if_found : {A B : Type 0} → Option A → (A → Option B) → Option B → Option B
+if_found (Some x) read other = read x
+if_found None read other = other
+
 -- the value of the digits that a text begins with, behind those of a value; None where it is 2 ^ 64 or more
 unfoldable pub number_on : ℕ → List ℕ → Option ℕ
 number_on value [] = Some value

@@ -1,10 +1,11 @@
 //! Packets and marks as a trace prints them.
 ghost use Rattle.std.specs.Prelude.{◌≡◌, option_map};
-ghost use Rattle.usb_pcap.specs.Packet.{data_in, handshake_in, packet_in, token_in};
+ghost use Rattle.usb_pcap.specs.Packet.{bit_in, data_in, handshake_in, mark_in, packet_in, token_in};
 
 use crate::text::Text;
 use arrayvec::ArrayVec;
 use usb_packet::{Packet, Toggle, TokenKind};
+use usb_world::Mark;
 
 /// Reads a token, a data packet, ACK, NAK or STALL.
 #[tactic(auto, unfolding(crate::specs::Packet::packet_in))]
@@ -85,3 +86,31 @@ fn data_in(toggle: Toggle, text: &mut Text<'_>) -> Option<Packet>
     Some(Packet::Payload { toggle, bytes })
 }
 
+/// Reads the mark behind a packet.
+#[tactic(auto, unfolding(crate::specs::Packet::mark_in))]
+pub(crate) fn mark_in(text: &mut Text<'_>) -> Option<Mark>
+    ensures { mark_in text.old ≡ option_map (λ m. (m, text.new)) result }
+{
+    if text.skip(b" [lost]") {
+        return Some(Mark::Lost);
+    }
+    if text.skip(b" [pre lost]") {
+        return Some(Mark::PreLost);
+    }
+    if !text.skip(b" [bit ") {
+        return Some(Mark::Whole);
+    }
+    bit_in(text)
+}
+
+/// Reads the number of a flipped bit.
+#[tactic(auto, unfolding(crate::specs::Packet::bit_in))]
+fn bit_in(text: &mut Text<'_>) -> Option<Mark>
+    ensures { bit_in text.old ≡ option_map (λ m. (m, text.new)) result }
+{
+    let bit = text.number()?;
+    if bit >= 65536 || !text.skip(b"]") {
+        return None;
+    }
+    Some(Mark::Flipped(bit as u16))
+}
