@@ -1,2 +1,4 @@
 mod Texts
 mod Reading
+mod Packets
+mod Records

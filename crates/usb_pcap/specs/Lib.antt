@@ -1,3 +1,4 @@
 pub mod Text
 pub mod Packet
 pub mod Attempt
+pub mod Record

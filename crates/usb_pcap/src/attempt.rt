@@ -23,10 +23,16 @@ const NO_TIME: u64 = 4_294_967_296_000_000;
 
 /// The attempt that a line is of: its number, the token, the host's data behind SETUP and OUT, the answer, and maybe the
 /// host's ACK. None for any other line.
-#[tactic(auto, unfolding(crate::specs::Attempt::read_attempt))]
 pub fn read_attempt(line: &[u8]) -> Option<TracedAttempt>
     ensures exact { result ≡ read_attempt line.now }
     ensures found { IfSome result (λ a. IsLineOf line.now a) }
+{
+    attempt_of(line)
+}
+
+#[tactic(auto, unfolding(crate::specs::Attempt::read_attempt))]
+fn attempt_of(line: &[u8]) -> Option<TracedAttempt>
+    ensures { result ≡ read_attempt line.now }
 {
     let mut text = Text::new(line);
     let attempt = attempt_in(&mut text)?;

@@ -1,9 +1,9 @@
 //! Records of a pcap file: a packet's time and length, and its bytes.
-ghost use Rattle.std.specs.Prelude.{◌≡◌, ◌+◌, ◌*◌, ◌^◌, ◌<◌, ◌≤◌, ◌++◌, ◌∷◌, [], length, IfSome, OnSome};
+ghost use Rattle.std.specs.Prelude.{◌≡◌, ◌+◌, ◌*◌, ◌^◌, ◌<◌, ◌≤◌, ◌↔◌, ◌++◌, ◌∷◌, [], length, IfSome, IsSome, OnSome};
 ghost use Rattle.std.specs.Int.{to_le_bytes, w32};
 ghost use Rattle.usb_packet.specs.Spelling.{HasFields, flipped};
-ghost use Rattle.usb_pcap.specs.Attempt.{IsTraced};
-ghost use Rattle.usb_pcap.specs.Record.{AppendsRecords, AreRecords, HasBit, answer_packets, attempt_packets, damaged, header, host_packets, next_packets, own_mark, pre_mark};
+ghost use Rattle.usb_pcap.specs.Attempt.{IsAnswered, IsTraced};
+ghost use Rattle.usb_pcap.specs.Record.{AppendsRecords, AreRecords, HasBit, answer_packets, attempt_packets, damaged, host_packets, next_packets, own_mark, pre_mark, pre_packets, record_head};
 
 use crate::attempt::TracedAttempt;
 use arrayvec::ArrayVec;
@@ -19,26 +19,61 @@ pub(crate) const HEADER: [u8; 24] = [
 ];
 
 /// The records of an attempt's packets in their order; None where a mark names a bit that its packet has not.
-pub(crate) fn records_of(attempt: &TracedAttempt) -> Option<Records> {
-    let exchange = &attempt.exchange;
+pub(crate) fn records_of(attempt: &TracedAttempt) -> Option<Records>
+    requires { IsTraced attempt.now }
+    ensures { IfSome result (λ records. AreRecords attempt.now.number
+        (attempt_packets attempt.now.pre attempt.now.exchange) records.items) }
+{
+    let TracedAttempt {
+        number,
+        pre,
+        exchange,
+    } = attempt;
     let mut records = Records::new();
-    push_host(&mut records, attempt, &exchange.token)?;
-    push_next(&mut records, attempt, &exchange.payload)?;
-    push_answer(&mut records, attempt)?;
-    push_next(&mut records, attempt, &exchange.reply)?;
+    push_host(&mut records, *number, *pre, &exchange.token)?;
+    push_next(&mut records, *number, *pre, &exchange.payload)?;
+    push_answer(
+        &mut records,
+        *number,
+        &exchange.answer,
+        exchange.answer_mark,
+    )?;
+    push_next(&mut records, *number, *pre, &exchange.reply)?;
     Some(records)
 }
 
 /// A packet of the host, and PRE before it.
-fn push_host(records: &mut Records, attempt: &TracedAttempt, sent: &Outgoing) -> Option<()> {
-    if attempt.pre {
-        push_record(records, attempt.number, &Packet::Pre, pre_mark(sent.mark))?;
+fn push_host(records: &mut Records, number: u64, pre: bool, sent: &Outgoing) -> Option<()>
+    requires room { length records.old.items ≤ 415 }
+    requires timed { number < 2 ^ 32 * 1000000 }
+    requires fields { HasFields sent.now.packet }
+    ensures written { OnSome result (AppendsRecords number (host_packets pre sent.now)
+        records.old.items records.new.items) }
+    ensures few { length records.new.items ≤ length records.old.items + 166 }
+{
+    push_pre(records, number, pre, sent.mark)?;
+    push_record(records, number, &sent.packet, own_mark(sent.mark))
+}
+
+/// The PRE before a packet with this mark.
+fn push_pre(records: &mut Records, number: u64, pre: bool, mark: Mark) -> Option<()>
+    requires room { length records.old.items ≤ 498 }
+    requires timed { number < 2 ^ 32 * 1000000 }
+    ensures written { OnSome result (AppendsRecords number (pre_packets pre mark)
+        records.old.items records.new.items) }
+    ensures few { length records.new.items ≤ length records.old.items + 83 }
+{
+    if pre {
+        push_record(records, number, &Packet::Pre, pre_mark(mark))
+    } else {
+        Some(())
     }
-    push_record(records, attempt.number, &sent.packet, own_mark(sent.mark))
 }
 
 /// What damage did to the PRE before a packet.
-fn pre_mark(mark: Mark) -> Mark {
+fn pre_mark(mark: Mark) -> Mark
+    ensures { result ≡ pre_mark mark }
+{
     match mark {
         Mark::PreLost => Mark::Lost,
         Mark::Whole | Mark::Lost | Mark::Flipped(_) => Mark::Whole,
@@ -46,7 +81,9 @@ fn pre_mark(mark: Mark) -> Mark {
 }
 
 /// What damage did to the packet itself.
-fn own_mark(mark: Mark) -> Mark {
+fn own_mark(mark: Mark) -> Mark
+    ensures { result ≡ own_mark mark }
+{
     match mark {
         Mark::PreLost => Mark::Whole,
         Mark::Whole | Mark::Lost | Mark::Flipped(_) => mark,
@@ -56,46 +93,92 @@ fn own_mark(mark: Mark) -> Mark {
 /// A further packet of the host, where there is one.
 fn push_next(
     records: &mut Records,
-    attempt: &TracedAttempt,
+    number: u64,
+    pre: bool,
     sent: &Option<Outgoing>,
-) -> Option<()> {
+) -> Option<()>
+    requires room { length records.old.items ≤ 415 }
+    requires timed { number < 2 ^ 32 * 1000000 }
+    requires fields { IfSome sent.now (λ s. HasFields s.packet) }
+    ensures written { OnSome result (AppendsRecords number (next_packets pre sent.now)
+        records.old.items records.new.items) }
+    ensures few { length records.new.items ≤ length records.old.items + 166 }
+{
     match sent {
-        Some(sent) => push_host(records, attempt, sent),
+        Some(sent) => push_host(records, number, pre, sent),
         None => Some(()),
     }
 }
 
 /// The answer of one device. Of two at once no byte is known.
-fn push_answer(records: &mut Records, attempt: &TracedAttempt) -> Option<()> {
-    match &attempt.exchange.answer {
-        ExchangeAnswer::One(packet) => push_record(
-            records,
-            attempt.number,
-            packet,
-            attempt.exchange.answer_mark,
-        ),
+fn push_answer(
+    records: &mut Records,
+    number: u64,
+    answer: &ExchangeAnswer,
+    mark: Mark,
+) -> Option<()>
+    requires room { length records.old.items ≤ 498 }
+    requires timed { number < 2 ^ 32 * 1000000 }
+    requires fields { IsAnswered answer.now mark }
+    ensures written { OnSome result (AppendsRecords number (answer_packets answer.now mark)
+        records.old.items records.new.items) }
+    ensures few { length records.new.items ≤ length records.old.items + 83 }
+{
+    match answer {
+        ExchangeAnswer::One(packet) => push_record(records, number, packet, mark),
         ExchangeAnswer::Nothing | ExchangeAnswer::Collision => Some(()),
     }
 }
 
 /// The record of one packet, at its attempt's time.
-fn push_record(records: &mut Records, number: u64, packet: &Packet, mark: Mark) -> Option<()> {
+fn push_record(records: &mut Records, number: u64, packet: &Packet, mark: Mark) -> Option<()>
+    requires room { length records.old.items ≤ 498 }
+    requires timed { number < 2 ^ 32 * 1000000 }
+    requires fields { HasFields packet.now }
+    ensures written { OnSome result (AppendsRecords number ((packet.now, mark) ∷ [])
+        records.old.items records.new.items) }
+    ensures few { length records.new.items ≤ length records.old.items + 83 }
+{
     let bytes = damaged(encode(packet), mark)?;
-    push_word(records, (number / 1_000_000) as u32);
-    push_word(records, (number % 1_000_000) as u32);
-    push_word(records, bytes.len() as u32);
-    push_word(records, bytes.len() as u32);
-    records.try_extend_from_slice(bytes.as_slice()).unwrap();
+    push_head(records, number, bytes.len() as u32);
+    push_bytes(records, bytes.as_slice());
     Some(())
 }
 
+/// A packet's time and its length, twice.
+fn push_head(records: &mut Records, number: u64, size: u32)
+    requires room { length records.old.items ≤ 565 }
+    requires timed { number < 2 ^ 32 * 1000000 }
+    ensures { records.new.items ≡ records.old.items ++ record_head number size }
+{
+    push_word(records, (number / 1_000_000) as u32);
+    push_word(records, (number % 1_000_000) as u32);
+    push_word(records, size);
+    push_word(records, size);
+}
+
 /// Four bytes, the low one first.
-fn push_word(records: &mut Records, word: u32) {
-    records.try_extend_from_slice(&word.to_le_bytes()).unwrap();
+fn push_word(records: &mut Records, word: u32)
+    requires { length records.old.items ≤ 577 }
+    ensures { records.new.items ≡ records.old.items ++ to_le_bytes w32 word }
+{
+    push_bytes(records, &word.to_le_bytes());
+}
+
+fn push_bytes(records: &mut Records, bytes: &[u8])
+    requires { length records.old.items + length bytes.now ≤ 581 }
+    ensures { records.new.items ≡ records.old.items ++ bytes.now }
+{
+    records.try_extend_from_slice(bytes).unwrap();
 }
 
 /// A packet's bytes as damage leaves them; None where they have not the bit. The last bit is one of the check.
-fn damaged(bytes: ArrayVec<u8, 67>, mark: Mark) -> Option<ArrayVec<u8, 67>> {
+fn damaged(bytes: ArrayVec<u8, 67>, mark: Mark) -> Option<ArrayVec<u8, 67>>
+    requires { 0 < length bytes.items }
+    ensures value { IfSome result (λ b. b.items ≡ damaged mark bytes.items) }
+    ensures bit { IsSome result ↔ HasBit mark bytes.items }
+    ensures same { IfSome result (λ b. length b.items ≡ length bytes.items) }
+{
     let last = 8 * bytes.len() - 1;
     match mark {
         Mark::Whole | Mark::PreLost => Some(bytes),
@@ -106,7 +189,11 @@ fn damaged(bytes: ArrayVec<u8, 67>, mark: Mark) -> Option<ArrayVec<u8, 67>> {
 }
 
 /// The bytes with one bit flipped, counted from 0.
-fn flipped(bytes: ArrayVec<u8, 67>, bit: usize) -> ArrayVec<u8, 67> {
+fn flipped(bytes: ArrayVec<u8, 67>, bit: usize) -> ArrayVec<u8, 67>
+    requires { bit < 8 * length bytes.items }
+    ensures value { result.items ≡ flipped bytes.items bit }
+    ensures same { length result.items ≡ length bytes.items }
+{
     let mut bytes = bytes;
     bytes.as_mut_slice()[bit / 8] ^= 1 << (bit % 8);
     bytes
