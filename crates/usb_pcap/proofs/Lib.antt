@@ -2,3 +2,4 @@ mod Texts
 mod Reading
 mod Packets
 mod Records
+mod Attempts

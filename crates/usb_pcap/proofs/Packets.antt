@@ -1,5 +1,5 @@
 -- What a reading of a packet or a mark took from the front of a text is as it is printed.
-use Rattle.std.proofs.Common.{◌≡◌, ℕ, ◌&&◌, nat_lt, Bool, true, false, if◌then◌else◌, List, [], ◌∷◌, ◌++◌, Option, Some, None, option_map, codes, decimal, refl, sym, ap, subst, ◌∙◌, append_assoc}
+use Rattle.std.proofs.Common.{◌≡◌, ℕ, ◌&&◌, nat_lt, if◌then◌else◌, List, [], ◌∷◌, ◌++◌, Some, None, option_map, codes, decimal, refl, sym, ap, subst, ◌∙◌, append_assoc}
 use Rattle.std.proofs.lemmas.Option.{option_and_then_some, same_Some}
 use Rattle.std.proofs.lemmas.Bool.{and_parts, ltb-true}
 use Rattle.std.specs.Option.{option_and_then}
@@ -15,7 +15,7 @@ use Rattle.usb_packet.specs.Text.{data_name, text_of, token_name}
 use Rattle.usb_world.specs.declared.wire.Mark.{Mark}
 use Rattle.usb_world.specs.declared.wire.Mark.TheVariants.{Whole, Lost, PreLost, Flipped}
 use Rattle.usb_bus.specs.Trace.{mark_text}
-use Rattle.usb_pcap.specs.Text.{bytes_on, if_found, number_in, strip}
+use Rattle.usb_pcap.specs.Text.{bytes_on, number_in, strip}
 use Rattle.usb_pcap.specs.Packet.{bit_in, data_in, data_of, handshake_in, mark_in, packet_in, token_in, token_of}
 use Rattle.usb_pcap.proofs.Reading.{bytes_on-some, found_some, if_some, map_some, number_in-some, strip-some}
 

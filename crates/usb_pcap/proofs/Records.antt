@@ -6,7 +6,7 @@ use Rattle.usb_world.specs.declared.wire.Mark.{Mark}
 use Rattle.usb_pcap.specs.Record.{AppendsRecords, AreRecords, HasBit, IsRecord, damaged, record_head}
 
 -- four parts, one after the other
-pub four_parts : (a b c d e w x y z : List ℕ) → b ≡ a ++ w → c ≡ b ++ x → d ≡ c ++ y → e ≡ d ++ z → e ≡ a ++ w ++ x ++ y ++ z
+pub four_parts : (a b c d e w x y z : List ℕ) → b ≡ a ++ w → c ≡ b ++ x → d ≡ c ++ y → e ≡ d ++ z → e ≡ a ++ (w ++ x ++ y ++ z)
 four_parts a b c d e w x y z p q r s = s ∙ ap (λ l. l ++ z) (r ∙ ap (λ l. l ++ y) (q ∙ ap (λ l. l ++ x) p)) ∙ simp append_assoc
 
 pub one_record : (number : ℕ) (packet : Packet) (mark : Mark) (before middle after spelling written : List ℕ) (size : ℕ) → Spells spelling packet → HasBit mark spelling

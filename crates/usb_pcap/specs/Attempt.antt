@@ -1,5 +1,5 @@
 -- The line of an attempt, as it is read: from its number to the host's ACK.
-use Rattle.std.specs.Prelude.{◌≡◌, ◌<◌, IfSome, ℕ, ◌==◌, ◌&&◌, not, nat_lt, Bool, true, false, List, [], ◌∷◌, length, Option, Some, None, is_some, codes, option_map, if◌then◌else◌}
+use Rattle.std.specs.Prelude.{◌≡◌, ◌<◌, IfSome, ℕ, nat_lt, Bool, true, false, List, [], ◌∷◌, Option, Some, None, is_some, codes, option_map, if◌then◌else◌}
 use Rattle.std.specs.Option.{option_and_then}
 use Rattle.usb_packet.specs.declared.TokenKind.TheVariants.{OutTok, InTok, SetupTok}
 use Rattle.usb_packet.specs.declared.Packet.{Packet}
