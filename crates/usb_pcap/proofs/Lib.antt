@@ -3,3 +3,4 @@ mod Reading
 mod Packets
 mod Records
 mod Attempts
+mod Captures

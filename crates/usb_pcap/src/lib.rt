@@ -5,8 +5,11 @@
 #![tactic(auto)]
 
 mod attempt;
+mod capturing;
 mod packet;
 mod record;
+mod report;
 mod text;
 
 pub use attempt::{TracedAttempt, read_attempt};
+pub use capturing::{PcapFault, capture};
