@@ -33,11 +33,11 @@ host_in-some pre text r e =
     option_and_then_some (λ packet. option_and_then (outgoing_of pre packet.0) (mark_in packet.1)) (packet_in rest) r e (λ packet second e.
     option_and_then_some (outgoing_of pre packet.0) (mark_in packet.1) r e (λ mark third e.
     if_some (may_be_marked pre mark.0) (Some (record { packet = packet.0; mark = mark.0 }, mark.1)) r e (λ fits is.
-      let own = packet_in-some rest packet second in
-      let s : Outgoing = record { packet = packet.0; mark = mark.0 } in
-      let spelled : text ≡ host_text pre s ++ mark.1 =
-          behind_pre-some pre text rest first ∙ ap (λ l. pre_text pre ++ l) (own.0 ∙ ap (λ l. text_of packet.0 ++ l) (mark_in-some packet.1 mark third)) ∙ simp append_assoc in
-      subst (SentAs pre text) (same_Some (s, mark.1) r is) (spelled, (own.1, fits))))))
+    let own = packet_in-some rest packet second in
+    let s : Outgoing = record { packet = packet.0; mark = mark.0 } in
+    let spelled : text ≡ host_text pre s ++ mark.1 =
+    behind_pre-some pre text rest first ∙ ap (λ l. pre_text pre ++ l) (own.0 ∙ ap (λ l. text_of packet.0 ++ l) (mark_in-some packet.1 mark third)) ∙ simp append_assoc in
+    subst (SentAs pre text) (same_Some (s, mark.1) r is) (spelled, (own.1, fits))))))
 
 -- the same behind a stroke
 abbrev NextAs : Bool → List ℕ → Outgoing × List ℕ → Type 0
@@ -47,8 +47,8 @@ next_in-some : (pre : Bool) (text : List ℕ) (r : Outgoing × List ℕ) → nex
 unfolding next_in
 next_in-some pre text r e =
     option_and_then_some (host_in pre) (strip (codes " / ") text) r e (λ rest stroke e.
-      let own = host_in-some pre rest r e in
-      (strip-some (codes " / ") text rest stroke ∙ ap (λ l. codes " / " ++ l) own.0 ∙ sym (append_assoc (codes " / ") (host_text pre r.0) r.1), own.1))
+    let own = host_in-some pre rest r e in
+    (strip-some (codes " / ") text rest stroke ∙ ap (λ l. codes " / " ++ l) own.0 ∙ sym (append_assoc (codes " / ") (host_text pre r.0) r.1), own.1))
 
 only-some : (fits : Packet → Bool) (s r : Outgoing × List ℕ) → only fits s ≡ Some r → (s ≡ r) × (fits r.0.packet ≡ true)
 only-some fits s r e =
@@ -58,13 +58,13 @@ payload_in-some : (pre : Bool) (text : List ℕ) (r : Outgoing × List ℕ) → 
 unfolding payload_in
 payload_in-some pre text r e =
     option_and_then_some (only is_data) (next_in pre text) r e (λ s first e.
-      let kept = only-some is_data s r e in (subst (NextAs pre text) kept.0 (next_in-some pre text s first), kept.1))
+    let kept = only-some is_data s r e in (subst (NextAs pre text) kept.0 (next_in-some pre text s first), kept.1))
 
 reply_in-some : (pre : Bool) (text : List ℕ) (r : Outgoing × List ℕ) → reply_in pre text ≡ Some r → NextAs pre text r × (is_ack r.0.packet ≡ true)
 unfolding reply_in
 reply_in-some pre text r e =
     option_and_then_some (only is_ack) (next_in pre text) r e (λ s first e.
-      let kept = only-some is_ack s r e in (subst (NextAs pre text) kept.0 (next_in-some pre text s first), kept.1))
+    let kept = only-some is_ack s r e in (subst (NextAs pre text) kept.0 (next_in-some pre text s first), kept.1))
 
 -- a text is that of an answer and its mark with this behind it
 abbrev AnsweredAs : List ℕ → (ExchangeAnswer × Mark) × List ℕ → Type 0
@@ -79,8 +79,8 @@ answer_in-some text r e =
     (λ rest found is. subst (AnsweredAs text) (same_Some ((Collision, Whole), rest) r is) (strip-some (codes " / collision") text rest found, refl)) (λ e.
     option_and_then_some one_answer (next_in false text) r e (λ s first e.
     if_some (is_answer s.0.packet) (Some ((One s.0.packet, s.0.mark), s.1)) r e (λ fits is.
-      let own = next_in-some false text s first in
-      subst (AnsweredAs text) (same_Some ((One s.0.packet, s.0.mark), s.1) r is) (own.0 ∙ simp append_assoc, (own.1.0, fits, own.1.1))))))
+    let own = next_in-some false text s first in
+    subst (AnsweredAs text) (same_Some ((One s.0.packet, s.0.mark), s.1) r is) (own.0 ∙ simp append_assoc, (own.1.0, fits, own.1.1))))))
 
 payload_if-some : (sends pre : Bool) (text : List ℕ) (r : Option Outgoing × List ℕ) → payload_if sends pre text ≡ Some r
     → (text ≡ next_text pre r.0 ++ r.1) × (is_some r.0 ≡ sends) × IfSome r.0 (λ s. IsSent pre s × (is_data s.packet ≡ true))
@@ -88,8 +88,8 @@ payload_if-some false pre text r e =
     subst (λ (r : Option Outgoing × List ℕ). (text ≡ next_text pre r.0 ++ r.1) × (is_some r.0 ≡ false) × IfSome r.0 (λ s. IsSent pre s × (is_data s.packet ≡ true))) (same_Some (None, text) r e) (refl, refl, tt)
 payload_if-some true pre text r e =
     map_some (λ (s : Outgoing × List ℕ). (Some s.0, s.1)) (payload_in pre text) r e (λ s found is.
-      let own = payload_in-some pre text s found in
-      subst (λ (r : Option Outgoing × List ℕ). (text ≡ next_text pre r.0 ++ r.1) × (is_some r.0 ≡ true) × IfSome r.0 (λ s. IsSent pre s × (is_data s.packet ≡ true))) is (own.0.0, refl, (own.0.1, own.1)))
+    let own = payload_in-some pre text s found in
+    subst (λ (r : Option Outgoing × List ℕ). (text ≡ next_text pre r.0 ++ r.1) × (is_some r.0 ≡ true) × IfSome r.0 (λ s. IsSent pre s × (is_data s.packet ≡ true))) is (own.0.0, refl, (own.0.1, own.1)))
 
 reply_if-some : (pre : Bool) (text : List ℕ) (r : Option Outgoing × List ℕ) → reply_if pre text ≡ Some r
     → (text ≡ next_text pre r.0 ++ r.1) × IfSome r.0 (λ s. IsSent pre s × (is_ack s.packet ≡ true))
@@ -97,8 +97,8 @@ reply_if-some pre [] r e =
     subst (λ (r : Option Outgoing × List ℕ). ([] ≡ next_text pre r.0 ++ r.1) × IfSome r.0 (λ s. IsSent pre s × (is_ack s.packet ≡ true))) (same_Some (None, []) r e) (refl, tt)
 reply_if-some pre (c ∷ text) r e =
     map_some (λ (s : Outgoing × List ℕ). (Some s.0, s.1)) (reply_in pre (c ∷ text)) r e (λ s found is.
-      let own = reply_in-some pre (c ∷ text) s found in
-      subst (λ (r : Option Outgoing × List ℕ). (c ∷ text ≡ next_text pre r.0 ++ r.1) × IfSome r.0 (λ s. IsSent pre s × (is_ack s.packet ≡ true))) is (own.0.0, (own.0.1, own.1)))
+    let own = reply_in-some pre (c ∷ text) s found in
+    subst (λ (r : Option Outgoing × List ℕ). (c ∷ text ≡ next_text pre r.0 ++ r.1) × IfSome r.0 (λ s. IsSent pre s × (is_ack s.packet ≡ true))) is (own.0.0, (own.0.1, own.1)))
 
 -- a text is that of an attempt with this behind it
 abbrev TracedAs : List ℕ → TracedAttempt × List ℕ → Type 0
@@ -112,15 +112,15 @@ begun-some number text r few e =
     option_and_then_some (answered number pre token.0) (payload_if sends pre token.1) r e (λ payload second e.
     option_and_then_some (λ answer. option_map (traced number pre token.0 payload.0 answer.0) (reply_if pre answer.1)) (answer_in payload.1) r e (λ answer third e.
     map_some (traced number pre token.0 payload.0 answer.0) (reply_if pre answer.1) r e (λ reply fourth is.
-      let host = host_in-some pre text token first in
-      let more = payload_if-some sends pre token.1 payload second in
-      let heard = answer_in-some payload.1 answer third in
-      let end = reply_if-some pre answer.1 reply fourth in
-      let a : TracedAttempt = (traced number pre token.0 payload.0 answer.0 reply).0 in
-      let spelled : decimal number ++ codes " " ++ text ≡ attempt_line a.number a.pre a.exchange ++ reply.1 =
-          ap (λ l. decimal number ++ codes " " ++ l) (host.0 ∙ ap (λ l. host_text pre token.0 ++ l) (more.0 ∙ ap (λ l. next_text pre payload.0 ++ l) (heard.0 ∙ ap (λ l. codes " / " ++ answer_text answer.0.0 ++ mark_text answer.0.1 ++ l) end.0))) ∙ simp append_assoc in
-      let told : IsTraced a = record { timed = few; token = host.1; sends = kind ∙ ap Some (sym more.1); payload = more.2; answer = heard.1; reply = end.1 } in
-      subst (TracedAs (decimal number ++ codes " " ++ text)) is (spelled, told))))))
+    let host = host_in-some pre text token first in
+    let more = payload_if-some sends pre token.1 payload second in
+    let heard = answer_in-some payload.1 answer third in
+    let end = reply_if-some pre answer.1 reply fourth in
+    let a : TracedAttempt = (traced number pre token.0 payload.0 answer.0 reply).0 in
+    let spelled : decimal number ++ codes " " ++ text ≡ attempt_line a.number a.pre a.exchange ++ reply.1 =
+    ap (λ l. decimal number ++ codes " " ++ l) (host.0 ∙ ap (λ l. host_text pre token.0 ++ l) (more.0 ∙ ap (λ l. next_text pre payload.0 ++ l) (heard.0 ∙ ap (λ l. codes " / " ++ answer_text answer.0.0 ++ mark_text answer.0.1 ++ l) end.0))) ∙ simp append_assoc in
+    let told : IsTraced a = record { timed = few; token = host.1; sends = kind ∙ ap Some (sym more.1); payload = more.2; answer = heard.1; reply = end.1 } in
+    subst (TracedAs (decimal number ++ codes " " ++ text)) is (spelled, told))))))
 
 attempt_in-some : (text : List ℕ) (r : TracedAttempt × List ℕ) → attempt_in text ≡ Some r → TracedAs text r
 unfolding attempt_in
@@ -128,8 +128,8 @@ attempt_in-some text r e =
     option_and_then_some (λ n. if nat_lt n.0 no_time then option_and_then (begun n.0) (strip (codes " ") n.1) else None) (number_in text) r e (λ n first e.
     if_some (nat_lt n.0 no_time) (option_and_then (begun n.0) (strip (codes " ") n.1)) r e (λ few e.
     option_and_then_some (begun n.0) (strip (codes " ") n.1) r e (λ rest blank e.
-      let front : text ≡ decimal n.0 ++ codes " " ++ rest = (number_in-some text n first).0 ∙ ap (λ l. decimal n.0 ++ l) (strip-some (codes " ") n.1 rest blank) ∙ simp append_assoc in
-      subst (λ t. TracedAs t r) (sym front) (begun-some n.0 rest r (ltb-true n.0 no_time few) e))))
+    let front : text ≡ decimal n.0 ++ codes " " ++ rest = (number_in-some text n first).0 ∙ ap (λ l. decimal n.0 ++ l) (strip-some (codes " ") n.1 rest blank) ∙ simp append_assoc in
+    subst (λ t. TracedAs t r) (sym front) (begun-some n.0 rest r (ltb-true n.0 no_time few) e))))
 
 whole-some : (line : List ℕ) (r : TracedAttempt × List ℕ) (a : TracedAttempt) → TracedAs line r → whole r ≡ Some a → IsLineOf line a
 whole-some line (b, []) a h e = subst (IsLineOf line) (same_Some b a e) (record { traced = h.1; printed = h.0 ∙ append-nil _ })

@@ -1,9 +1,11 @@
 -- How a capture goes on, byte after byte.
-use Rattle.std.proofs.Common.{◌≡◌, ◌≢◌, ℕ, ◌+◌, ◌-◌, ◌^◌, ◌<◌, ◌≤◌, nat_lt, min, Bool, true, false, List, [], ◌∷◌, ◌++◌, length, take, drop, Option, Some, None, IfSome, Result, Ok, Err, All, refl, sym, ap, subst, ◌∙◌, arith, append_assoc, append-nil, length-append}
-use Rattle.std.proofs.lemmas.List.{length-take, take-append-le, take_all}
+use Rattle.std.proofs.Common.{◌≡◌, ◌≢◌, ℕ, ◌+◌, ◌-◌, ◌^◌, ◌<◌, ◌≤◌, nat_lt, min, Bool, true, false, List, [], ◌∷◌, ◌++◌, length, take, drop, Option, Some, None, IfSome, Result, Ok, Err, get_or, is_err, OnOk, refl, sym, ap, subst, ◌∙◌, arith, append_assoc, append-nil, length-append}
+use Rattle.arrayvec.specs.ArrayVec.{ArrayVec}
+use Rattle.std.proofs.lemmas.List.{take_more, take-append-drop, length-take, take-append-le, take_all}
 use Rattle.std.proofs.lemmas.List.Elements.{All-nil, All-push}
 use Rattle.std.proofs.lemmas.Bool.Decides.{nat_tests}
-use Rattle.std.proofs.KnownBytes.{Appends-trans}
+use Rattle.std.proofs.KnownBytes.{Appends-trans, Consumes-trans}
+use Rattle.std.specs.Prelude.{IsErrOf}
 use Rattle.std.specs.Io.KnownBytes.{Appends, Consumes, IsAtEnd}
 use Rattle.usb_bus.specs.Watch.{AppendsFront}
 use Rattle.usb_bus.proofs.Interface.{front_after_first}
@@ -35,9 +37,10 @@ not_more k a h = grind (arith, nat_tests)
 taken_more : (k : ℕ) (line front : List ℕ) (b : ℕ) → front ≡ take k line → length front < k → (front ++ b ∷ [] ≡ take k (line ++ b ∷ [])) × (nat_lt k (length line) ≡ nat_lt k (length (line ++ b ∷ [])))
 taken_more k line front b e room =
     let few = few_taken k line (subst (λ l. length l < k) e room) in
-    let long = length-append line (b ∷ []) in
-    (ap (λ l. l ++ b ∷ []) (e ∙ take_all k line (omega arith)) ∙ sym (take_all k (line ++ b ∷ []) (omega (arith, long))),
-      both_few k (length line) (length (line ++ b ∷ [])) (omega arith) (omega (arith, long)))
+    let long = length-append line (b ∷ []) in (
+      ap (λ l. l ++ b ∷ []) (e ∙ take_all k line (omega arith)) ∙ sym (take_all k (line ++ b ∷ []) (omega (arith, long))),
+      both_few k (length line) (length (line ++ b ∷ [])) (omega arith) (omega (arith, long)),
+    )
 
 -- the same where there is no room
 taken_long : (k : ℕ) (line front : List ℕ) (b : ℕ) → front ≡ take k line → length front ≡ k → (front ≡ take k (line ++ b ∷ [])) × (nat_lt k (length (line ++ b ∷ [])) ≡ true)
@@ -73,7 +76,7 @@ stands_more w now text b s t other h number room front long =
       split = ap (λ l. l ++ b ∷ []) h.split ∙ append_assoc h.front h.line (b ∷ []);
       captured = h.captured;
       gone = h.gone;
-      one = All-push _ h.line b h.one other;
+      one = All-push (λ x. x ≢ 10) h.line b h.one other;
       begins = front ∙ more.0;
       long = long ∙ h.long ∙ more.1;
       number = number ∙ h.number;
@@ -91,7 +94,7 @@ stands_long w now text b s t other h number full front long =
       split = ap (λ l. l ++ b ∷ []) h.split ∙ append_assoc h.front h.line (b ∷ []);
       captured = h.captured;
       gone = h.gone;
-      one = All-push _ h.line b h.one other;
+      one = All-push (λ x. x ≢ 10) h.line b h.one other;
       begins = front ∙ more.0;
       long = long ∙ sym more.1;
       number = number ∙ h.number;
@@ -126,24 +129,31 @@ stands_closed w mid now text records s t h tells gone number front long = record
 
 pub went_front : (w mid now : Option (List ℕ)) (text records : List ℕ) (s : OpenLine) → StandsAt w mid text s → Tells s records → AppendsFront mid now records
     → (n : ℕ) × WroteFront w now (text ++ 10 ∷ []) n
-went_front w mid now text records s h tells gone = (h.n + 1, record {
-  front = text ++ 10 ∷ [];
-  rest = [];
-  file = h.file ++ records;
-  split = sym (append-nil (text ++ 10 ∷ []));
-  captured = closed w mid text records s h tells;
-  gone = front_after_first w mid now h.file records h.gone gone;
-})
+went_front w mid now text records s h tells gone = (
+  h.n + 1,
+  record {
+    front = text ++ 10 ∷ [];
+    rest = [];
+    file = h.file ++ records;
+    split = sym (append-nil (text ++ 10 ∷ []));
+    captured = closed w mid text records s h tells;
+    gone = front_after_first w mid now h.file records h.gone gone;
+  },
+)
 
 pub went_lines : (w now : Option (List ℕ)) (text rest : List ℕ) (s : OpenLine) → StandsAt w now text s → (n : ℕ) × WroteLines w now (text ++ rest) n × (s.number ≡ next_number n)
-went_lines w now text rest s h = (h.n, record {
-  front = h.front;
-  rest = h.line ++ rest;
-  file = h.file;
-  split = ap (λ l. l ++ rest) h.split ∙ append_assoc h.front h.line rest;
-  captured = h.captured;
-  gone = h.gone;
-}, h.number)
+went_lines w now text rest s h = (
+  h.n,
+  record {
+    front = h.front;
+    rest = h.line ++ rest;
+    file = h.file;
+    split = ap (λ l. l ++ rest) h.split ∙ append_assoc h.front h.line rest;
+    captured = h.captured;
+    gone = h.gone;
+  },
+  h.number,
+)
 
 -- a fault stays what it is, whatever the text goes on with
 lines_more : (w now : Option (List ℕ)) (text rest : List ℕ) (n : ℕ) → WroteLines w now text n → WroteLines w now (text ++ rest) n
@@ -213,3 +223,53 @@ pub attempt_records : (front line records : List ℕ) (is_long : Bool) (a : Trac
 attempt_records front line records is_long a short of made e long =
     let few : length line ≤ 700 = not_more 700 (length line) (sym long ∙ short) in
     LineRecords.attempt a records (subst (λ l. IsLineOf l a) (e ∙ take_all 700 line few) of) made
+
+pub attempt_some : (front : List ℕ) (is_long : Bool) (a : TracedAttempt) (o : Option (ArrayVec ℕ)) → is_long ≡ false → IsLineOf front a
+    → IfSome o (λ r. AreRecords a.number (attempt_packets a.pre a.exchange) r.items)
+    → IfSome o (λ r. (line : List ℕ) → front ≡ take 700 line → is_long ≡ nat_lt 700 (length line) → LineRecords line r.items)
+attempt_some front is_long a None short of made = tt
+attempt_some front is_long a (Some r) short of made = λ line e long. attempt_records front line r.items is_long a short of made e long
+
+pub torn_header : (a w now : Option (List ℕ)) → AppendsFront w now header → IfSome a (λ text. Captures w now text (Err Write))
+torn_header None w now h = tt
+torn_header (Some text) w now h = (0, record { front = []; rest = text; file = header; split = refl; captured = IsCapture.none; gone = h })
+
+-- one byte of a piece more
+pub piece_more : (w now : Option (List ℕ)) (text piece : List ℕ) (i b : ℕ) (s : OpenLine) → i < length piece → b ≡ get_or piece i 0 → StandsAt w now ((text ++ take i piece) ++ b ∷ []) s → StandsAt w now (text ++ take (i + 1) piece) s
+piece_more w now text piece i b s below is h =
+    let more : take (i + 1) piece ≡ take i piece ++ b ∷ [] = take_more piece i 0 below ∙ ap (λ x. take i piece ++ x ∷ []) (sym is) in
+    subst (λ t. StandsAt w now t s) (append_assoc text (take i piece) (b ∷ []) ∙ ap (λ l. text ++ l) (sym more)) h
+
+pub piece_failed : (w now : Option (List ℕ)) (text piece : List ℕ) (i b : ℕ) (f : PcapFault) (s t : OpenLine) → i < length piece → b ≡ get_or piece i 0 → Comes w now ((text ++ take i piece) ++ b ∷ []) (Err f) s → Comes w now (text ++ piece) (Err f) t
+piece_failed w now text piece i b f s t below is h =
+    let more : take (i + 1) piece ≡ take i piece ++ b ∷ [] = take_more piece i 0 below ∙ ap (λ x. take i piece ++ x ∷ []) (sym is) in
+    let whole : ((text ++ take i piece) ++ b ∷ []) ++ drop (i + 1) piece ≡ text ++ piece =
+    ap (λ l. l ++ drop (i + 1) piece) (append_assoc text (take i piece) (b ∷ []) ∙ ap (λ l. text ++ l) (sym more)) ∙ append_assoc text (take (i + 1) piece) (drop (i + 1) piece) ∙ ap (λ l. text ++ l) (take-append-drop (i + 1) piece) in
+    subst (λ u. Comes w now u (Err f) t) whole (comes_more w now ((text ++ take i piece) ++ b ∷ []) (drop (i + 1) piece) f s t h)
+
+pub not_err : {A E : Type 0} {P : Type 0} (r : Result A E) → is_err r ≡ false → OnOk r P → P
+not_err (Ok x) e h = h
+not_err (Err x) e h = absurd (cc)
+
+pub stopped : (w now : Option (List ℕ)) (text : List ℕ) (s : OpenLine) → StandsAt w now text s → (n : ℕ) × WroteLines w now text n
+stopped w now text s h = (
+  h.n,
+  record {
+    front = h.front;
+    rest = h.line;
+    file = h.file;
+    split = h.split;
+    captured = h.captured;
+    gone = h.gone;
+  },
+)
+
+pub never_read : {P : Type 0} (w now : Option (List ℕ)) (text : List ℕ) (f : PcapFault) (s : OpenLine) → Comes w now text (Err f) s → IsErrOf {T = Unit {0}} (Err f) Read → P
+never_read w now text Read s h is = absurd h
+never_read w now text TooLong s h is = absurd h
+never_read w now text (BadLine number) s h is = absurd (cc)
+never_read w now text Write s h is = absurd (cc)
+
+-- a read that gave nothing
+pub read_none : (a b new : Option (List ℕ)) (done buf : List ℕ) (n : ℕ) → Consumes a b done → n ≡ 0 → Consumes b new (take n buf) → Consumes a new done
+read_none a b new done buf n h e k = subst (Consumes a new) (append-nil done) (Consumes-trans a b new done [] h (subst (λ m. Consumes b new (take m buf)) e k))

@@ -33,12 +33,12 @@ token_in-some kind text r e =
     option_and_then_some (λ rest. option_and_then (token_of kind addr.0) (number_in rest)) (strip (codes ".") addr.1) r behind (λ rest dot more.
     option_and_then_some (token_of kind addr.0) (number_in rest) r more (λ ep second fits.
     if_some (nat_lt addr.0 128 && nat_lt ep.0 16) (Some (Token kind addr.0 ep.0, ep.1)) r fits (λ both is.
-      let tests = and_parts (nat_lt addr.0 128) (nat_lt ep.0 16) both in
-      let one = number_in-some text addr first in
-      let two = number_in-some rest ep second in
-      let spelled : token_name kind ++ text ≡ (token_name kind ++ decimal addr.0 ++ codes "." ++ decimal ep.0) ++ ep.1 =
-          ap (λ l. token_name kind ++ l) (one.0 ∙ ap (λ l. decimal addr.0 ++ l) (strip-some (codes ".") addr.1 rest dot ∙ ap (λ l. codes "." ++ l) two.0)) ∙ simp append_assoc in
-      begins (token_name kind ++ text) (Token kind addr.0 ep.0, ep.1) r (spelled, (ltb-true addr.0 128 tests.0, ltb-true ep.0 16 tests.1)) is))))
+    let tests = and_parts (nat_lt addr.0 128) (nat_lt ep.0 16) both in
+    let one = number_in-some text addr first in
+    let two = number_in-some rest ep second in
+    let spelled : token_name kind ++ text ≡ (token_name kind ++ decimal addr.0 ++ codes "." ++ decimal ep.0) ++ ep.1 =
+    ap (λ l. token_name kind ++ l) (one.0 ∙ ap (λ l. decimal addr.0 ++ l) (strip-some (codes ".") addr.1 rest dot ∙ ap (λ l. codes "." ++ l) two.0)) ∙ simp append_assoc in
+    begins (token_name kind ++ text) (Token kind addr.0 ep.0, ep.1) r (spelled, (ltb-true addr.0 128 tests.0, ltb-true ep.0 16 tests.1)) is))))
 
 data_of-some : (toggle : Toggle) (text : List ℕ) (b r : _) → data_of toggle b ≡ Some r → text ≡ encode_upper b.0 ++ b.1 → BeginsAs (data_name toggle ++ text) r
 data_of-some toggle text ([], rest) r is e = absurd (cc)
@@ -50,7 +50,7 @@ unfolding data_in encode_with
 data_in-some toggle text r e =
     found_some (strip (codes "-") text) (λ rest. Some (Payload toggle (record { items = [] }), rest)) (option_and_then (data_of toggle) (bytes_on [] text)) r e
     (λ rest dash is. begins (data_name toggle ++ text) (Payload toggle (record { items = [] }), rest) r
-      (ap (λ l. data_name toggle ++ l) (strip-some (codes "-") text rest dash) ∙ sym (append_assoc (data_name toggle) (codes "-") rest), tt) is)
+    (ap (λ l. data_name toggle ++ l) (strip-some (codes "-") text rest dash) ∙ sym (append_assoc (data_name toggle) (codes "-") rest), tt) is)
     (λ more. option_and_then_some (data_of toggle) (bytes_on [] text) r more (λ b digits is. data_of-some toggle text b r is (bytes_on-some [] text b digits)))
 
 handshake_in-some : (text : List ℕ) (r : Packet × List ℕ) → handshake_in text ≡ Some r → BeginsAs text r
@@ -87,9 +87,9 @@ bit_in-some text r e =
     option_and_then_some (λ bit. if nat_lt bit.0 65536 then option_map (λ rest. (Flipped bit.0, rest)) (strip (codes "]") bit.1) else None) (number_in text) r e (λ bit number more.
     if_some (nat_lt bit.0 65536) (option_map (λ rest. (Flipped bit.0, rest)) (strip (codes "]") bit.1)) r more (λ few end.
     map_some (λ rest. (Flipped bit.0, rest)) (strip (codes "]") bit.1) r end (λ rest found is.
-      let spelled : codes " [bit " ++ text ≡ (codes " [bit " ++ decimal bit.0 ++ codes "]") ++ rest =
-          ap (λ l. codes " [bit " ++ l) ((number_in-some text bit number).0 ∙ ap (λ l. decimal bit.0 ++ l) (strip-some (codes "]") bit.1 rest found)) ∙ simp append_assoc in
-      subst (MarkedAs (codes " [bit " ++ text)) is spelled)))
+    let spelled : codes " [bit " ++ text ≡ (codes " [bit " ++ decimal bit.0 ++ codes "]") ++ rest =
+    ap (λ l. codes " [bit " ++ l) ((number_in-some text bit number).0 ∙ ap (λ l. decimal bit.0 ++ l) (strip-some (codes "]") bit.1 rest found)) ∙ simp append_assoc in
+    subst (MarkedAs (codes " [bit " ++ text)) is spelled)))
 
 pub mark_in-some : (text : List ℕ) (r : Mark × List ℕ) → mark_in text ≡ Some r → MarkedAs text r
 unfolding mark_in

@@ -38,7 +38,7 @@ number_on-few value [] n few e = subst (λ m. m < 2 ^ 64) (same_Some value n e) 
 number_on-few value (c ∷ text) n few e =
     if_either (is_ascii_digit c) (if nat_lt (value * 10 + (c - 48)) (2 ^ 64) then number_on (value * 10 + (c - 48)) text else None) (Some value) n e
     (λ digit more. if_some (nat_lt (value * 10 + (c - 48)) (2 ^ 64)) (number_on (value * 10 + (c - 48)) text) n more
-      (λ below rest. number_on-few (value * 10 + (c - 48)) text n (ltb-true (value * 10 + (c - 48)) (2 ^ 64) below) rest))
+    (λ below rest. number_on-few (value * 10 + (c - 48)) text n (ltb-true (value * 10 + (c - 48)) (2 ^ 64) below) rest))
     (λ other end. subst (λ m. m < 2 ^ 64) (same_Some value n end) few)
 
 pub number_in-some : (text : List ℕ) (r : ℕ × List ℕ) → number_in text ≡ Some r → (text ≡ decimal r.0 ++ r.1) × (r.0 < 2 ^ 64)
@@ -99,8 +99,8 @@ bytes_on-some bytes (h ∷ l ∷ text) r e =
     let byte : ℕ = value_of h * 16 + value_of l in
     if_either (is_digit h && is_digit l) (if nat_lt (length bytes) 64 then bytes_on (bytes ++ byte ∷ []) text else None) (Some (bytes, h ∷ l ∷ text)) r e
     (λ digits more. if_some (nat_lt (length bytes) 64) (bytes_on (bytes ++ byte ∷ []) text) r more (λ room rest.
-      let both = and_parts (is_digit h) (is_digit l) digits in
-      let pair = encode_upper-pair h l both.0 both.1 in
-      let front : encode_upper (bytes ++ byte ∷ []) ≡ encode_upper bytes ++ h ∷ l ∷ [] = encode_upper-append bytes (byte ∷ []) ∙ ap (λ d. encode_upper bytes ++ d) pair in
-      sym (ap (λ d. d ++ text) front ∙ append_assoc (encode_upper bytes) (h ∷ l ∷ []) text) ∙ bytes_on-some (bytes ++ byte ∷ []) text r rest))
+    let both = and_parts (is_digit h) (is_digit l) digits in
+    let pair = encode_upper-pair h l both.0 both.1 in
+    let front : encode_upper (bytes ++ byte ∷ []) ≡ encode_upper bytes ++ h ∷ l ∷ [] = encode_upper-append bytes (byte ∷ []) ∙ ap (λ d. encode_upper bytes ++ d) pair in
+    sym (ap (λ d. d ++ text) front ∙ append_assoc (encode_upper bytes) (h ∷ l ∷ []) text) ∙ bytes_on-some (bytes ++ byte ∷ []) text r rest))
     (λ other end. ap (λ (s : List ℕ × List ℕ). encode_upper s.0 ++ s.1) (same_Some (bytes, h ∷ l ∷ text) r end))

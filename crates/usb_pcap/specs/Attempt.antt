@@ -112,19 +112,22 @@ reply_if pre [] = Some (None, [])
 reply_if pre (c ∷ text) = option_map (λ s. (Some s.0, s.1)) (reply_in pre (c ∷ text))
 
 abbrev pub traced : ℕ → Bool → Outgoing → Option Outgoing → ExchangeAnswer × Mark → Option Outgoing × List ℕ → TracedAttempt × List ℕ
-traced number pre token payload answer reply = (record {
-  number = number;
-  pre = pre;
-  exchange = record {
-    token = token;
-    payload = payload;
-    answer = answer.0;
-    answer_mark = answer.1;
-    reply = reply.0;
-    address_lost = false;
-    change_cleared = false;
-  };
-}, reply.1)
+traced number pre token payload answer reply = (
+  record {
+    number = number;
+    pre = pre;
+    exchange = record {
+      token = token;
+      payload = payload;
+      answer = answer.0;
+      answer_mark = answer.1;
+      reply = reply.0;
+      address_lost = false;
+      change_cleared = false;
+    };
+  },
+  reply.1,
+)
 
 -- from the answer on
 abbrev pub answered : ℕ → Bool → Outgoing → Option Outgoing × List ℕ → Option (TracedAttempt × List ℕ)

@@ -1,5 +1,5 @@
 -- What a text's pcap file is: its header, and the records of each line in their order.
-use Rattle.std.specs.Prelude.{◌≡◌, ◌≢◌, ℕ, ◌+◌, ◌-◌, ◌^◌, nat_lt, min, Bool, true, List, [], ◌∷◌, ◌++◌, length, take, All, Option, Result, Ok, Err}
+use Rattle.std.specs.Prelude.{◌≡◌, ◌≢◌, ℕ, ◌+◌, ◌-◌, ◌^◌, nat_lt, min, true, List, [], ◌∷◌, ◌++◌, length, take, All, Option, Result, Ok, Err}
 use Rattle.std.specs.Io.KnownBytes.{Appends}
 use Rattle.usb_bus.specs.Watch.{AppendsFront}
 use Rattle.usb_pcap.specs.declared.attempt.TracedAttempt.{TracedAttempt}

@@ -118,7 +118,9 @@ fn number_on(value: u64, text: &[u8]) -> Option<u64>
     if !digit.is_ascii_digit() {
         return Some(value);
     }
-    let more = value.checked_mul(10)?.checked_add(u64::from(*digit - b'0'))?;
+    let more = value
+        .checked_mul(10)?
+        .checked_add(u64::from(*digit - b'0'))?;
     number_on(more, rest)
 }
 

@@ -133,7 +133,8 @@ fn plain_program<'a>(alloc: Global) -> Result<Command<'a>, AllocError>
             .version(VERSION)
             .about("Runs a USB host on a simulated bus, as a plan says, or prints one packet")
             .after_help(
-                "With no command it does what `packet` does, with the digits on standard input.",
+                "With no command it does what `packet` does, with the digits on standard input.\n\n\
+                 Packets for Wireshark: usbplan run plan.toml | usbplan pcap - > plan.pcap",
             ),
     )
 }

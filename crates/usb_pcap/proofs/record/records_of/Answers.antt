@@ -5,4 +5,4 @@ pub returns : goal.returns
 returns c =
     from_nothing _ _ _ _ c.new-records.ensures
     (then_records _ _ _ _ _ _ (then_records _ _ _ _ _ _ (then_records _ _ _ _ _ _ c.in_ok-push_host.ensures.written c.in_ok-push_next.ensures.written)
-      c.in_ok-push_answer.ensures.written) c.in_ok-push_next-2.ensures.written)
+    c.in_ok-push_answer.ensures.written) c.in_ok-push_next-2.ensures.written)
