@@ -4,7 +4,7 @@ use Rattle.clap.specs.Walk.{Row, Rule, Text, first_of}
 use Rattle.clap.specs.Simple.{App, new_app, new_rule, with_rule, with_subcommand, subcommand_of}
 use Rattle.clap.specs.declared.builder.action.ArgAction.TheVariants.{Set}
 use Rattle.usb_words.specs.declared.words.Words.{Words}
-use Rattle.usb_words.specs.declared.words.Words.TheVariants.{Stdin, Packet, Tree, Run}
+use Rattle.usb_words.specs.declared.words.Words.TheVariants.{Stdin, Packet, Tree, Run, Pcap}
 
 -- the one text that a subcommand wants
 abbrev pub text_rule : Rule
@@ -18,7 +18,7 @@ abbrev pub plain_app : App
 plain_app = let app = new_app (codes "usbplan") in record app { top = record app.top { no_binary_name = true; has_version = true } }
 
 abbrev pub program_app : App
-program_app = with_subcommand (with_subcommand (with_subcommand plain_app (text_app (codes "packet")).top) (text_app (codes "tree")).top) (text_app (codes "run")).top
+program_app = with_subcommand (with_subcommand (with_subcommand (with_subcommand plain_app (text_app (codes "packet")).top) (text_app (codes "tree")).top) (text_app (codes "run")).top) (text_app (codes "pcap")).top
 
 -- clap reads this subcommand from the words, with this text
 pub record HasSubcommand (words : List Text) (name text : List ℕ) : Type 0 where
@@ -32,3 +32,4 @@ ReadsWords words Stdin = subcommand_of program_app words ≡ None
 ReadsWords words (Packet text) = HasSubcommand words (codes "packet") text.now
 ReadsWords words (Tree text) = HasSubcommand words (codes "tree") text.now
 ReadsWords words (Run text) = HasSubcommand words (codes "run") text.now
+ReadsWords words (Pcap text) = HasSubcommand words (codes "pcap") text.now

@@ -22,6 +22,8 @@ pub enum Words<'a> {
     Tree(&'a str),
     /// A plan's run, by the plan's file.
     Run(&'a str),
+    /// The packets of a run, by the file of its text.
+    Pcap(&'a str),
 }
 
 /// Why the words ask for nothing.
@@ -35,7 +37,7 @@ pub enum WordFault {
     Memory,
 }
 
-/// Reads the words after the program's name: `packet HEX`, `tree FILE`, `run FILE` or none.
+/// Reads the words after the program's name: `packet HEX`, `tree FILE`, `run FILE`, `pcap FILE` or none.
 ///
 /// # Errors
 /// Refused where `clap` reads no such command, or is asked for the help or the version.
@@ -59,6 +61,10 @@ pub fn read_words<'a>(alloc: Global, words: &'a [&'a str]) -> Result<Words<'a>, 
         },
         Some(("run", found)) => match found.get_str("text") {
             Some(text) => Ok(Words::Run(text)),
+            None => Err(no_command(alloc)),
+        },
+        Some(("pcap", found)) => match found.get_str("text") {
+            Some(text) => Ok(Words::Pcap(text)),
             None => Err(no_command(alloc)),
         },
         Some(_) => Err(no_command(alloc)),
@@ -104,9 +110,16 @@ fn program<'a>(alloc: Global) -> Result<Command<'a>, AllocError>
         "Runs a plan, and prints each plug, each attempt and the devices that the host found",
         plan_file(alloc),
     )?;
+    let pcap = command(
+        alloc,
+        "pcap",
+        "Writes the packets of a run as a pcap file, for Wireshark",
+        text(alloc, "FILE", "What `run` wrote; `-` is standard input"),
+    )?;
     let with_packet = with_command(plain_program(alloc)?, packet)?;
     let with_tree = with_command(with_packet, tree)?;
-    with_command(with_tree, run)
+    let with_run = with_command(with_tree, run)?;
+    with_command(with_run, pcap)
 }
 
 /// The program before its commands.
@@ -120,7 +133,8 @@ fn plain_program<'a>(alloc: Global) -> Result<Command<'a>, AllocError>
             .version(VERSION)
             .about("Runs a USB host on a simulated bus, as a plan says, or prints one packet")
             .after_help(
-                "With no command it does what `packet` does, with the digits on standard input.",
+                "With no command it does what `packet` does, with the digits on standard input.\n\n\
+                 Packets for Wireshark: usbplan run plan.toml | usbplan pcap - > plan.pcap",
             ),
     )
 }

@@ -12,6 +12,7 @@ Commands:
   packet  Prints the packet that bytes spell, and the bytes
   tree    Runs a plan, and prints the devices that the host found
   run     Runs a plan, and prints each plug, each attempt and the devices that the host found
+  pcap    Writes the packets of a run as a pcap file, for Wireshark
   help    Print this message or the help of the given subcommand(s)
 
 Options:
@@ -19,6 +20,8 @@ Options:
   -V, --version  Print version
 
 With no command it does what `packet` does, with the digits on standard input.
+
+Packets for Wireshark: usbplan run plan.toml | usbplan pcap - > plan.pcap
 ";
 
 const PACKET_HELP: &str = "\

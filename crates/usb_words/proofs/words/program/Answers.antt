@@ -6,5 +6,6 @@ pub returns : goal.returns
 returns c =
     let first = c.in_ok-with_packet.ensures ∙ ap₂ (λ p q. with_subcommand p q.top) c.in_ok-plain_program.ensures c.in_ok-packet.ensures in
     let second = c.in_ok-with_tree.ensures ∙ ap₂ (λ p q. with_subcommand p q.top) first c.in_ok-tree.ensures in
-    subst (λ a. IfOk c.with_command-3.result (λ whole. app_of whole ≡ a))
-    (ap₂ (λ p q. with_subcommand p q.top) second c.in_ok-run.ensures) c.with_command-3.ensures
+    let third = c.in_ok-with_run.ensures ∙ ap₂ (λ p q. with_subcommand p q.top) second c.in_ok-run.ensures in
+    subst (λ a. IfOk c.with_command-4.result (λ whole. app_of whole ≡ a))
+    (ap₂ (λ p q. with_subcommand p q.top) third c.in_ok-pcap.ensures) c.with_command-4.ensures

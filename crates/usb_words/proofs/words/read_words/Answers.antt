@@ -50,3 +50,14 @@ returns-in-Some-get_str-3 c =
       subcommand = sym c.in-Ok.ensures ∙ pair_of c.in-Ok.matches (codes "run") (rows_of found) name arm.rows;
       value = sym (first_value-rows found (codes "text")) ∙ sym c.in-Some-get_str-3.ensures;
     }
+
+pub returns-in-Some-get_str-4 : goal.returns-in-Some-get_str-4
+returns-in-Some-get_str-4 c =
+    let found = found_of c.in-Some-pcap-default.found.now in
+    let arm = c.in-Some-pcap-default.ensures in
+    let name : Some (codes "pcap") ≡ subcommand_name_of c.in-Ok.matches = sym (ap Some c.in-Some-pcap-default.is-pcap) ∙ arm.name in
+    record {
+      rows = rows_of found;
+      subcommand = sym c.in-Ok.ensures ∙ pair_of c.in-Ok.matches (codes "pcap") (rows_of found) name arm.rows;
+      value = sym (first_value-rows found (codes "text")) ∙ sym c.in-Some-get_str-4.ensures;
+    }

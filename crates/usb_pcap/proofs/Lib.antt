@@ -1,0 +1,6 @@
+mod Texts
+mod Reading
+mod Packets
+mod Records
+mod Attempts
+mod Captures

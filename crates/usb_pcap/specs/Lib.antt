@@ -1,0 +1,6 @@
+pub mod Text
+pub mod Packet
+pub mod Attempt
+pub mod Record
+pub mod Report
+pub mod Capture

@@ -1,0 +1,57 @@
+-- Packets and marks at the front of a text, as a trace prints them, with what stands behind them.
+use Rattle.std.specs.Prelude.{ℕ, ◌&&◌, nat_lt, List, [], ◌∷◌, Option, Some, None, codes, option_map, if◌then◌else◌}
+use Rattle.std.specs.Option.{option_and_then}
+use Rattle.usb_packet.specs.declared.TokenKind.{TokenKind}
+use Rattle.usb_packet.specs.declared.TokenKind.TheVariants.{OutTok, InTok, SetupTok}
+use Rattle.usb_packet.specs.declared.Toggle.{Toggle}
+use Rattle.usb_packet.specs.declared.Toggle.TheVariants.{Zero, One}
+use Rattle.usb_packet.specs.declared.Packet.{Packet}
+use Rattle.usb_packet.specs.declared.Packet.TheVariants.{Token, Payload, Ack, Nak, Stall}
+use Rattle.usb_world.specs.declared.wire.Mark.{Mark}
+use Rattle.usb_world.specs.declared.wire.Mark.TheVariants.{Whole, Lost, PreLost, Flipped}
+use Rattle.usb_pcap.specs.Text.{bytes_on, if_found, number_in, strip}
+
+-- an address and an endpoint, where they fit a token
+abbrev pub token_of : TokenKind → ℕ → ℕ × List ℕ → Option (Packet × List ℕ)
+token_of kind addr ep = if nat_lt addr 128 && nat_lt ep.0 16 then Some (Token kind addr ep.0, ep.1) else None
+
+-- ADDRESS.ENDPOINT
+unfoldable pub token_in : TokenKind → List ℕ → Option (Packet × List ℕ)
+token_in kind text = option_and_then (λ addr. option_and_then (λ rest. option_and_then (token_of kind addr.0) (number_in rest)) (strip (codes ".") addr.1)) (number_in text)
+
+abbrev pub data_of : Toggle → List ℕ × List ℕ → Option (Packet × List ℕ)
+data_of toggle ([], rest) = None
+data_of toggle (byte ∷ bytes, rest) = Some (Payload toggle (record { items = byte ∷ bytes }), rest)
+
+-- digits, or a dash for no data
+unfoldable pub data_in : Toggle → List ℕ → Option (Packet × List ℕ)
+data_in toggle text =
+    if_found (strip (codes "-") text) (λ rest. Some (Payload toggle (record { items = [] }), rest))
+    (option_and_then (data_of toggle) (bytes_on [] text))
+
+-- ACK, NAK or STALL
+unfoldable pub handshake_in : List ℕ → Option (Packet × List ℕ)
+handshake_in text =
+    if_found (strip (codes "ACK") text) (λ rest. Some (Ack, rest))
+    (if_found (strip (codes "NAK") text) (λ rest. Some (Nak, rest))
+    (option_map (λ rest. (Stall, rest)) (strip (codes "STALL") text)))
+
+-- a token, a data packet or a handshake
+unfoldable pub packet_in : List ℕ → Option (Packet × List ℕ)
+packet_in text =
+    if_found (strip (codes "SETUP ") text) (token_in SetupTok)
+    (if_found (strip (codes "IN ") text) (token_in InTok)
+    (if_found (strip (codes "OUT ") text) (token_in OutTok)
+    (if_found (strip (codes "DATA0 ") text) (data_in Zero)
+    (if_found (strip (codes "DATA1 ") text) (data_in One) (handshake_in text)))))
+
+-- the number of a flipped bit
+unfoldable pub bit_in : List ℕ → Option (Mark × List ℕ)
+bit_in text = option_and_then (λ bit. if nat_lt bit.0 65536 then option_map (λ rest. (Flipped bit.0, rest)) (strip (codes "]") bit.1) else None) (number_in text)
+
+-- the mark behind a packet, none where damage did nothing to it
+unfoldable pub mark_in : List ℕ → Option (Mark × List ℕ)
+mark_in text =
+    if_found (strip (codes " [lost]") text) (λ rest. Some (Lost, rest))
+    (if_found (strip (codes " [pre lost]") text) (λ rest. Some (PreLost, rest))
+    (if_found (strip (codes " [bit ") text) bit_in (Some (Whole, text))))

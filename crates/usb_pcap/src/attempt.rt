@@ -1,0 +1,180 @@
+//! The line of an attempt.
+ghost use Rattle.std.specs.Prelude.{◌≡◌, IfSome, option_map};
+ghost use Rattle.usb_pcap.specs.Attempt.{IsLineOf, is_ack, is_answer, is_data, answer_in, attempt_in, host_in, next_in, payload_in, read_attempt, reply_in, sends_data};
+
+use crate::packet::{mark_in, packet_in};
+use crate::text::Text;
+use usb_packet::{Packet, TokenKind};
+use usb_world::{Exchange, ExchangeAnswer, Mark, Outgoing};
+
+/// An attempt, as its line in a trace tells it.
+#[derive(Drop)]
+pub struct TracedAttempt {
+    /// Its number.
+    pub number: u64,
+    /// Whether PRE stands before each packet of the host (8.6.5).
+    pub pre: bool,
+    /// Its packets. What no line tells is false.
+    pub exchange: Exchange,
+}
+
+/// The first number that has no time in a pcap file: as many microseconds as 2 ^ 32 seconds have.
+const NO_TIME: u64 = 4_294_967_296_000_000;
+
+/// The attempt that a line is of: its number, the token, the host's data behind SETUP and OUT, the answer, and maybe the
+/// host's ACK. None for any other line.
+pub fn read_attempt(line: &[u8]) -> Option<TracedAttempt>
+    ensures exact { result ≡ read_attempt line.now }
+    ensures found { IfSome result (λ a. IsLineOf line.now a) }
+{
+    attempt_of(line)
+}
+
+#[tactic(auto, unfolding(crate::specs::Attempt::read_attempt))]
+fn attempt_of(line: &[u8]) -> Option<TracedAttempt>
+    ensures { result ≡ read_attempt line.now }
+{
+    let mut text = Text::new(line);
+    let attempt = attempt_in(&mut text)?;
+    if text.is_empty() { Some(attempt) } else { None }
+}
+
+#[tactic(auto, unfolding(crate::specs::Attempt::attempt_in))]
+fn attempt_in(text: &mut Text<'_>) -> Option<TracedAttempt>
+    ensures { attempt_in text.old ≡ option_map (λ a. (a, text.new)) result }
+{
+    let number = text.number()?;
+    if number >= NO_TIME || !text.skip(b" ") {
+        return None;
+    }
+    let pre = text.begins_with(b"PRE ");
+    let token = host_in(pre, text)?;
+    let payload = if sends_data(&token.packet)? {
+        Some(payload_in(pre, text)?)
+    } else {
+        None
+    };
+    let (answer, answer_mark) = answer_in(text)?;
+    let reply = if text.is_empty() {
+        None
+    } else {
+        Some(reply_in(pre, text)?)
+    };
+    Some(TracedAttempt {
+        number,
+        pre,
+        exchange: Exchange {
+            token,
+            payload,
+            answer,
+            answer_mark,
+            reply,
+            address_lost: false,
+            change_cleared: false,
+        },
+    })
+}
+
+/// Whether the host's data follow a token; None for any other packet.
+fn sends_data(packet: &Packet) -> Option<bool>
+    ensures { result ≡ sends_data packet.now }
+{
+    match packet {
+        Packet::Token { kind, .. } => Some(!matches!(kind, TokenKind::InTok)),
+        _ => None,
+    }
+}
+
+/// Reads a packet of the host and its mark.
+#[tactic(auto, unfolding(crate::specs::Attempt::host_in))]
+fn host_in(pre: bool, text: &mut Text<'_>) -> Option<Outgoing>
+    ensures { host_in pre text.old ≡ option_map (λ s. (s, text.new)) result }
+{
+    if pre && !text.skip(b"PRE ") {
+        return None;
+    }
+    let packet = packet_in(text)?;
+    let mark = mark_in(text)?;
+    if matches!(mark, Mark::PreLost) && !pre {
+        return None;
+    }
+    Some(Outgoing { packet, mark })
+}
+
+/// Reads a further packet of the host.
+#[tactic(auto, unfolding(crate::specs::Attempt::next_in))]
+fn next_in(pre: bool, text: &mut Text<'_>) -> Option<Outgoing>
+    ensures { next_in pre text.old ≡ option_map (λ s. (s, text.new)) result }
+{
+    if !text.skip(b" / ") {
+        return None;
+    }
+    host_in(pre, text)
+}
+
+/// Reads the host's data.
+#[tactic(auto, unfolding(crate::specs::Attempt::payload_in))]
+fn payload_in(pre: bool, text: &mut Text<'_>) -> Option<Outgoing>
+    ensures { payload_in pre text.old ≡ option_map (λ s. (s, text.new)) result }
+{
+    let sent = next_in(pre, text)?;
+    if is_data(&sent.packet) {
+        Some(sent)
+    } else {
+        None
+    }
+}
+
+/// Reads the host's ACK.
+#[tactic(auto, unfolding(crate::specs::Attempt::reply_in))]
+fn reply_in(pre: bool, text: &mut Text<'_>) -> Option<Outgoing>
+    ensures { reply_in pre text.old ≡ option_map (λ s. (s, text.new)) result }
+{
+    let sent = next_in(pre, text)?;
+    if is_ack(&sent.packet) {
+        Some(sent)
+    } else {
+        None
+    }
+}
+
+/// Reads the devices' answer and its mark.
+#[tactic(auto, unfolding(crate::specs::Attempt::answer_in))]
+fn answer_in(text: &mut Text<'_>) -> Option<(ExchangeAnswer, Mark)>
+    ensures { answer_in text.old ≡ option_map (λ a. (a, text.new)) result }
+{
+    if text.skip(b" / none") {
+        return Some((ExchangeAnswer::Nothing, Mark::Whole));
+    }
+    if text.skip(b" / collision") {
+        return Some((ExchangeAnswer::Collision, Mark::Whole));
+    }
+    let sent = next_in(false, text)?;
+    if is_answer(&sent.packet) {
+        Some((ExchangeAnswer::One(sent.packet), sent.mark))
+    } else {
+        None
+    }
+}
+
+fn is_data(packet: &Packet) -> bool
+    ensures { result ≡ is_data packet.now }
+{
+    matches!(packet, Packet::Payload { .. })
+}
+
+fn is_ack(packet: &Packet) -> bool
+    ensures { result ≡ is_ack packet.now }
+{
+    matches!(packet, Packet::Ack)
+}
+
+/// Whether devices answer with such a packet.
+fn is_answer(packet: &Packet) -> bool
+    ensures { result ≡ is_answer packet.now }
+{
+    matches!(
+        packet,
+        Packet::Payload { .. } | Packet::Ack | Packet::Nak | Packet::Stall
+    )
+}

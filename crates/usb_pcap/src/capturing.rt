@@ -1,0 +1,172 @@
+//! A run's text in, a pcap file out.
+ghost use Rattle.std.specs.Prelude.{◌≡◌, ◌≢◌, ℕ, List, Option, [], ◌∷◌, ◌++◌, length, nat_lt, take, true, false, Err, IfSome, IsErrOf};
+ghost use Rattle.usb_bus.specs.Watch.{inner_of, has_failed};
+ghost use Rattle.usb_pcap.specs.Capture.{Captures, Comes, LineRecords, StandsAt};
+
+use crate::attempt::read_attempt;
+use crate::record::{HEADER, Records, records_of};
+use crate::report::is_report;
+use arrayvec::ArrayVec;
+use std::io::{Read, Write};
+use thiserror::Error;
+use usb_bus::{Watched, put_piece};
+
+/// Why a text has no whole pcap file.
+#[derive(Clone, Copy, Debug, PartialEq, Eq, Error)]
+pub enum PcapFault {
+    /// The reader failed.
+    #[error("read failed")]
+    Read,
+    /// No run writes the line of this number, or nothing ends it.
+    #[error("pcap: line {0}")]
+    Line(u64),
+    /// There were 2 ^ 64 - 1 reads.
+    #[error("pcap: text too long")]
+    TooLong,
+    /// The writer failed.
+    #[error("write failed")]
+    Write,
+}
+
+/// A line that has begun.
+#[derive(Drop)]
+pub(crate) struct OpenLine {
+    /// Its number, from 1 on, up to the greatest `u64`.
+    number: u64,
+    /// Its first bytes: no line of an attempt has more.
+    front: ArrayVec<u8, 700>,
+    /// Whether it has more.
+    is_long: bool,
+}
+
+/// Reads the text of a run, and writes the header of a pcap file and a record for each packet of its attempts.
+///
+/// # Errors
+/// Read where the reader failed, Line at the first line that no run writes, Write where the writer failed. The records
+/// of the lines before have gone out.
+pub fn capture<R: Read, W: Write>(
+    reader: &mut Watched<R>,
+    writer: &mut Watched<W>,
+) -> Result<(), PcapFault>
+    ensures read { IsErrOf result PcapFault.Read → has_failed reader.new ≡ true }
+    ensures write { IsErrOf result PcapFault.Write → has_failed writer.new ≡ true }
+    ensures captures { IfSome (R.remaining (inner_of reader.old)) (λ text.
+        Captures (W.contents (inner_of writer.old)) (W.contents (inner_of writer.new)) text result) }
+{
+    if put_piece(writer, &HEADER).is_err() {
+        return Err(PcapFault::Write);
+    }
+    let mut line = OpenLine::first();
+    let mut piece = [0u8; 512];
+    'reads: for _ in 0..u64::MAX {
+        let count = match reader.read(&mut piece) {
+            Err(_) => return Err(PcapFault::Read),
+            Ok(0) => return line.end(),
+            Ok(count) => count,
+        };
+        if let Err(fault) = line.take_piece(&piece[..count], writer) {
+            return Err(fault);
+        }
+    }
+    Err(PcapFault::TooLong)
+}
+
+impl OpenLine {
+    /// The first line, of which nothing was read.
+    fn first() -> Self
+        ensures number { result.number ≡ 1 }
+        ensures front { result.front.items ≡ [] }
+        ensures long { result.is_long ≡ false }
+    {
+        OpenLine {
+            number: 1,
+            front: ArrayVec::new(),
+            is_long: false,
+        }
+    }
+
+    /// The text ends: no line may have begun.
+    fn end(&self) -> Result<(), PcapFault>
+        ensures captures { (w now : Option (List ℕ)) (text : List ℕ)
+            → StandsAt w now text self.now → Captures w now text result }
+        ensures line { (result ≢ Err PcapFault.Read) × (result ≢ Err PcapFault.Write) }
+    {
+        if self.front.is_empty() {
+            Ok(())
+        } else {
+            Err(PcapFault::Line(self.number))
+        }
+    }
+
+    /// Takes what was read.
+    fn take_piece<W: Write>(
+        &mut self,
+        piece: &[u8],
+        writer: &mut Watched<W>,
+    ) -> Result<(), PcapFault>
+        ensures comes { (w : Option (List ℕ)) (text : List ℕ)
+            → StandsAt w (W.contents (inner_of writer.old)) text self.old
+            → Comes w (W.contents (inner_of writer.new)) (text ++ piece.now) result self.new }
+        ensures write { IsErrOf result PcapFault.Write → has_failed writer.new ≡ true }
+    {
+        'bytes: for byte in piece {
+            if let Err(fault) = self.take(*byte, writer) {
+                return Err(fault);
+            }
+        }
+        Ok(())
+    }
+
+    /// Takes a byte.
+    fn take<W: Write>(&mut self, byte: u8, writer: &mut Watched<W>) -> Result<(), PcapFault>
+        ensures comes { (w : Option (List ℕ)) (text : List ℕ)
+            → StandsAt w (W.contents (inner_of writer.old)) text self.old
+            → Comes w (W.contents (inner_of writer.new)) (text ++ byte ∷ []) result self.new }
+        ensures write { IsErrOf result PcapFault.Write → has_failed writer.new ≡ true }
+    {
+        if byte == b'\n' {
+            return self.close(writer);
+        }
+        if self.front.len() < 700 {
+            self.front.push(byte);
+        } else {
+            self.is_long = true;
+        }
+        Ok(())
+    }
+
+    /// Writes the records of the line, which has ended, and goes on to the next one.
+    fn close<W: Write>(&mut self, writer: &mut Watched<W>) -> Result<(), PcapFault>
+        ensures comes { (w : Option (List ℕ)) (text : List ℕ)
+            → StandsAt w (W.contents (inner_of writer.old)) text self.old
+            → Comes w (W.contents (inner_of writer.new)) (text ++ 10 ∷ []) result self.new }
+        ensures write { IsErrOf result PcapFault.Write → has_failed writer.new ≡ true }
+    {
+        let Some(records) = line_records(self.front.as_slice(), self.is_long) else {
+            return Err(PcapFault::Line(self.number));
+        };
+        match put_piece(writer, records.as_slice()) {
+            Ok(()) => {
+                self.number = self.number.saturating_add(1);
+                self.front.clear();
+                self.is_long = false;
+                Ok(())
+            }
+            Err(_) => Err(PcapFault::Write),
+        }
+    }
+}
+
+/// The records of a line, by its first bytes; None for a line that no run writes.
+fn line_records(front: &[u8], is_long: bool) -> Option<Records>
+    ensures { IfSome result (λ records. (line : List ℕ) → front.now ≡ take 700 line
+        → is_long ≡ nat_lt 700 (length line) → LineRecords line records.items) }
+{
+    if is_report(front) {
+        return Some(Records::new());
+    }
+    if is_long {
+        return None;
+    }
+    records_of(&read_attempt(front)?)
+}

@@ -1,0 +1,141 @@
+//! What is left of a line, and the words and numbers that it begins with.
+ghost use Rattle.std.specs.Prelude.{◌≡◌, ◌<◌, true, option_map};
+ghost use Rattle.usb_pcap.specs.Text.{bytes_on, is_digit, number_on, value_of};
+
+use arrayvec::{ArrayString, ArrayVec};
+use std::marker::Model;
+use usb_packet::push_decimal;
+
+/// What is left of a line to read.
+#[derive(Drop)]
+pub(crate) struct Text<'a> {
+    rest: &'a [u8],
+}
+
+impl<'a> Model for Text<'a> {
+    ghost use Rattle.std.specs.Prelude.{List, ℕ};
+
+    ghost Value = { List ℕ };
+
+    ghost view = { λ t. t.rest.now };
+}
+
+impl<'a> Text<'a> {
+    ghost use Rattle.std.specs.Prelude.{◌≡◌, ◌==◌, [], false, Some, None, if◌then◌else◌, is_some, length, option_map};
+    ghost use Rattle.usb_pcap.specs.Text.{bytes_on, strip, number_in};
+
+    /// A whole line.
+    pub(crate) fn new(line: &'a [u8]) -> Self
+        ensures { result ≡ line.now }
+    {
+        Text { rest: line }
+    }
+
+    /// Whether nothing is left.
+    pub(crate) fn is_empty(&self) -> bool
+        ensures { result ≡ (length self.now == 0) }
+    {
+        self.rest.is_empty()
+    }
+
+    /// Goes behind a word, and says whether it stood next. Where it did not, nothing changes.
+    pub(crate) fn skip(&mut self, word: &[u8]) -> bool
+        ensures found { strip word.now self.old ≡ (if result then Some self.new else None) }
+        ensures kept { result ≡ false → self.new ≡ self.old }
+    {
+        match self.rest.strip_prefix(word) {
+            Some(rest) => {
+                self.rest = rest;
+                true
+            }
+            None => false,
+        }
+    }
+
+    /// Whether a word stands next.
+    pub(crate) fn begins_with(&self, word: &[u8]) -> bool
+        ensures { result ≡ is_some (strip word.now self.now) }
+    {
+        self.rest.strip_prefix(word).is_some()
+    }
+
+    /// Reads a number below 2 ^ 64, of digits with no zero before them.
+    #[tactic(auto, unfolding(crate::specs::Text::number_in))]
+    pub(crate) fn number(&mut self) -> Option<u64>
+        ensures { number_in self.old ≡ option_map (λ n. (n, self.new)) result }
+    {
+        let number = number_on(0, self.rest)?;
+        let mut digits = ArrayString::new();
+        push_decimal(&mut digits, number);
+        if self.skip(digits.as_str().as_bytes()) {
+            Some(number)
+        } else {
+            None
+        }
+    }
+
+    /// Reads bytes in pairs of upper-case hexadecimal digits, at most 64 of them.
+    pub(crate) fn bytes(&mut self) -> Option<ArrayVec<u8, 64>>
+        ensures { bytes_on [] self.old ≡ option_map (λ b. (b.items, self.new)) result }
+    {
+        match bytes_on(ArrayVec::new(), self.rest) {
+            Some((bytes, rest)) => {
+                self.rest = rest;
+                Some(bytes)
+            }
+            None => None,
+        }
+    }
+}
+
+/// The bytes that a text begins with in pairs of digits, behind these, and what stands behind them; None where they are
+/// more than 64.
+#[tactic(auto, unfolding(crate::specs::Text::bytes_on))]
+fn bytes_on(mut bytes: ArrayVec<u8, 64>, text: &[u8]) -> Option<(ArrayVec<u8, 64>, &[u8])>
+    ensures { option_map (λ r. (r.0.items, r.1.now)) result ≡ bytes_on bytes.items text.now }
+{
+    let [high, low, rest @ ..] = text else {
+        return Some((bytes, text));
+    };
+    if !is_digit(*high) || !is_digit(*low) {
+        return Some((bytes, text));
+    }
+    if bytes.len() >= 64 {
+        return None;
+    }
+    bytes.push(value_of(*high) * 16 + value_of(*low));
+    bytes_on(bytes, rest)
+}
+
+/// The value of the digits that a text begins with, behind those of a value; None where it is 2 ^ 64 or more.
+#[tactic(auto, unfolding(crate::specs::Text::number_on))]
+fn number_on(value: u64, text: &[u8]) -> Option<u64>
+    ensures { result ≡ number_on value text.now }
+{
+    let [digit, rest @ ..] = text else {
+        return Some(value);
+    };
+    if !digit.is_ascii_digit() {
+        return Some(value);
+    }
+    let more = value
+        .checked_mul(10)?
+        .checked_add(u64::from(*digit - b'0'))?;
+    number_on(more, rest)
+}
+
+/// An upper-case hexadecimal digit.
+fn is_digit(c: u8) -> bool
+    ensures { result ≡ is_digit c }
+{
+    c.is_ascii_digit() || matches!(c, b'A'..=b'F')
+}
+
+/// The value of an upper-case hexadecimal digit.
+fn value_of(c: u8) -> u8
+    requires { is_digit c ≡ true }
+    ensures value { result ≡ value_of c }
+    ensures few { result < 16 }
+{
+    if c < b'A' { c - b'0' } else { c - b'A' + 10 }
+}

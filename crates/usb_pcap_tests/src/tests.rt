@@ -1,0 +1,176 @@
+//! A test is a loop over rows: a text, and what is written of it.
+use std::io;
+use std::io::{Error, ErrorKind, Read};
+use std::test::Fail;
+use usb_bus::Watched;
+use usb_pcap::{PcapFault, capture, read_attempt};
+
+/// The header of each file: little endian, version 2.4, link type 294.
+const HEADER: &str = "d4c3b2a1020004000000000000000000ffff000026010000";
+
+/// A text, the records of its file in digits, and the fault that ends it.
+#[derive(Clone, Copy)]
+struct Row {
+    text: &'static str,
+    records: &'static str,
+    fault: Option<PcapFault>,
+}
+
+const ROWS: &[Row] = &[
+    Row {
+        text: "",
+        records: "",
+        fault: None,
+    },
+    // SETUP, DATA0 and ACK, at one microsecond
+    Row {
+        text: "1 SETUP 0.0 / DATA0 8006000100000800 / ACK\n",
+        records: "000000000100000003000000030000002d0010\
+                  00000000010000000b0000000b000000c38006000100000800eb94\
+                  00000000010000000100000001000000d2",
+        fault: None,
+    },
+    // behind the first second
+    Row {
+        text: "3000002 IN 1.1 / NAK\n",
+        records: "03000000020000000300000003000000698158\
+                  030000000200000001000000010000005a",
+        fault: None,
+    },
+    // PRE before each packet of the host alone, and no bytes of a device that does not answer
+    Row {
+        text: "2 PRE IN 0.0 / DATA1 - / PRE ACK\n3 OUT 58.10 / DATA1 - / none\n",
+        records: "000000000200000001000000010000003c\
+                  00000000020000000300000003000000690010\
+                  000000000200000003000000030000004b0000\
+                  000000000200000001000000010000003c\
+                  00000000020000000100000001000000d2\
+                  00000000030000000300000003000000e13a3d\
+                  000000000300000003000000030000004b0000",
+        fault: None,
+    },
+    // a lost packet has a wrong check, a flipped bit is flipped, a lost PRE is its own
+    Row {
+        text: "4 IN 0.0 / DATA1 - / ACK [lost]\n5 PRE IN 0.0 [pre lost] / none\n6 IN 0.0 [bit 8] / none\n",
+        records: "00000000040000000300000003000000690010\
+                  000000000400000003000000030000004b0000\
+                  0000000004000000010000000100000052\
+                  00000000050000000100000001000000bc\
+                  00000000050000000300000003000000690010\
+                  00000000060000000300000003000000690110",
+        fault: None,
+    },
+    // two answers at once, and STALL
+    Row {
+        text: "7 IN 0.0 / collision\n8 IN 0.0 / STALL\n",
+        records: "00000000070000000300000003000000690010\
+                  00000000080000000300000003000000690010\
+                  000000000800000001000000010000001e",
+        fault: None,
+    },
+    // the lines of a report
+    Row {
+        text: "plug 1 hub2\nunplug 1\nlisting 1\n1 address 1 full 12\n1.2 config 0 09 *\n1.2 hub 2 ports 500 mA\n1 product \"A\"\n1 refused lost\nend\nsend 1 done 3\nreceive 1 failed busy\nclear 1 done\nbound 7\n",
+        records: "",
+        fault: None,
+    },
+    // what no run writes; what was before it has gone out
+    Row {
+        text: "1 IN 0.0 / NAK\nhello\n",
+        records: "00000000010000000300000003000000690010000000000100000001000000010000005a",
+        fault: Some(PcapFault::Line(2)),
+    },
+    Row {
+        text: "1 IN 128.0 / NAK\n",
+        records: "",
+        fault: Some(PcapFault::Line(1)),
+    },
+    Row {
+        text: "01 IN 0.0 / NAK\n",
+        records: "",
+        fault: Some(PcapFault::Line(1)),
+    },
+    Row {
+        text: "1 IN 0.0 / NAK [bit 8]\n",
+        records: "",
+        fault: Some(PcapFault::Line(1)),
+    },
+    Row {
+        text: "1 OUT 0.0 / DATA0 0g / ACK\n",
+        records: "",
+        fault: Some(PcapFault::Line(1)),
+    },
+    Row {
+        text: "end\n1 IN 0.0 / NAK",
+        records: "",
+        fault: Some(PcapFault::Line(2)),
+    },
+];
+
+#[test]
+fn files_of_texts(rt: HostRuntime) -> Result<(), Fail> {
+    for row in ROWS {
+        let mut reader = Watched::new(row.text.as_bytes());
+        let mut writer = Watched::new(Vec::new(rt.alloc()));
+        let result = capture(&mut reader, &mut writer);
+        let text = row.text;
+        assert_eq!(rt; result.err(), row.fault, "{text}");
+        let written = hex::encode(rt.alloc(), writer.into_inner().as_slice())?;
+        let wanted = format!(in rt.alloc(); "{}{}", HEADER, row.records)?;
+        assert_eq!(rt; written.as_str(), wanted.as_str(), "{text}");
+    }
+    Ok(())
+}
+
+/// A line of an event may have any length; a line of an attempt may not.
+#[test]
+fn long_lines(rt: HostRuntime) -> Result<(), Fail> {
+    for (begin, fault) in [
+        ("plug 1 ", None),
+        ("1 IN 0.0 / NAK", Some(PcapFault::Line(1))),
+    ] {
+        let mut text = String::from_str(rt.alloc(), begin)?;
+        for _ in 0..2000 {
+            text.push('n')?;
+        }
+        text.push('\n')?;
+        let mut reader = Watched::new(text.as_bytes());
+        let mut writer = Watched::new(Vec::new(rt.alloc()));
+        assert_eq!(rt; capture(&mut reader, &mut writer).err(), fault, "{begin}");
+    }
+    Ok(())
+}
+
+#[test]
+fn one_attempt(rt: HostRuntime) {
+    let attempt = read_attempt(b"5 PRE IN 2.0 / NAK").unwrap();
+    assert_eq!(rt; attempt.number, 5);
+    assert!(rt; attempt.pre);
+}
+
+/// A reader that fails at once.
+#[derive(Drop)]
+struct Broken;
+
+impl Read for Broken {
+    fn read(&mut self, _buf: &mut [u8]) -> io::Result<usize> {
+        Err(Error::from(ErrorKind::Other))
+    }
+}
+
+#[test]
+fn failures(rt: HostRuntime) {
+    let mut reader = Watched::new(Broken);
+    let mut writer = Watched::new(Vec::new(rt.alloc()));
+    assert_eq!(rt;
+        capture(&mut reader, &mut writer).err(),
+        Some(PcapFault::Read)
+    );
+    let mut room = [0u8; 30];
+    let mut reader = Watched::new("1 IN 0.0 / NAK\n".as_bytes());
+    let mut writer = Watched::new(room.as_mut_slice());
+    assert_eq!(rt;
+        capture(&mut reader, &mut writer).err(),
+        Some(PcapFault::Write)
+    );
+}
