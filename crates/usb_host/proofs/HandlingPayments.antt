@@ -45,7 +45,8 @@ has_by : (path : List ℕ) (es : Entries) (port : KnownPort) (above : Option (Li
     → IsSomeAnd above (λ hub. IsSome (hub_facts_at hub es))
 has_by path es port None known some = absurd (cc some)
 has_by path es port (Some hub) known some =
-    let x : FoundPort (finding_at hub es) (is_below_hub hub) (port_on_hub path) port = port_found-some (finding_at hub es) (is_below_hub hub) (port_on_hub path) port known in
+    let x : FoundPort (finding_at hub es) (is_below_hub hub) (port_on_hub path) port =
+    port_found-some (finding_at hub es) (is_below_hub hub) (port_on_hub path) port known in
     ap is_some (ap hub_facts_in x.stands ∙ x.told)
 
 kept_by : (path : List ℕ) (es : Entries) (above : Option (List ℕ)) → parent_of path ≡ above → IsSomeAnd above (λ hub. IsSome (hub_facts_at hub es))
@@ -78,7 +79,8 @@ module _ (c : Weights) (path : List ℕ) (a b : Hosting) (few : b.world.attempts
   port_paid (found x) = let y = mul-le-mul_left (hub_weight c) more in paid (looks_pay c (257200 + 100 * c.most) (c.polls + 12768) a b few x.looks x.strays on (omega (arith, y)))
   port_paid (bare x f) = paid (bare_pays c a b f x)
   port_paid (tidied x f) = paid (bare_pays c a b f (record { looks = x.looks; strays = x.strays; paid = inr x.paid }))
-  port_paid (calm status mid told off steady x f) = idle status mid told off steady (plain_costs c 2000 a b (omega (arith, f.went.spends.most)) x.looks x.strays f.hubs on)
+  port_paid (calm status mid told off steady x f) =
+      idle status mid told off steady (plain_costs c 2000 a b (omega (arith, f.went.spends.most)) x.looks x.strays f.hubs on)
 
   -- A hub that is lost was dropped
 
@@ -121,11 +123,15 @@ module _ (path : List ℕ) (port : KnownPort) (a b d : Hosting) (s : StandsAt pa
         → FinishesAt path served b result d → AtPorts b.world.left
         → IfOk result (λ done. PortPaid c path a d)
     done_pays (Ok done) (Ok x) ends told sound serves finishes ports =
-        subst (PortPaid c path a) (sym finishes.left) (port_paid c path a b (few_served c plan (Ok done) serves w) first.spends.onward serves.hubs (serves.pays.pays w.sound (ports_left c plan a w) here))
+        subst (PortPaid c path a) (sym finishes.left)
+        (port_paid c path a b (few_served c plan (Ok done) serves w) first.spends.onward serves.hubs (serves.pays.pays w.sound (ports_left c plan a w) here))
     done_pays (Err ParentLost) (Ok x) ends told sound serves finishes ports =
-        let has : HasHub path a.entries = has_by path a.entries port (parent_of path) s.known (lost_above path a.entries port b.world told (parent_of path) refl s.known) in
-        paid (lost_paid c path a b (few_served c plan (Err ParentLost) serves w) first.spends.onward serves.hubs d (serves.pays.pays w.sound (ports_left c plan a w) here) ports
-        (finishes.drops.backlog (sound.sound w.sound) still) (omega (arith, second.spends.most)) (finishes.fewer refl (has_hub path a.entries b.entries (serves.served w.sound.owned) has)))
+        let has : HasHub path a.entries =
+        has_by path a.entries port (parent_of path) s.known (lost_above path a.entries port b.world told (parent_of path) refl s.known) in
+        paid
+        (lost_paid c path a b (few_served c plan (Err ParentLost) serves w) first.spends.onward serves.hubs d (serves.pays.pays w.sound (ports_left c plan a w) here) ports
+        (finishes.drops.backlog (sound.sound w.sound) still) (omega (arith, second.spends.most))
+        (finishes.fewer refl (has_hub path a.entries b.entries (serves.served w.sound.owned) has)))
     done_pays (Err (Bus fault)) (Ok x) ends told sound serves finishes ports = absurd (cc ends)
     done_pays (Err Memory) (Ok x) ends told sound serves finishes ports = absurd (cc ends)
     done_pays (Ok done) (Err other) ends told sound serves finishes ports = tt
@@ -144,11 +150,17 @@ module _ (path : List ℕ) (port : KnownPort) (a b d : Hosting) (s : StandsAt pa
 
 pub number_pays : (hub : List ℕ) (number : ℕ) (p : List ℕ) (done : Unit {0}) (a b : Hosting) → p ≡ hub ++ number ∷ []
     → PaysPart handling_most (λ c done. PortPaid c p) a (Ok done) b → PaysPart handling_most (λ c. NumberPaid c hub number) a (Ok Worked) b
-number_pays hub number p done a b is x = record { stops = x.stops; pays = λ c plan w still. subst (λ (q : List ℕ). PortPaid c q a b) is (x.pays c plan w still) }
+number_pays hub number p done a b is x = record {
+  stops = x.stops;
+  pays = λ c plan w still. subst (λ (q : List ℕ). PortPaid c q a b) is (x.pays c plan w still);
+}
 
 pub unknown_pays : (hub : List ℕ) (number : ℕ) (h : Hosting) → (IsPath (hub ++ number ∷ []) → known_port (hub ++ number ∷ []) h.entries ≡ None)
     → PaysPart handling_most (λ c. NumberPaid c hub number) h (Ok Quiet) h
-unknown_pays hub number h unknown = record { stops = λ c plan w. few_stop c (handling_most c) h h (omega arith) (omega arith); pays = λ c plan w still. (refl, unknown) }
+unknown_pays hub number h unknown = record {
+  stops = λ c plan w. few_stop c (handling_most c) h h (omega arith) (omega arith);
+  pays = λ c plan w still. (refl, unknown);
+}
 
 -- A hub was dropped
 

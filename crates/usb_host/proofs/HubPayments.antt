@@ -71,23 +71,30 @@ module _ (c : Weights) (plan : PlanData) (a b : Hosting) (same : b.entries ≡ a
 
   -- an event came
   pub poll_paid : a.world.taken + 1 ≤ b.world.taken → Pays c (c.polls + 16768) a b
-  poll_paid came = plain_pays c 768 (c.polls + 16768) 0 0 0 1 a b (omega (arith, went.spends.most)) (omega (arith, all.looks)) (omega (arith, all.strays)) (omega (arith, no_more)) came (omega arith)
+  poll_paid came =
+      plain_pays c 768 (c.polls + 16768) 0 0 0 1 a b (omega (arith, went.spends.most)) (omega (arith, all.looks)) (omega (arith, all.strays))
+      (omega (arith, no_more)) came (omega arith)
 
   -- the hub did not answer, and was dropped
   pub drop_paid : (d : Hosting) → HostWent drop_bound b d → b.world.fault ≡ None → KeepsAll b.world d.world → hubs d.entries + 1 ≤ hubs b.entries
       → Pays c c.polls a d
   drop_paid d second still drops fewer =
       let then : KeepsBy unmarked unmarked unmarked b.world d.world = drops.all (ports_after 768 c plan a b went w still) unmarked unmarked unmarked few-none in
-      plain_pays c 11968 c.polls 0 0 1 0 a d (omega (arith, went.spends.most, second.spends.most)) (omega (arith, all.looks, then.looks)) (omega (arith, all.strays, then.strays)) (omega (arith, no_more, fewer)) (omega (arith, all.onward, then.onward)) (omega arith)
+      plain_pays c 11968 c.polls 0 0 1 0 a d (omega (arith, went.spends.most, second.spends.most)) (omega (arith, all.looks, then.looks))
+      (omega (arith, all.strays, then.strays)) (omega (arith, no_more, fewer)) (omega (arith, all.onward, then.onward)) (omega arith)
 
 drop_stop : (c : Weights) {w : World} {t : Option (List ℕ)} (a d : Hosting) → WentOn 768 a.world a.trace w t → WentOn drop_bound w t d.world d.trace
     → StopsWithin c (poll_most c) a d
-drop_stop c a d first second = few_stop c (poll_most c) a d (omega (arith, first.spends.most, second.spends.most)) (omega (arith, first.spends.onward, second.spends.onward))
+drop_stop c a d first second =
+    few_stop c (poll_most c) a d (omega (arith, first.spends.most, second.spends.most)) (omega (arith, first.spends.onward, second.spends.onward))
 
 -- and could not be dropped
 pub drop_fails : (hub : List ℕ) {w : World} {t : Option (List ℕ)} (a d : Hosting) → WentOn 768 a.world a.trace w t → WentOn drop_bound w t d.world d.trace
     → (other : Result Round HostFault) → IsErr other → PaysPart poll_most (HubPaid hub) a other d
-drop_fails hub a d first second other e = record { stops = λ c plan w. drop_stop c a d first second; pays = λ c plan w still. on_err other (λ y. HubPaid hub c y a d) e }
+drop_fails hub a d first second other e = record {
+  stops = λ c plan w. drop_stop c a d first second;
+  pays = λ c plan w still. on_err other (λ y. HubPaid hub c y a d) e;
+}
 
 module _ (hub : List ℕ) (a b : Hosting) (agrees : Agrees a.entries a.addresses) (same : b.entries ≡ a.entries) (pool : b.addresses ≡ a.addresses)
     (went : HostWent 768 a b) where
@@ -119,7 +126,8 @@ module _ (hub : List ℕ) (a b : Hosting) (agrees : Agrees a.entries a.addresses
     told_stop : (result : Result (Unit {0}) HostFault) → PaysPart told_most (λ c done. ToldPaid hub bits c) b result d → (c : Weights) (plan : PlanData)
         → WorksOn c plan a → StopsWithin c (poll_most c) a d
     told_stop result x c plan w =
-        stops_after c a b d n 768 (told_most c) (poll_most c) second (poll_stop c (poll_most c) (omega arith)) (λ still. poll_costs c plan a b same went w (keeps.levels.worlds.backlog still)) (λ still. x.stops c plan (works c plan w still)) (omega arith)
+        stops_after c a b d n 768 (told_most c) (poll_most c) second (poll_stop c (poll_most c) (omega arith))
+        (λ still. poll_costs c plan a b same went w (keeps.levels.worlds.backlog still)) (λ still. x.stops c plan (works c plan w still)) (omega arith)
 
     pub told_fails : (result : Result (Unit {0}) HostFault) → PaysPart told_most (λ c done. ToldPaid hub bits c) b result d → (other : Result Round HostFault)
         → IsErr other → PaysPart poll_most (HubPaid hub) a other d
@@ -127,8 +135,10 @@ module _ (hub : List ℕ) (a b : Hosting) (agrees : Agrees a.entries a.addresses
 
     told_paid : (c : Weights) (plan : PlanData) → WorksOn c plan a → b.world.fault ≡ None → ToldPaid hub bits c b d
         → ShowsTold hub bits b ⊎ (a.world.taken + 1 ≤ b.world.taken) → Pays c c.polls a d
-    told_paid c plan w still x (inl shows) = costs_pays c a b d 768 (c.polls + 768) c.polls (poll_costs c plan a b same went w (keeps.levels.worlds.backlog still)) (x.shown shows) (omega arith)
-    told_paid c plan w still x (inr came) = pays_costs c a b d (c.polls + 16768) 16000 c.polls (poll_paid c plan a b same went w (keeps.levels.worlds.backlog still) came) x.costs (omega arith)
+    told_paid c plan w still x (inl shows) =
+        costs_pays c a b d 768 (c.polls + 768) c.polls (poll_costs c plan a b same went w (keeps.levels.worlds.backlog still)) (x.shown shows) (omega arith)
+    told_paid c plan w still x (inr came) =
+        pays_costs c a b d (c.polls + 16768) 16000 c.polls (poll_paid c plan a b same went w (keeps.levels.worlds.backlog still) came) x.costs (omega arith)
 
     pub told_pays : (done : Unit {0}) → PaysPart told_most (λ c done. ToldPaid hub bits c) b (Ok done) d
         → (IsSound a → IsSound b → b.world.fault ≡ None → ShowsTold hub bits b ⊎ (a.world.taken + 1 ≤ b.world.taken))
@@ -145,7 +155,8 @@ module _ (hub : List ℕ) (a b : Hosting) (agrees : Agrees a.entries a.addresses
       (keeps : KeepsPolled hub (table_in a) a.world answer (table_in b) b.world) where
     may_drop : IsSome (hub_facts_at hub a.entries) → IsSound a → IsDroppable hub b
     may_drop listed s =
-        let there : IsSome (finding_at hub b.entries) = subst (λ (es : Entries). IsSome (finding_at hub es)) (sym same) (hub_listed (finding_at hub a.entries) listed) in
+        let there : IsSome (finding_at hub b.entries) =
+        subst (λ (es : Entries). IsSome (finding_at hub es)) (sym same) (hub_listed (finding_at hub a.entries) listed) in
         record {
           listed = there;
           but = but_kept 768 hub (IsOk answer) a b agrees same went keeps.levels s;
@@ -158,21 +169,28 @@ module _ (hub : List ℕ) (a b : Hosting) (agrees : Agrees a.entries a.addresses
       stops = λ c plan w. drop_stop c a d went second;
       pays = λ c plan w still.
           let here : b.world.fault ≡ None = went_sound drop_bound b.world d.world second still in
-          drop_paid c plan a b same went w (keeps.levels.worlds.backlog here) d second here (drops.backlog (may_drop listed w.sound) still) (fewer (subst (λ (es : Entries). IsSome (hub_facts_at hub es)) (sym same) listed));
+          drop_paid c plan a b same went w (keeps.levels.worlds.backlog here) d second here (drops.backlog (may_drop listed w.sound) still)
+          (fewer (subst (λ (es : Entries). IsSome (hub_facts_at hub es)) (sym same) listed));
     }
 
   -- the bus made no more steps
   pub poll_fails : (other : Result Round HostFault) → IsErr other → PaysPart poll_most (HubPaid hub) a other b
-  poll_fails other e = record { stops = λ c plan w. poll_stop c (poll_most c) (omega arith); pays = λ c plan w still. on_err other (λ y. HubPaid hub c y a b) e }
+  poll_fails other e = record {
+    stops = λ c plan w. poll_stop c (poll_most c) (omega arith);
+    pays = λ c plan w still. on_err other (λ y. HubPaid hub c y a b) e;
+  }
 
--- the ports of which it told
-module _ (hub : List ℕ) (a b : Hosting) (agrees : Agrees a.entries a.addresses) (same : b.entries ≡ a.entries) (pool : b.addresses ≡ a.addresses) (stopped : b.stopped ≡ a.stopped) (went : HostWent 768 a b) (listed : IsSome (hub_facts_at hub a.entries)) (got : Option (ArrayVec ℕ))
-    (polled : PipesPolled (pipes_at hub (table_in a)) a.world (Ok got) (pipes_at hub (table_in b)) b.world) (keeps : KeepsPolled hub (table_in a) a.world (Ok got) (table_in b) b.world) where
+-- the ports of which it told show their changes, or an event came
+module _ (hub : List ℕ) (a b : Hosting) (agrees : Agrees a.entries a.addresses) (same : b.entries ≡ a.entries) (pool : b.addresses ≡ a.addresses)
+    (stopped : b.stopped ≡ a.stopped) (went : HostWent 768 a b) (listed : IsSome (hub_facts_at hub a.entries)) (got : Option (ArrayVec ℕ))
+    (polled : PipesPolled (pipes_at hub (table_in a)) a.world (Ok got) (pipes_at hub (table_in b)) b.world)
+    (keeps : KeepsPolled hub (table_in a) a.world (Ok got) (table_in b) b.world) where
   pub tells_shows : (packet : ArrayVec ℕ) (byte : ℕ) → got ≡ Some packet → byte ≡ first_byte packet.items → IsSound a → IsSound b → b.world.fault ≡ None
       → ShowsTold hub byte b ⊎ (a.world.taken + 1 ≤ b.world.taken)
   tells_shows packet byte is read s t still =
       let tells : HubTold hub a.world (Ok got) b.world = hub_tells hub a b same pool stopped went listed got polled keeps s still in
-      let told : ByteTold (BitsOf hub a.world b.world) packet.items = subst (λ (o : Option (ArrayVec ℕ)). PollTells (BitsOf hub a.world b.world) (Ok o)) is tells.tells in
+      let told : ByteTold (BitsOf hub a.world b.world) packet.items =
+      subst (λ (o : Option (ArrayVec ℕ)). PollTells (BitsOf hub a.world b.world) (Ok o)) is tells.tells in
       let bits : byte ≡ told.bits = read ∙ ap first_byte told.is in
       let facts : _ = some_facts (hub_facts_at hub b.entries) (subst (λ (es : Entries). IsSome (hub_facts_at hub es)) (sym same) listed) in
       subst (λ n. ShowsTold hub n b ⊎ (a.world.taken + 1 ≤ b.world.taken)) (sym bits)
@@ -187,7 +205,9 @@ module _ {X : Type 0} (p q : X → Bool) (more : (x : X) → p x ≡ true → q 
 
   count_less : (xs : List X) → count_by p xs ≤ count_by q xs
   count_less [] = omega arith
-  count_less (x ∷ xs) = omega (arith, one_less (p x) (q x) (more x), count_less xs, sum_by-cons (λ (y : X). cond (p y) 1 0) x xs, sum_by-cons (λ (y : X). cond (q y) 1 0) x xs)
+  count_less (x ∷ xs) =
+      omega
+      (arith, one_less (p x) (q x) (more x), count_less xs, sum_by-cons (λ (y : X). cond (p y) 1 0) x xs, sum_by-cons (λ (y : X). cond (q y) 1 0) x xs)
 
   -- one that is new counts
   count_fewer : (xs : List X) → Any (λ x. (p x ≡ false) × (q x ≡ true)) xs → count_by p xs + 1 ≤ count_by q xs
@@ -200,19 +220,24 @@ module _ {X : Type 0} (p q : X → Bool) (more : (x : X) → p x ≡ true → q 
           let none : cond {A = ℕ} (p x) 1 0 ≡ 0 = ap (λ (b : Bool). cond {A = ℕ} b 1 0) here.0 in
           let one : cond {A = ℕ} (q x) 1 0 ≡ 1 = ap (λ (b : Bool). cond {A = ℕ} b 1 0) here.1 in
           omega (arith, none, one, count_less xs, sum_by-cons (λ (y : X). cond (p y) 1 0) x xs, sum_by-cons (λ (y : X). cond (q y) 1 0) x xs)
-      pick more_there (inr later) = omega (arith, one_less (p x) (q x) (more x), more_there later, sum_by-cons (λ (y : X). cond (p y) 1 0) x xs, sum_by-cons (λ (y : X). cond (q y) 1 0) x xs)
+      pick more_there (inr later) =
+          omega
+          (arith, one_less (p x) (q x) (more x), more_there later, sum_by-cons (λ (y : X). cond (p y) 1 0) x xs, sum_by-cons (λ (y : X). cond (q y) 1 0) x xs)
 
 module _ {X : Type 0} (p : X → Bool) where
   count_taken : (m n : ℕ) (xs : List X) → m ≤ n → count_by p (take m xs) ≤ count_by p (take n xs)
   count_taken zero n xs le = omega arith
   count_taken (suc m) n [] le = omega arith
   count_taken (suc m) zero (x ∷ xs) le = absurd (omega (arith, le))
-  count_taken (suc m) (suc n) (x ∷ xs) le = omega (arith, count_taken m n xs (omega (arith, le)), sum_by-cons (λ (y : X). cond (p y) 1 0) x (take m xs), sum_by-cons (λ (y : X). cond (p y) 1 0) x (take n xs))
+  count_taken (suc m) (suc n) (x ∷ xs) le =
+      omega
+      (arith, count_taken m n xs (omega (arith, le)), sum_by-cons (λ (y : X). cond (p y) 1 0) x (take m xs), sum_by-cons (λ (y : X). cond (p y) 1 0) x (take n xs))
 
   count_all : (n : ℕ) (xs : List X) → count_by p (take n xs) ≤ count_by p xs
   count_all zero xs = omega arith
   count_all (suc n) [] = omega arith
-  count_all (suc n) (x ∷ xs) = omega (arith, count_all n xs, sum_by-cons (λ (y : X). cond (p y) 1 0) x (take n xs), sum_by-cons (λ (y : X). cond (p y) 1 0) x xs)
+  count_all (suc n) (x ∷ xs) =
+      omega (arith, count_all n xs, sum_by-cons (λ (y : X). cond (p y) 1 0) x (take n xs), sum_by-cons (λ (y : X). cond (p y) 1 0) x xs)
 
 -- a device is plugged at a path of a lower rank
 abbrev pub plugs_below : ℕ → Action → Bool
@@ -259,12 +284,14 @@ plugged_more events m n r s le on =
 plugged_next : (events : List Event) (m n r s : ℕ) (path : List ℕ) → m ≤ n → r ≤ rank_of path → rank_of path < s → WasPlugged events n path
     → plugged_below events m r + 1 ≤ plugged_below events n s
 plugged_next events m n r s path le least less was =
-    let fewer = count_fewer (λ (e : Event). plugs_below r e.action) (λ (e : Event). plugs_below s e.action) (λ e. below_later r s e.action (omega (arith, least, less))) (take n events)
+    let fewer =
+    count_fewer (λ (e : Event). plugs_below r e.action) (λ (e : Event). plugs_below s e.action) (λ e. below_later r s e.action (omega (arith, least, less))) (take n events)
     (any_wider (λ (e : Event). PlugsAt path e.action) (λ (e : Event). (plugs_below r e.action ≡ false) × (plugs_below s e.action ≡ true)) (λ e. below_new r s path e.action least less) (take n events) was) in
     omega (arith, fewer, count_taken (λ (e : Event). plugs_below r e.action) m n events le)
 
 plugged_most : (events : List Event) (came r : ℕ) → plugged_below events came r ≤ length events
-plugged_most events came r = omega (arith, count_all (λ (e : Event). plugs_below r e.action) came events, count_by-le-length (λ (e : Event). plugs_below r e.action) events)
+plugged_most events came r =
+    omega (arith, count_all (λ (e : Event). plugs_below r e.action) came events, count_by-le-length (λ (e : Event). plugs_below r e.action) events)
 
 pub rank_before : (last : Option (List ℕ)) (path : List ℕ) → IfSome last IsPath → IsPath path → ComesAfter last path → rank_after last ≤ rank_of path
 rank_before last path before is after = omega (arith, rank_rises last path before is after)
@@ -346,7 +373,8 @@ module _ (m n : ℕ) (last : Option (List ℕ)) (hub : List ℕ) (round : Round)
         paid = worked_next c z.polls round a b d z.paid y;
       }
       polled c plan w still Quiet y z =
-          let was : WasPlugged plan.events d.world.taken hub = plugged_there plan w.is w.paths d.world (course_joined w.course (went_course n b.world d.world second still)) hub y.1 in
+          let was : WasPlugged plan.events d.world.taken hub =
+          plugged_there plan w.is w.paths d.world (course_joined w.course (went_course n b.world d.world second still)) hub y.1 in
           record {
             polls = z.polls + 1;
             few = omega (arith, z.few, plugged_next plan.events b.world.taken d.world.taken (rank_after last) (rank_after (Some hub)) hub second.spends.onward rises (omega arith) was);

@@ -71,7 +71,8 @@ pub looks_pay : (c : Weights) (n spare : ℕ) (a b : Hosting) → b.world.attemp
     → strays_by unmarked unmarked b.world.roots + a.world.taken ≤ strays_by unmarked unmarked a.world.roots + 1 + b.world.taken → a.world.taken ≤ b.world.taken
     → n + hub_weight c * hubs b.entries + spare ≤ hub_weight c * hubs a.entries + 301136 + 100 * c.most + 2 * c.polls → Pays c spare a b
 looks_pay c n spare a b few looks strays on fits =
-    sums_look c.most c.polls n (hubs a.entries) (hubs b.entries) spare a.world.attempts b.world.attempts (looks_by unmarked a.world.roots) (looks_by unmarked b.world.roots) (strays_by unmarked unmarked a.world.roots)
+    sums_look c.most c.polls n (hubs a.entries) (hubs b.entries) spare a.world.attempts b.world.attempts (looks_by unmarked a.world.roots)
+    (looks_by unmarked b.world.roots) (strays_by unmarked unmarked a.world.roots)
     (strays_by unmarked unmarked b.world.roots) a.world.taken b.world.taken few looks strays on fits
 
 -- so many looks, other changes, hubs and events are paid
@@ -80,14 +81,16 @@ pub plain_pays : (c : Weights) (n spare i j f g : ℕ) (a b : Hosting) → b.wor
     → strays_by unmarked unmarked b.world.roots + j + a.world.taken ≤ strays_by unmarked unmarked a.world.roots + b.world.taken → hubs b.entries + f ≤ hubs a.entries → a.world.taken + g ≤ b.world.taken
     → n + spare ≤ look_weight c * i + stray_weight c * j + hub_weight c * f + (344272 + 100 * c.most + 4 * c.polls) * g → Pays c spare a b
 plain_pays c n spare i j f g a b few looks strays fewer on fits =
-    sums_plain c.most c.polls n spare i j f g a.world.attempts b.world.attempts (looks_by unmarked a.world.roots) (looks_by unmarked b.world.roots) (strays_by unmarked unmarked a.world.roots)
+    sums_plain c.most c.polls n spare i j f g a.world.attempts b.world.attempts (looks_by unmarked a.world.roots) (looks_by unmarked b.world.roots)
+    (strays_by unmarked unmarked a.world.roots)
     (strays_by unmarked unmarked b.world.roots) (hubs a.entries) (hubs b.entries) a.world.taken b.world.taken few looks strays fewer on fits
 
 pub plain_costs : (c : Weights) (n : ℕ) (a b : Hosting) → b.world.attempts ≤ a.world.attempts + n
     → looks_by unmarked b.world.roots + 7 * a.world.taken ≤ looks_by unmarked a.world.roots + 7 * b.world.taken
     → strays_by unmarked unmarked b.world.roots + a.world.taken ≤ strays_by unmarked unmarked a.world.roots + b.world.taken → hubs b.entries ≤ hubs a.entries → a.world.taken ≤ b.world.taken → Costs c n a b
 plain_costs c n a b few looks strays fewer on =
-    sums_costs c.most c.polls n a.world.attempts b.world.attempts (looks_by unmarked a.world.roots) (looks_by unmarked b.world.roots) (strays_by unmarked unmarked a.world.roots) (strays_by unmarked unmarked b.world.roots)
+    sums_costs c.most c.polls n a.world.attempts b.world.attempts (looks_by unmarked a.world.roots) (looks_by unmarked b.world.roots)
+    (strays_by unmarked unmarked a.world.roots) (strays_by unmarked unmarked b.world.roots)
     (hubs a.entries) (hubs b.entries) a.world.taken b.world.taken few looks strays fewer on
 
 pub few_stop : (c : Weights) (n : ℕ) (a b : Hosting) → b.world.attempts ≤ a.world.attempts + n → a.world.taken ≤ b.world.taken → StopsWithin c n a b
@@ -145,6 +148,7 @@ pub on_err : {A : Type 0} (result : Result A HostFault) (P : A → Type 0) → I
 on_err (Ok x) P e = absurd (cc e)
 on_err (Err fault) P e = tt
 
-pub part_failed : {A B : Type 0} (result : Result A HostFault) (inner : Result B HostFault) (most : Weights → ℕ) (Done : Weights → A → Hosting → Hosting → Type 0) (Other : Weights → B → Hosting → Hosting → Type 0) (a b : Hosting)
+pub part_failed : {A B : Type 0} (result : Result A HostFault) (inner : Result B HostFault) (most : Weights → ℕ)
+    (Done : Weights → A → Hosting → Hosting → Type 0) (Other : Weights → B → Hosting → Hosting → Type 0) (a b : Hosting)
     → IsErr result → PaysPart most Other a inner b → PaysPart most Done a result b
 part_failed result inner most Done Other a b e x = record { stops = x.stops; pays = λ c plan w work. on_err result (λ y. Done c y a b) e }

@@ -54,13 +54,18 @@ module _ (m : ℕ) (roots : Round) (a b : Hosting) (first : HostWent m a b) (sta
   module _ (n : ℕ) (d : Hosting) (second : HostWent n b d) where
     hubs_stop : (c : Weights) (plan : PlanData) (result : Result Round HostFault) → PaysPart hubs_most RoundPaid b result d → Affords c plan a → Stops c a d
     hubs_stop c plan result y w =
-        stops_after c a b d n 0 (hubs_most c) (event_weight c) second (stops_more c a b (handling_most c) (event_weight c) (x.stops c plan w.works) (omega arith)) (roots_cost c plan w)
+        stops_after c a b d n 0 (hubs_most c) (event_weight c) second
+        (stops_more c a b (handling_most c) (event_weight c) (x.stops c plan w.works) (omega arith)) (roots_cost c plan w)
         (λ still. y.stops c plan (works_on m c plan a b first w.works (stays.sound.sound w.works.sound) still)) (omega arith)
 
     -- the hubs failed
     pub hubs_fail : (c : Weights) (plan : PlanData) (inner : Result Round HostFault) (result : Result Round HostFault) → IsErr result
         → PaysPart hubs_most RoundPaid b inner d → Affords c plan a → PaysRound c plan a result d
-    hubs_fail c plan inner result e y w = record { most = hubs_stop c plan inner y w; pays = λ still. on_err result (λ round. RoundPaid c round a d) e; plugs = on_failed result (d.world.fault ≡ None → HasPlugs plan.events d) e }
+    hubs_fail c plan inner result e y w = record {
+      most = hubs_stop c plan inner y w;
+      pays = λ still. on_err result (λ round. RoundPaid c round a d) e;
+      plugs = on_failed result (d.world.fault ≡ None → HasPlugs plan.events d) e;
+    }
 
     module _ (hubs : Round) (next : PartStays b d) (y : PaysPart hubs_most RoundPaid b (Ok hubs) d) where
       both_paid : (c : Weights) (roots : Round) (hubs : Round) → RootsPaid c roots a b → RoundPaid c hubs b d → RoundPaid c (either roots hubs) a d
@@ -92,12 +97,17 @@ module _ (m : ℕ) (roots : Round) (a b : Hosting) (first : HostWent m a b) (sta
         looks_stop : (c : Weights) (plan : PlanData) (result : Result Round HostFault) → LooksKeep d result e → Affords c plan a → Stops c a e
         looks_stop c plan result z w =
             stops_after c a d e k c.polls 0 (event_weight c) third (hubs_stop c plan (Ok hubs) y w) (hubs_cost c plan w)
-            (λ still. subst (λ (h : Hosting). StopsWithin c 0 d h) (sym (z.idle (waits_none c plan w still)).1) (few_stop c 0 d d (omega arith) (omega arith))) (omega arith)
+            (λ still. subst (λ (h : Hosting). StopsWithin c 0 d h) (sym (z.idle (waits_none c plan w still)).1) (few_stop c 0 d d (omega arith) (omega arith)))
+            (omega arith)
 
         -- the second looks failed
         pub looks_fail : (c : Weights) (plan : PlanData) (inner : Result Round HostFault) (result : Result Round HostFault) → IsErr result
             → LooksKeep d inner e → Affords c plan a → PaysRound c plan a result e
-        looks_fail c plan inner result f z w = record { most = looks_stop c plan inner z w; pays = λ still. on_err result (λ round. RoundPaid c round a e) f; plugs = on_failed result (e.world.fault ≡ None → HasPlugs plan.events e) f }
+        looks_fail c plan inner result f z w = record {
+          most = looks_stop c plan inner z w;
+          pays = λ still. on_err result (λ round. RoundPaid c round a e) f;
+          plugs = on_failed result (e.world.fault ≡ None → HasPlugs plan.events e) f;
+        }
 
         -- all was done
         pub parts_pay : (c : Weights) (plan : PlanData) (looks : Round) → LooksKeep d (Ok looks) e → Affords c plan a
@@ -107,7 +117,8 @@ module _ (m : ℕ) (roots : Round) (a b : Hosting) (first : HostWent m a b) (sta
           pays = λ still.
               let here : d.world.fault ≡ None = went_sound k d.world e.world third still in
               let idle : _ = z.idle (waits_none c plan w here) in
-              let paid : RoundPaid c (either roots hubs) a e = subst (λ (h : Hosting). RoundPaid c (either roots hubs) a h) (sym idle.1) (all_paid c plan w here) in
+              let paid : RoundPaid c (either roots hubs) a e =
+              subst (λ (h : Hosting). RoundPaid c (either roots hubs) a h) (sym idle.1) (all_paid c plan w here) in
               subst (λ (r : Round). RoundPaid c r a e) (sym (either_quiet (either roots hubs) looks idle.0)) paid;
           plugs = λ still.
               let here : d.world.fault ≡ None = went_sound k d.world e.world third still in

@@ -97,7 +97,12 @@ weigh row i weight = pick (slice_get row i) refl
     }
 
     pick : (o : Option PortState) → slice_get row i ≡ o → Weighed row i weight
-    pick None there = record { times = 0; few = omega arith; is = subst (λ (o : Option PortState). weight_of o weight ≡ weight * 0) (sym there) (omega arith); so = λ some. absurd (omega (arith, some)) }
+    pick None there = record {
+      times = 0;
+      few = omega arith;
+      is = subst (λ (o : Option PortState). weight_of o weight ≡ weight * 0) (sym there) (omega arith);
+      so = λ some. absurd (omega (arith, some));
+    }
     pick (Some p) there = at p there (has_change p) refl
 
 module _ (row : List PortState) where
@@ -187,7 +192,8 @@ shallow : (spec : Spec) (tier supply chosen : ℕ) (facts : HubFacts) → verdic
 unfolding verdict
 shallow spec tier supply chosen facts e hub last =
     let row : (is_hub_device spec.descriptor && tier == 7) ≡ false =
-    deep_row spec.silent spec.busy spec.stalls.device (not (is_ok (device_head_of spec.low (take 8 spec.descriptor)))) spec.stalls.address (not (is_device spec.low (take 18 spec.descriptor))) (is_hub_device spec.descriptor && tier == 7)
+    deep_row spec.silent spec.busy spec.stalls.device (not (is_ok (device_head_of spec.low (take 8 spec.descriptor)))) spec.stalls.address
+    (not (is_device spec.low (take 18 spec.descriptor))) (is_hub_device spec.descriptor && tier == 7)
     (read_verdict spec supply (first_fault spec (configuration_count spec.descriptor))) chosen e in
     let on : (is_hub_device spec.descriptor && tier == 7) ≡ true = rw (hub_by spec facts hub, eq-eqb tier 7 last) refl in
     cc (row, on)
@@ -225,7 +231,8 @@ up_on k (m ∷ p) hub some way on = reach_on_way k m p hub way on
 
 -- each port of which it told
 
-module _ (hub : List ℕ) (a b : Hosting) (agrees : Agrees b.entries b.addresses) (s : IsSound a) (t : IsSound b) (before : a.world.fault ≡ None) (still : b.world.fault ≡ None) (facts : HubFacts) (there : HubThere hub b.entries facts) (reached : reach b.world.roots hub ≡ true)
+module _ (hub : List ℕ) (a b : Hosting) (agrees : Agrees b.entries b.addresses) (s : IsSound a) (t : IsSound b) (before : a.world.fault ≡ None)
+    (still : b.world.fault ≡ None) (facts : HubFacts) (there : HubThere hub b.entries facts) (reached : reach b.world.roots hub ≡ true)
     (bits : ℕ) (x : BitsOf hub a.world b.world bits) where
   abbrev device_at : State
   device_at = (reached_there b.world.roots hub reached).0
@@ -253,12 +260,14 @@ module _ (hub : List ℕ) (a b : Hosting) (agrees : Agrees b.entries b.addresses
   deep_by None is o e some long = let one : length hub ≡ 1 = ap length (root_alone hub path.0 is) in absurd (omega (arith, one, long))
   deep_by (Some up) is None e some long = cc some
   deep_by (Some up) is (Some port) e some long =
-      let f : FoundPort (finding_at up b.entries) (is_below_hub up) (port_on_hub hub) port = port_found-some (finding_at up b.entries) (is_below_hub up) (port_on_hub hub) port e in
+      let f : FoundPort (finding_at up b.entries) (is_below_hub up) (port_on_hub hub) port =
+      port_found-some (finding_at up b.entries) (is_below_hub up) (port_on_hub hub) port e in
       let shorter : _ = parent_length hub up is in
       let on : reach b.world.roots up ≡ true = up_on b.world.roots up hub shorter.1 (way_parent hub up is) reached in
       let st : _ = reached_there b.world.roots up on in
       let told : IsTruthOf b.entries up f.device st.0 = t.truthful still up f.device st.0 (ap accepted_device_of f.stands) on st.1 in
-      shallow st.0.spec (tier_of up) (known_supply up b.entries) f.device.chosen f.facts told.found.0 (sym told.found.1.hub ∙ f.told) (omega (arith, shorter.0, long))
+      shallow st.0.spec (tier_of up) (known_supply up b.entries) f.device.chosen f.facts told.found.0 (sym told.found.1.hub ∙ f.told)
+      (omega (arith, shorter.0, long))
 
   -- no hub stands in the last tier
   above_last : length hub ≤ 6
@@ -277,7 +286,9 @@ module _ (hub : List ℕ) (a b : Hosting) (agrees : Agrees b.entries b.addresses
     changed = bit_changed (row_of x.ports) i less (subst (λ n. has_bit n (suc i) ≡ true) x.told set)
 
     port_then : port_there x.mid.roots (hub ++ (suc i ∷ [])) ≡ Some changed.0
-    port_then = subst (λ (k : Ports). port_there k (hub ++ (suc i ∷ [])) ≡ Some changed.0) same (row_port_of hub (ready x.mid).roots x.port x.state x.ports i x.stood ∙ changed.1)
+    port_then =
+        subst (λ (k : Ports). port_there k (hub ++ (suc i ∷ [])) ≡ Some changed.0) same
+        (row_port_of hub (ready x.mid).roots x.port x.state x.ports i x.stood ∙ changed.1)
 
     steady : changed.0.enable_changed ≡ false
     steady =
@@ -286,7 +297,9 @@ module _ (hub : List ℕ) (a b : Hosting) (agrees : Agrees b.entries b.addresses
 
     -- it shows its change
     shows_port : ShowsChange b.world (hub ++ (suc i ∷ []))
-    shows_port = shows_on x.mid b.world hub (suc i) x.since (row_on b.world.roots hub reached) (record { port = changed.0; there = port_then; changed = no_enable changed.0.connection_changed changed.0.enable_changed changed.0.reset_changed steady changed.2 })
+    shows_port =
+        shows_on x.mid b.world hub (suc i) x.since (row_on b.world.roots hub reached)
+        (record { port = changed.0; there = port_then; changed = no_enable changed.0.connection_changed changed.0.enable_changed changed.0.reset_changed steady changed.2 })
 
     -- and the hub has it
     within : suc i ≤ facts.ports
@@ -301,8 +314,10 @@ module _ (hub : List ℕ) (a b : Hosting) (agrees : Agrees b.entries b.addresses
     known_there : IsPath (hub ++ (suc i ∷ [])) × IsSome (known_port (hub ++ (suc i ∷ [])) b.entries)
     known_there =
         let above : parent_of (hub ++ (suc i ∷ [])) ≡ Some hub = parent hub (suc i) path.0 in
-        let number : suc i ≡ port_on_hub (hub ++ (suc i ∷ [])) = same_last hub (suc i) (port_on_hub (hub ++ (suc i ∷ []))) (rejoined (hub ++ (suc i ∷ [])) hub above) in
-        let some : IsSome (port_below (Some hub) (suc i) b.entries) = known_by (finding_at hub b.entries) there.device facts (is_below_hub hub) (suc i) there.found there.told within in
+        let number : suc i ≡ port_on_hub (hub ++ (suc i ∷ [])) =
+        same_last hub (suc i) (port_on_hub (hub ++ (suc i ∷ []))) (rejoined (hub ++ (suc i ∷ [])) hub above) in
+        let some : IsSome (port_below (Some hub) (suc i) b.entries) =
+        known_by (finding_at hub b.entries) there.device facts (is_below_hub hub) (suc i) there.found there.told within in
         (path_of_port i less, subst (λ (p : Option (List ℕ)). IsSome (port_below p (port_on_hub (hub ++ (suc i ∷ []))) b.entries)) (sym above) (subst (λ n. IsSome (port_below (Some hub) n b.entries)) number some))
 
   module _ (same : (ready x.mid).roots ≡ x.mid.roots) where

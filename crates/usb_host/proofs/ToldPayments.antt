@@ -40,7 +40,8 @@ still_shows b o x (inr e) = (x.now, x.stands, inr (x.reset e))
 -- it shows it as long as nothing is asked of it, and the device above it is reached
 pub shows_on : (w v : World) (q : List ℕ) (n : ℕ) → AllRest w v → row_reached v.roots q ≡ true → ShowsChange w (q ++ (n ∷ [])) → ShowsChange v (q ++ (n ∷ []))
 shows_on w v q n rest on x =
-    let y : _ = still_shows x.port (port_there v.roots (q ++ (n ∷ []))) (course_bits q n (course_wider (λ s u k. k.leaves) (rest (q ++ (n ∷ [])))) on x.port x.there) x.changed in
+    let y : _ =
+    still_shows x.port (port_there v.roots (q ++ (n ∷ []))) (course_bits q n (course_wider (λ s u k. k.leaves) (rest (q ++ (n ∷ [])))) on x.port x.there) x.changed in
     record { port = y.0; there = y.1; changed = y.2 }
 
 -- so its status tells of it
@@ -48,15 +49,18 @@ status_shows : (w : World) (p : List ℕ) (status : PortStatus) (b : PortState) 
     → status.connection_changed ≡ false → status.reset_changed ≡ false → ⊥
 status_shows w p status b there is x quiet steady =
     let same : b ≡ x.port = same_Some b x.port (sym there ∙ x.there) in
-    let connection : x.port.connection_changed ≡ false = ap (λ (y : PortState). y.connection_changed) (sym same) ∙ ap (λ (s : PortStatus). s.connection_changed) (sym is) ∙ quiet in
-    let reset : x.port.reset_changed ≡ false = ap (λ (y : PortState). y.reset_changed) (sym same) ∙ ap (λ (s : PortStatus). s.reset_changed) (sym is) ∙ steady in
+    let connection : x.port.connection_changed ≡ false =
+    ap (λ (y : PortState). y.connection_changed) (sym same) ∙ ap (λ (s : PortStatus). s.connection_changed) (sym is) ∙ quiet in
+    let reset : x.port.reset_changed ≡ false =
+    ap (λ (y : PortState). y.reset_changed) (sym same) ∙ ap (λ (s : PortStatus). s.reset_changed) (sym is) ∙ steady in
     elim x.changed [ inl e ↦ cc (connection, e) | inr e ↦ cc (reset, e) ]
 
 pub told_shows : (w v : World) (p : List ℕ) (status : PortStatus) → PortTold p status w v → ShowsChange w p → status.connection_changed ≡ false
     → status.reset_changed ≡ false → ⊥
 told_shows w v p status t x quiet steady =
     let on : row_reached t.now.roots t.row.parent ≡ true = row_back t.now v t.row.parent t.since t.row.reached in
-    let there : ShowsChange t.now (t.row.parent ++ (t.row.number ∷ [])) = shows_on w t.now t.row.parent t.row.number t.before on (subst (ShowsChange w) t.row.is x) in
+    let there : ShowsChange t.now (t.row.parent ++ (t.row.number ∷ [])) =
+    shows_on w t.now t.row.parent t.row.number t.before on (subst (ShowsChange w) t.row.is x) in
     status_shows t.now p status t.port t.stood t.is (subst (ShowsChange t.now) (sym t.row.is) there) quiet steady
 
 pub changed_paid : (c : Weights) (p : List ℕ) (a b : Hosting) → ShowsChange a.world p → PortPaid c p a b → Pays c (c.polls + 12768) a b
@@ -140,7 +144,8 @@ told_none hub bits h = record {
 
 clear_next : (bits number : ℕ) → has_bit bits number ≡ false → ((n : ℕ) → 1 ≤ n → n < number → has_bit bits n ≡ false) → (n : ℕ) → 1 ≤ n → n < number + 1
     → has_bit bits n ≡ false
-clear_next bits number quiet before n least less = below_more (λ k. 1 ≤ k → has_bit bits k ≡ false) number (λ k lt first. before k first lt) (λ first. quiet) n less least
+clear_next bits number quiet before n least less =
+    below_more (λ k. 1 ≤ k → has_bit bits k ≡ false) number (λ k lt first. before k first lt) (λ first. quiet) n less least
 
 -- the bit of the number is not set
 pub told_clear : (hub : List ℕ) (bits number : ℕ) (a b : Hosting) → has_bit bits number ≡ false → ToldSoFar hub bits number a b
@@ -182,7 +187,8 @@ module _ (m n : ℕ) (hub : List ℕ) (bits number : ℕ) (least : 1 ≤ number)
     stops = told_stop (Ok round) x;
     costs = λ c plan w still.
         let here : b.world.fault ≡ None = went_sound n b.world d.world second still in
-        costs_then c a b d (2000 * number) 2000 (2000 * (number + 1)) (before.costs c plan w here) (number_costs c hub number round b d (x.pays c plan (works_on m c plan a b first w (sound.sound.sound w.sound) here) still)) (omega arith);
+        costs_then c a b d (2000 * number) 2000 (2000 * (number + 1)) (before.costs c plan w here)
+        (number_costs c hub number round b d (x.pays c plan (works_on m c plan a b first w (sound.sound.sound w.sound) here) still)) (omega arith);
     shown = λ c plan w still s.
         let here : b.world.fault ≡ None = went_sound n b.world d.world second still in
         let one : NumberPaid c hub number round b d = x.pays c plan (works_on m c plan a b first w (sound.sound.sound w.sound) here) still in
@@ -192,7 +198,8 @@ module _ (m n : ℕ) (hub : List ℕ) (bits number : ℕ) (least : 1 ≤ number)
       after : (c : Weights) → ShowsTold hub bits a → NumberPaid c hub number round b d → NoneBelow bits number a b ⊎ LeftOver c number a b
           → LeftOver c (number + 1) a d
       after c s one (inl y) =
-          let pays : Pays c (c.polls + 12768) a d = first_paid c hub bits number round a d least most on s (subst (λ (h : Hosting). NumberPaid c hub number round h d) y.same one) in
+          let pays : Pays c (c.polls + 12768) a d =
+          first_paid c hub bits number round a d least most on s (subst (λ (h : Hosting). NumberPaid c hub number round h d) y.same one) in
           omega (arith, pays, least)
       after c s one (inr y) = let costs : Costs c 2000 b d = number_costs c hub number round b d one in omega (arith, y, costs)
 
