@@ -13,3 +13,4 @@ pub mod RoundEnds
 pub mod Transcripts
 pub mod Refused
 pub mod AskedItems
+pub mod Interface
