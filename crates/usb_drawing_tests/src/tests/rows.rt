@@ -9,7 +9,7 @@ pub(super) struct Row {
     pub(super) ascii: &'static str,
 }
 
-const A_FUNCTION: Row = Row {
+pub(super) const A_FUNCTION: Row = Row {
     name: "a function",
     plan: r#"limit = 10000
 roots = 1

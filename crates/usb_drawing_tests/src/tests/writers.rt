@@ -1,5 +1,5 @@
-//! A writer that fails behind so many bytes: what went out of each row, and the fault that is told.
-use super::rows::{ROWS, Row};
+//! A writer that fails behind so many bytes: what went out of a row, and the fault that is told.
+use super::rows::{A_FUNCTION, Row};
 use std::alloc::Global;
 use std::io;
 use std::io::{Error, ErrorKind, Write};
@@ -57,10 +57,8 @@ fn is_front(alloc: Global, row: &Row, room: usize) -> bool {
 
 #[test]
 fn a_full_writer_has_a_front_of_the_text(rt: HostRuntime) -> Result<(), Fail> {
-    for row in &ROWS {
-        for room in 0..=row.lines.len() {
-            assert!(rt; is_front(rt.alloc(), row, room), "{} in {room} bytes", row.name);
-        }
+    for room in 0..=A_FUNCTION.lines.len() {
+        assert!(rt; is_front(rt.alloc(), &A_FUNCTION, room), "{room} bytes");
     }
     Ok(())
 }
