@@ -79,7 +79,8 @@ pub(crate) fn push_class(
         Some(word) => out.extend_from_slice(word.as_bytes()),
         None => {
             out.extend_from_slice(b"class ")?;
-            out.extend_from_slice(hex::encode(alloc, &[codes.class])?.as_bytes())
+            let bytes: &[u8] = &[codes.class];
+            out.extend_from_slice(hex::encode(alloc, bytes)?.as_bytes())
         }
     }
 }
@@ -88,27 +89,27 @@ pub(crate) fn push_class(
 fn class_word(codes: ClassCodes) -> Option<&'static str>
     ensures { MatchOption result (class_word codes ≡ None) (λ w. class_word codes ≡ Some w.now) }
 {
-    Some(match codes.class {
-        0x01 => "audio",
-        0x02 => "communications",
-        0x03 => hid_word(codes),
-        0x05 => "physical",
-        0x06 => "image",
-        0x07 => "printer",
-        0x08 => "mass storage",
-        0x09 => "hub",
-        0x0a => "communications data",
-        0x0b => "smart card",
-        0x0d => "content security",
-        0x0e => "video",
-        0x0f => "health care",
-        0xdc => "diagnostic",
-        0xe0 => "wireless",
-        0xef => "miscellaneous",
-        0xfe => "application-specific",
-        0xff => "vendor-specific",
-        _ => return None,
-    })
+    match codes.class {
+        0x01 => Some("audio"),
+        0x02 => Some("communications"),
+        0x03 => Some(hid_word(codes)),
+        0x05 => Some("physical"),
+        0x06 => Some("image"),
+        0x07 => Some("printer"),
+        0x08 => Some("mass storage"),
+        0x09 => Some("hub"),
+        0x0a => Some("communications data"),
+        0x0b => Some("smart card"),
+        0x0d => Some("content security"),
+        0x0e => Some("video"),
+        0x0f => Some("health care"),
+        0xdc => Some("diagnostic"),
+        0xe0 => Some("wireless"),
+        0xef => Some("miscellaneous"),
+        0xfe => Some("application-specific"),
+        0xff => Some("vendor-specific"),
+        _ => None,
+    }
 }
 
 /// What a human interface device is: a boot interface says it by its protocol.

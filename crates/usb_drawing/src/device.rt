@@ -92,8 +92,8 @@ fn push_word(alloc: Global, out: &mut Vec<u8>, bytes: &[u8], at: usize) -> Resul
     requires { at + 1 < length bytes.now }
     ensures { OnOk result (out.new.items ≡ out.old.items ++ word_digits bytes.now at) }
 {
-    let digits = hex::encode(alloc, &[bytes[at + 1], bytes[at]])?;
-    out.extend_from_slice(digits.as_bytes())
+    let word: &[u8] = &[bytes[at + 1], bytes[at]];
+    out.extend_from_slice(hex::encode(alloc, word)?.as_bytes())
 }
 
 /// Adds what a configuration draws, of what its port gives where that is known.

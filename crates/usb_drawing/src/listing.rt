@@ -3,12 +3,12 @@ ghost use Rattle.std.specs.Prelude.{◌≡◌, ◌+◌, ◌++◌, ◌∷◌, All
 ghost use Rattle.usb_enum.specs.declared.finding.Finding.{Finding as AFinding};
 ghost use Rattle.usb_table.specs.Entries.{Entries};
 ghost use Rattle.usb_drawing.specs.declared.art.Style.{Style as AStyle};
-ghost use Rattle.usb_drawing.specs.Drawings.{IsOneLine, deepest, drawing_lines, entry_line, entry_lines, finding_supply, gap, granted_at, heading, heading_end, supply_below};
+ghost use Rattle.usb_drawing.specs.Drawings.{IsOneLine, deepest, drawing_lines, entry_line, entry_lines, finding_supply, gap, granted_at, heading, heading_end, hub_supply, supply_below};
 
 use crate::art::{Style, push_art};
 use crate::device::push_finding;
 use std::alloc::{AllocError, Global};
-use usb_enum::Finding;
+use usb_enum::{Finding, HubFacts};
 use usb_port::PortPath;
 use usb_resources::supply;
 use usb_text::{Lines, push_decimal, push_path};
@@ -113,10 +113,12 @@ fn push_gap(out: &mut Vec<u8>, levels: usize) -> Result<(), AllocError>
 fn deepest(entries: &[(PortPath, Finding)]) -> usize
     ensures { result ≡ deepest entries.now }
 {
-    match entries.split_first() {
-        None => 0,
-        Some((entry, entries)) => entry.0.numbers().len().max(deepest(entries)),
-    }
+    let Some((entry, behind)) = entries.split_first() else {
+        return 0;
+    };
+    let depth = entry.0.numbers().len();
+    let further = deepest(behind);
+    if depth < further { further } else { depth }
 }
 
 /// What the port at a path gives, in mA, where the listing says it.
@@ -133,10 +135,13 @@ fn granted_at(path: &PortPath, entries: &[(PortPath, Finding)]) -> Option<u16>
 fn supply_below(hub: &PortPath, entries: &[(PortPath, Finding)]) -> Option<u16>
     ensures { result ≡ supply_below hub.now entries.now }
 {
-    match entries.split_first() {
-        None => None,
-        Some((entry, _)) if entry.0 == *hub => finding_supply(&entry.1),
-        Some((_, entries)) => supply_below(hub, entries),
+    let Some((entry, behind)) = entries.split_first() else {
+        return None;
+    };
+    if entry.0 == *hub {
+        finding_supply(&entry.1)
+    } else {
+        supply_below(hub, behind)
     }
 }
 
@@ -144,8 +149,17 @@ fn finding_supply(finding: &Finding) -> Option<u16>
     ensures { result ≡ finding_supply finding.now }
 {
     match finding {
-        Finding::Device(device) => device.hub.map(|facts| facts.supply),
+        Finding::Device(device) => hub_supply(&device.hub),
         Finding::Refused(_) => None,
+    }
+}
+
+fn hub_supply(hub: &Option<HubFacts>) -> Option<u16>
+    ensures { result ≡ hub_supply hub.now }
+{
+    match hub {
+        None => None,
+        Some(facts) => Some(facts.supply),
     }
 }
 

@@ -1,6 +1,6 @@
 //! The strings of a device.
-ghost use Rattle.std.specs.Prelude.{◌≡◌, ◌++◌, true, encode_utf8, flat_map, OnOk};
-ghost use Rattle.std.specs.Char.Utf16.{is_high_surrogate, is_low_surrogate, surrogate_pair_char};
+ghost use Rattle.std.specs.Prelude.{◌≡◌, ◌≤◌, ◌<◌, ◌++◌, encode_utf8, IsTrue, OnOk};
+ghost use Rattle.std.specs.Char.Utf16.{is_high_surrogate, is_low_surrogate, lone_unit_char, surrogate_pair_char};
 ghost use Rattle.usb_drawing.specs.Texts.{is_layout, is_pair, is_shown, labelled_text, shown_unit, shown_units, string_text};
 
 use crate::art::Style;
@@ -43,30 +43,49 @@ fn push_string(out: &mut Vec<u8>, style: Style, units: &[u16]) -> Result<(), All
 fn push_shown(out: &mut Vec<u8>, units: &[u16]) -> Result<(), AllocError>
     ensures { OnOk result (out.new.items ≡ out.old.items ++ shown_units units.now) }
 {
-    match units {
-        [] => Ok(()),
-        [unit] => push_unit(out, *unit),
-        [high, low, rest @ ..] => {
-            if is_pair(*high, *low) {
-                push_pair(out, *high, *low)?;
-                return push_shown(out, rest);
-            }
-            push_unit(out, *high)?;
-            push_shown(out, &units[1..])
-        }
+    let Some((unit, rest)) = units.split_first() else {
+        return Ok(());
+    };
+    let Some((next, behind)) = rest.split_first() else {
+        return push_unit(out, *unit);
+    };
+    if is_pair(*unit, *next) {
+        push_pair(out, *unit, *next)?;
+        return push_shown(out, behind);
     }
+    push_unit(out, *unit)?;
+    push_shown(out, rest)
 }
 
 /// Whether both units spell one character.
 fn is_pair(high: u16, low: u16) -> bool
-    ensures { result ≡ is_pair high low }
+    ensures pair { result ≡ is_pair high low }
+    ensures first { IsTrue result → (0xd800 ≤ high) × (high < 0xdc00) }
+    ensures second { IsTrue result → (0xdc00 ≤ low) × (low < 0xe000) }
 {
-    high >= 0xd800 && high < 0xdc00 && low >= 0xdc00 && low < 0xe000
+    is_high(high) && is_low(low)
+}
+
+/// The first unit of a pair.
+fn is_high(unit: u16) -> bool
+    ensures test { result ≡ is_high_surrogate unit }
+    ensures range { IsTrue result → (0xd800 ≤ unit) × (unit < 0xdc00) }
+{
+    unit >= 0xd800 && unit < 0xdc00
+}
+
+/// The second unit of a pair.
+fn is_low(unit: u16) -> bool
+    ensures test { result ≡ is_low_surrogate unit }
+    ensures range { IsTrue result → (0xdc00 ≤ unit) × (unit < 0xe000) }
+{
+    unit >= 0xdc00 && unit < 0xe000
 }
 
 /// Adds the character that a pair spells.
 fn push_pair(out: &mut Vec<u8>, high: u16, low: u16) -> Result<(), AllocError>
-    requires { is_pair high low ≡ true }
+    requires first { (0xd800 ≤ high) × (high < 0xdc00) }
+    requires second { (0xdc00 ≤ low) × (low < 0xe000) }
     ensures { OnOk result (out.new.items
         ≡ out.old.items ++ encode_utf8 (surrogate_pair_char high low)) }
 {
@@ -81,10 +100,19 @@ fn push_pair(out: &mut Vec<u8>, high: u16, low: u16) -> Result<(), AllocError>
 fn push_unit(out: &mut Vec<u8>, unit: u16) -> Result<(), AllocError>
     ensures { OnOk result (out.new.items ≡ out.old.items ++ shown_unit unit) }
 {
-    match char::from_u32(u32::from(unit)) {
-        Some(c) if is_shown(u32::from(unit)) => push_char(out, c),
-        _ => push_escaped(out, (unit / 256) as u8, (unit % 256) as u8),
+    if let Some(c) = lone_char(unit) {
+        if is_shown(c) {
+            return push_char(out, c);
+        }
     }
+    push_escaped(out, (unit / 256) as u8, (unit % 256) as u8)
+}
+
+/// The character of a unit that is in no pair; None for a surrogate.
+fn lone_char(unit: u16) -> Option<char>
+    ensures { result ≡ lone_unit_char unit }
+{
+    char::from_u32(u32::from(unit))
 }
 
 fn push_char(out: &mut Vec<u8>, c: char) -> Result<(), AllocError>
@@ -94,12 +122,11 @@ fn push_char(out: &mut Vec<u8>, c: char) -> Result<(), AllocError>
     out.extend_from_slice(c.encode_utf8(&mut buffer).as_bytes())
 }
 
-/// A character that stands for itself: none of those that control, that lay out, or that a string of a drawing ends in.
-fn is_shown(c: u32) -> bool
+/// A character that stands for itself.
+fn is_shown(c: char) -> bool
     ensures { result ≡ is_shown c }
 {
-    let controls = c <= 0x1f || (c >= 0x7f && c <= 0x9f);
-    !(controls || c == 0x22 || c == 0x5c || is_layout(c))
+    !(c.is_control() || c == '"' || c == '\\' || is_layout(c as u32))
 }
 
 /// What ends a line, or turns the direction of the text around it.
