@@ -1,5 +1,5 @@
 -- No line of a drawing has a newline but at its end.
-use Rattle.std.proofs.Common.{◌≡◌, ◌≢◌, ◌∙◌, refl, sym, ap, ap₂, subst, arith, ℕ, zero, suc, ◌+◌, ◌-◌, ◌/◌, ◌%◌, Bool, true, false, List, [], ◌∷◌, ◌++◌, append_assoc, flat_map, length, Option, None, Some}
+use Rattle.std.proofs.Common.{◌≡◌, ◌≢◌, ◌∙◌, refl, sym, ap, ap₂, subst, arith, ℕ, zero, suc, ◌+◌, ◌-◌, ◌/◌, ◌%◌, Bool, true, false, List, [], ◌∷◌, ◌++◌, append_assoc, append-nil, flat_map, get_or, length, ◌<◌, Option, None, Some}
 use Rattle.std.specs.Prelude.{◌==◌, ◌&&◌, ◌||◌, not, nat_lt, cond, slice_index, codes, decimal, encode_utf8, All, if◌then◌else◌}
 use Rattle.std.specs.Char.Utf16.{lone_unit_char, surrogate_pair_char}
 use Rattle.std.specs.Fmt.{digit_glyph, digits, digits_onto}
@@ -7,6 +7,7 @@ use Rattle.std.specs.List.{list_all, AllByRecursion}
 use Rattle.std.proofs.lemmas.Bool.Decides.{nat_tests}
 use Rattle.std.proofs.lemmas.List.Elements.{All-from_recursion}
 use Rattle.std.proofs.lemmas.List.Folds.{list_all-append}
+use Rattle.std.proofs.lemmas.Str.{inside_one}
 use Rattle.hex.specs.Hex.{encode_with, lower_digits, upper_digits}
 use Rattle.usb_port.specs.Path.{path_text}
 use Rattle.usb_enum.specs.declared.cause.Cause.{Cause}
@@ -17,6 +18,7 @@ use Rattle.usb_enum.specs.declared.finding.Accepted.{Accepted}
 use Rattle.usb_enum.specs.declared.finding.Finding.{Finding}
 use Rattle.usb_enum.specs.declared.finding.Finding.TheVariants.{Device, Refused}
 use Rattle.usb_enum.specs.declared.hub.HubFacts.{HubFacts}
+use Rattle.usb_enum.specs.declared.strings.Strings.{Strings}
 use Rattle.usb_enum.specs.Device.{configuration_of}
 use Rattle.usb_enum.specs.Text.{need_of}
 use Rattle.usb_table.specs.Entries.{Entries}
@@ -26,7 +28,7 @@ use Rattle.usb_drawing.specs.declared.art.Style.TheVariants.{Lines, Ascii}
 use Rattle.usb_drawing.specs.Art.{art, branch, goes_on, trunk, trunks}
 use Rattle.usb_drawing.specs.declared.class.ClassCodes.{ClassCodes}
 use Rattle.usb_drawing.specs.Classes.{class_text, class_word, codes_of, hid_word, ports_text, word_or_number}
-use Rattle.usb_drawing.specs.Devices.{address_column, cause_number, cause_words, device_text, finding_text, ids_text, power_text, refused_text, speed_column, stall_words, supply_text, word_digits}
+use Rattle.usb_drawing.specs.Devices.{address_column, cause_number, cause_words, device_text, finding_text, identity_text, ids_text, power_text, refused_text, speed_column, stall_words, strings_text, supply_text, word_digits}
 use Rattle.usb_drawing.specs.Drawings.{IsOneLine, deepest, drawing_lines, entry_line, entry_lines, gap, granted_at, heading, heading_end, is_unbroken}
 use Rattle.usb_drawing.specs.Texts.{is_pair, is_shown, labelled_text, shown_or_escaped, shown_unit, shown_units, string_text}
 
@@ -38,13 +40,13 @@ both : (xs ys : List ℕ) → Unbroken xs → Unbroken ys → Unbroken (xs ++ ys
 both xs ys p q = list_all-append (λ (byte : ℕ). not (byte == 10)) xs ys ∙ ap₂ (λ (a b : Bool). a && b) p q
 
 other : (x : ℕ) → x ≢ 10 → not (x == 10) ≡ true
-other x no = grind (arith, nat_tests)
+other x differs = grind (arith, nat_tests)
 
 one : (x : ℕ) → x ≢ 10 → Unbroken (x ∷ [])
-one x no = ap (λ b. b && true) (other x no)
+one x differs = ap (λ b. b && true) (other x differs)
 
 one_then : (x : ℕ) (xs : List ℕ) → x ≢ 10 → Unbroken xs → Unbroken (x ∷ xs)
-one_then x xs no rest = ap₂ (λ (a b : Bool). a && b) (other x no) rest
+one_then x xs differs rest = ap₂ (λ (a b : Bool). a && b) (other x differs) rest
 
 choice : (b : Bool) (xs ys : List ℕ) → Unbroken xs → Unbroken ys → Unbroken (if b then xs else ys)
 choice true xs ys p q = p
@@ -120,7 +122,9 @@ trunks_unbroken style path behind (suc level) = both (trunks style path behind l
 
 art_unbroken : (style : Style) (path : List ℕ) (behind : Entries) → Unbroken (art style path behind)
 unfolding art
-art_unbroken style path behind = both _ _ (trunks_unbroken style path behind _) (branch_unbroken style _)
+art_unbroken style path behind =
+    let level = length path - 1 in
+    both (trunks style path behind level) (branch style (goes_on path level behind)) (trunks_unbroken style path behind level) (branch_unbroken style (goes_on path level behind))
 
 gap_unbroken : (levels : ℕ) → Unbroken (gap levels)
 gap_unbroken zero = refl
@@ -132,16 +136,13 @@ branches : (b : Bool) (xs ys : List ℕ) → Unbroken xs → Unbroken ys → Unb
 branches true xs ys p q = p
 branches false xs ys p q = q
 
+by_index : (xs : List ℕ) → ((k : ℕ) → k < length xs → get_or xs k 0 ≢ 10) → Unbroken xs
+by_index [] h = refl
+by_index (x ∷ xs) h = one_then x xs (h 0 (omega arith)) (by_index xs (λ k lt. h (suc k) (omega (arith, lt))))
+
+-- a byte below 128 is a character of its own
 utf8 : (c : ℕ) → c ≢ 10 → Unbroken (encode_utf8 c)
-unfolding encode_utf8
-utf8 c no =
-    let last : 128 + c % 64 ≢ 10 = λ e. omega (arith, e) in
-    let third : 128 + c / 64 % 64 ≢ 10 = λ e. omega (arith, e) in
-    let second : 128 + c / 4096 % 64 ≢ 10 = λ e. omega (arith, e) in
-    branches (nat_lt c 128) _ _ (one c no)
-    (branches (nat_lt c 2048) _ _ (one_then (192 + c / 64) _ (λ e. omega (arith, e)) (one _ last))
-    (branches (nat_lt c 65536) _ _ (one_then (224 + c / 4096) _ (λ e. omega (arith, e)) (one_then _ _ third (one _ last)))
-    (one_then (240 + c / 262144) _ (λ e. omega (arith, e)) (one_then _ _ second (one_then _ _ third (one _ last))))))
+utf8 c differs = by_index (encode_utf8 c) (λ k lt e. differs (inside_one c [] (encode_utf8 c) k (sym (append-nil (encode_utf8 c))) lt (omega (arith, e)) ∙ e))
 
 escaped : (high low : ℕ) → Unbroken (escaped_text high low)
 escaped high low = both (codes "\\u" ++ encode_with upper_digits (high ∷ [])) (encode_with upper_digits (low ∷ [])) (both (codes "\\u") (encode_with upper_digits (high ∷ [])) refl (upper (high ∷ []))) (upper (low ∷ []))
@@ -241,32 +242,34 @@ power_unbroken (Some granted) drawn =
     (both (codes "  " ++ decimal drawn ++ codes " of ") (decimal granted)
     (both (codes "  " ++ decimal drawn) (codes " of ") (both (codes "  ") (decimal drawn) refl (number drawn)) refl) (number granted)) refl
 
-device_unbroken : (style : Style) (granted : Option ℕ) (d : Accepted) → Unbroken (device_text style granted d)
-unfolding device_text
-device_unbroken style granted d =
+identity_unbroken : (d : Accepted) → Unbroken (identity_text d)
+unfolding identity_text
+identity_unbroken d =
     let address = address_column d.address in
     let speed = speed_column d.low in
     let ids = ids_text d.bytes in
     let class = class_text (codes_of d) in
-    let hub = ports_text d.hub in
-    let product = labelled_text style (codes " ") d.strings.product in
-    let maker = labelled_text style (codes " by ") d.strings.manufacturer in
-    let serial = labelled_text style (codes " serial ") d.strings.serial_number in
-    both (address ++ speed ++ ids ++ class ++ hub ++ product ++ maker ++ serial) (power_text granted (need_of (configuration_of d)))
-    (both (address ++ speed ++ ids ++ class ++ hub ++ product ++ maker) serial
-    (both (address ++ speed ++ ids ++ class ++ hub ++ product) maker
-    (both (address ++ speed ++ ids ++ class ++ hub) product
-    (both (address ++ speed ++ ids ++ class) hub
+    both (address ++ speed ++ ids ++ class) (ports_text d.hub)
     (both (address ++ speed ++ ids) class
     (both (address ++ speed) ids
     (both address speed (address_unbroken d.address) (branches d.low (codes "low   ") (codes "full  ") refl refl))
     (ids_unbroken d.bytes))
     (class_unbroken (codes_of d)))
-    (ports d.hub))
-    (labelled style (codes " ") d.strings.product refl))
-    (labelled style (codes " by ") d.strings.manufacturer refl))
-    (labelled style (codes " serial ") d.strings.serial_number refl))
-    (power_unbroken granted (need_of (configuration_of d)))
+    (ports d.hub)
+
+strings_unbroken : (style : Style) (strings : Strings) → Unbroken (strings_text style strings)
+unfolding strings_text
+strings_unbroken style strings =
+    let product = labelled_text style (codes " ") strings.product in
+    let maker = labelled_text style (codes " by ") strings.manufacturer in
+    both (product ++ maker) (labelled_text style (codes " serial ") strings.serial_number)
+    (both product maker (labelled style (codes " ") strings.product refl) (labelled style (codes " by ") strings.manufacturer refl))
+    (labelled style (codes " serial ") strings.serial_number refl)
+
+device_unbroken : (style : Style) (granted : Option ℕ) (d : Accepted) → Unbroken (device_text style granted d)
+device_unbroken style granted d =
+    both (identity_text d ++ strings_text style d.strings) (power_text granted (need_of (configuration_of d)))
+    (both (identity_text d) (strings_text style d.strings) (identity_unbroken d) (strings_unbroken style d.strings)) (power_unbroken granted (need_of (configuration_of d)))
 
 stall_unbroken : (r : Request) → Unbroken (stall_words r)
 stall_unbroken request.Device = refl

@@ -8,6 +8,7 @@ use Rattle.usb_enum.specs.declared.cause.Request.TheVariants as request
 use Rattle.usb_enum.specs.declared.finding.Accepted.{Accepted}
 use Rattle.usb_enum.specs.declared.finding.Finding.{Finding}
 use Rattle.usb_enum.specs.declared.finding.Finding.TheVariants.{Device, Refused}
+use Rattle.usb_enum.specs.declared.strings.Strings.{Strings}
 use Rattle.usb_enum.specs.Device.{configuration_of}
 use Rattle.usb_enum.specs.Text.{need_of}
 use Rattle.usb_drawing.specs.declared.art.Style.{Style}
@@ -34,18 +35,19 @@ abbrev pub power_text : Option ℕ → ℕ → List ℕ
 power_text None drawn = codes "  " ++ decimal drawn ++ codes " mA"
 power_text (Some granted) drawn = codes "  " ++ decimal drawn ++ codes " of " ++ decimal granted ++ codes " mA"
 
--- address, speed, vendor and product, class, strings and power
-unfoldable pub device_text : Style → Option ℕ → Accepted → List ℕ
-device_text style granted d =
-    address_column d.address
-    ++ speed_column d.low
-    ++ ids_text d.bytes
-    ++ class_text (codes_of d)
-    ++ ports_text d.hub
-    ++ labelled_text style (codes " ") d.strings.product
-    ++ labelled_text style (codes " by ") d.strings.manufacturer
-    ++ labelled_text style (codes " serial ") d.strings.serial_number
-    ++ power_text granted (need_of (configuration_of d))
+-- address, speed, vendor and product, class
+unfoldable pub identity_text : Accepted → List ℕ
+identity_text d = address_column d.address ++ speed_column d.low ++ ids_text d.bytes ++ class_text (codes_of d) ++ ports_text d.hub
+
+-- the strings that there are, each behind its label
+unfoldable pub strings_text : Style → Strings → List ℕ
+strings_text style strings =
+    labelled_text style (codes " ") strings.product
+    ++ labelled_text style (codes " by ") strings.manufacturer
+    ++ labelled_text style (codes " serial ") strings.serial_number
+
+abbrev pub device_text : Style → Option ℕ → Accepted → List ℕ
+device_text style granted d = identity_text d ++ strings_text style d.strings ++ power_text granted (need_of (configuration_of d))
 
 abbrev pub stall_words : Request → List ℕ
 stall_words request.Device = codes "stalls the request for its device descriptor"

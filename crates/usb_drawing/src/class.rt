@@ -1,5 +1,6 @@
 //! What a device says it is, in words.
-ghost use Rattle.std.specs.Prelude.{◌≡◌, ◌++◌, None, Some, MatchOption, OnOk};
+ghost use Rattle.std.specs.Prelude.{◌≡◌, [], ◌∷◌, ◌++◌, codes, None, Some, MatchOption, OnOk};
+ghost use Rattle.hex.specs.Hex.{encode_lower};
 ghost use Rattle.usb_descriptor.specs.Item.{items_of};
 ghost use Rattle.usb_drawing.specs.Classes.{class_text, class_word, codes_of, device_codes, first_codes, hid_word, interface_codes, no_codes, ports_text, text_codes};
 
@@ -77,12 +78,18 @@ pub(crate) fn push_class(
 {
     match class_word(codes) {
         Some(word) => out.extend_from_slice(word.as_bytes()),
-        None => {
-            out.extend_from_slice(b"class ")?;
-            let bytes: &[u8] = &[codes.class];
-            out.extend_from_slice(hex::encode(alloc, bytes)?.as_bytes())
-        }
+        None => push_number(alloc, out, codes.class),
     }
+}
+
+/// Adds the number of a class that has no word.
+fn push_number(alloc: Global, out: &mut Vec<u8>, class: u8) -> Result<(), AllocError>
+    ensures { OnOk result (out.new.items
+        ≡ out.old.items ++ (codes "class " ++ encode_lower (class ∷ []))) }
+{
+    out.extend_from_slice(b"class ")?;
+    let bytes: &[u8] = &[class];
+    out.extend_from_slice(hex::encode(alloc, bytes)?.as_bytes())
 }
 
 #[tactic(auto, unfolding(crate::specs::Classes::class_word))]

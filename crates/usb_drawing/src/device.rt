@@ -1,13 +1,13 @@
 //! What the line of an entry says of what was found there.
 ghost use Rattle.std.specs.Prelude.{◌≡◌, ◌+◌, ◌<◌, ◌++◌, length, codes, if◌then◌else◌, nat_lt, OnOk};
-ghost use Rattle.usb_drawing.specs.Devices.{address_column, device_text, finding_text, ids_text, power_text, speed_column, word_digits};
+ghost use Rattle.usb_drawing.specs.Devices.{address_column, device_text, finding_text, identity_text, ids_text, power_text, speed_column, strings_text, word_digits};
 
 use crate::art::Style;
 use crate::class::{codes_of, push_class, push_ports};
 use crate::refusal::push_refused;
 use crate::string::push_labelled;
 use std::alloc::{AllocError, Global};
-use usb_enum::{Accepted, Finding};
+use usb_enum::{Accepted, Finding, Strings};
 use usb_text::push_decimal;
 
 /// Adds what was found at a port that gives so much.
@@ -27,8 +27,7 @@ pub(crate) fn push_finding(
     }
 }
 
-/// Adds address, speed, vendor and product, class, strings and power.
-#[tactic(auto, unfolding(crate::specs::Devices::device_text))]
+/// Adds what a device is, its strings, and its power.
 fn push_device(
     alloc: Global,
     out: &mut Vec<u8>,
@@ -38,15 +37,31 @@ fn push_device(
 ) -> Result<(), AllocError>
     ensures { OnOk result (out.new.items ≡ out.old.items ++ device_text style granted device.now) }
 {
+    push_identity(alloc, out, device)?;
+    push_strings(out, style, &device.strings)?;
+    push_power(alloc, out, granted, device.configuration().need())
+}
+
+/// Adds address, speed, vendor and product, and class.
+#[tactic(auto, unfolding(crate::specs::Devices::identity_text))]
+fn push_identity(alloc: Global, out: &mut Vec<u8>, device: &Accepted) -> Result<(), AllocError>
+    ensures { OnOk result (out.new.items ≡ out.old.items ++ identity_text device.now) }
+{
     push_address(alloc, out, device.address.number())?;
     out.extend_from_slice(speed_column(device.low).as_bytes())?;
     push_ids(alloc, out, &device.bytes)?;
     push_class(alloc, out, codes_of(device))?;
-    push_ports(alloc, out, &device.hub)?;
-    push_labelled(out, style, " ", &device.strings.product)?;
-    push_labelled(out, style, " by ", &device.strings.manufacturer)?;
-    push_labelled(out, style, " serial ", &device.strings.serial_number)?;
-    push_power(alloc, out, granted, device.configuration().need())
+    push_ports(alloc, out, &device.hub)
+}
+
+/// Adds the strings that there are, each behind its label.
+#[tactic(auto, unfolding(crate::specs::Devices::strings_text))]
+fn push_strings(out: &mut Vec<u8>, style: Style, strings: &Strings) -> Result<(), AllocError>
+    ensures { OnOk result (out.new.items ≡ out.old.items ++ strings_text style strings.now) }
+{
+    push_labelled(out, style, " ", &strings.product)?;
+    push_labelled(out, style, " by ", &strings.manufacturer)?;
+    push_labelled(out, style, " serial ", &strings.serial_number)
 }
 
 fn push_address(alloc: Global, out: &mut Vec<u8>, address: u8) -> Result<(), AllocError>
