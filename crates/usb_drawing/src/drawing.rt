@@ -66,12 +66,7 @@ fn draw_run<W: Write>(
 }
 
 /// The lines of an item; the number is that of a listing.
-fn drawn_lines(
-    alloc: Global,
-    style: Style,
-    number: u64,
-    item: &Item,
-) -> Result<Lines, AllocError>
+fn drawn_lines(alloc: Global, style: Style, number: u64, item: &Item) -> Result<Lines, AllocError>
     ensures { IfOk result (λ lines. lines ≡ drawn_lines style number item.now) }
 {
     match item {

@@ -41,8 +41,13 @@ fn fault_text(alloc: Global, plan: &str) -> Result<String, AllocError> {
 
 #[test]
 fn a_limit_that_is_reached_is_told(rt: HostRuntime) -> Result<(), Fail> {
-    let plan = A_TREE_OF_HUBS.plan.replace(rt.alloc(), "limit = 10000", "limit = 10")?;
-    assert_eq!(rt; fault_text(rt.alloc(), plan.as_str())?.as_str(), "limit reached");
+    let plan = A_TREE_OF_HUBS
+        .plan
+        .replace(rt.alloc(), "limit = 10000", "limit = 10")?;
+    assert_eq!(rt;
+        fault_text(rt.alloc(), plan.as_str())?.as_str(),
+        "limit reached"
+    );
     Ok(())
 }
 
