@@ -1,5 +1,5 @@
 -- Units of strings as characters.
-use Rattle.std.proofs.Common.{◌≡◌, ◌∙◌, sym, ap, arith, inl, inr, ℕ, ◌<◌, Bool, true, false, Option, None, Some}
+use Rattle.std.proofs.Common.{◌≡◌, ◌∙◌, sym, ap, arith, inl, inr, ℕ, ◌<◌, true, false, Option, None, Some}
 use Rattle.std.specs.Prelude.{◌&&◌, nat_le, nat_lt, if◌then◌else◌, MatchOption, SomeIff}
 use Rattle.std.specs.Char.{IsScalar, InScalarRange, OutOfScalarRange}
 use Rattle.std.specs.Char.Utf16.{lone_unit_char}

@@ -1,5 +1,5 @@
 -- A drawing has one line for each entry, in their order.
-use Rattle.std.proofs.Common.{◌≡◌, ◌∙◌, refl, ap, arith, add-one, ℕ, suc, ◌+◌, List, [], ◌∷◌, ◌++◌, length, Option, Some}
+use Rattle.std.proofs.Common.{◌≡◌, refl, ap, arith, add-one, ℕ, suc, ◌+◌, List, [], ◌∷◌, ◌++◌, length, Some}
 use Rattle.std.specs.Prelude.{slice_get}
 use Rattle.usb_enum.specs.declared.finding.Finding.{Finding}
 use Rattle.usb_table.specs.Entries.{Entries}

@@ -1,9 +1,9 @@
 -- No line of a drawing has a newline but at its end.
 use Rattle.std.proofs.Common.{◌≡◌, ◌≢◌, ◌∙◌, refl, sym, ap, ap₂, subst, arith, ℕ, zero, suc, ◌+◌, ◌-◌, ◌/◌, ◌%◌, Bool, true, false, List, [], ◌∷◌, ◌++◌, append_assoc, append-nil, flat_map, get_or, length, ◌<◌, Option, None, Some}
-use Rattle.std.specs.Prelude.{◌==◌, ◌&&◌, ◌||◌, not, nat_lt, cond, slice_index, codes, decimal, encode_utf8, All, if◌then◌else◌}
+use Rattle.std.specs.Prelude.{◌==◌, ◌&&◌, not, nat_lt, cond, slice_index, codes, decimal, encode_utf8, All, if◌then◌else◌}
 use Rattle.std.specs.Char.Utf16.{lone_unit_char, surrogate_pair_char}
 use Rattle.std.specs.Fmt.{digit_glyph, digits, digits_onto}
-use Rattle.std.specs.List.{list_all, AllByRecursion}
+use Rattle.std.specs.List.{AllByRecursion}
 use Rattle.std.proofs.lemmas.Bool.Decides.{nat_tests}
 use Rattle.std.proofs.lemmas.List.Elements.{All-from_recursion}
 use Rattle.std.proofs.lemmas.List.Folds.{list_all-append}
@@ -28,8 +28,8 @@ use Rattle.usb_drawing.specs.declared.art.Style.TheVariants.{Lines, Ascii}
 use Rattle.usb_drawing.specs.Art.{art, branch, goes_on, trunk, trunks}
 use Rattle.usb_drawing.specs.declared.class.ClassCodes.{ClassCodes}
 use Rattle.usb_drawing.specs.Classes.{class_text, class_word, codes_of, hid_word, ports_text, word_or_number}
-use Rattle.usb_drawing.specs.Devices.{address_column, cause_number, cause_words, device_text, finding_text, identity_text, ids_text, power_text, refused_text, speed_column, stall_words, strings_text, supply_text, word_digits}
-use Rattle.usb_drawing.specs.Drawings.{IsOneLine, deepest, drawing_lines, entry_line, entry_lines, gap, granted_at, heading, heading_end, is_unbroken}
+use Rattle.usb_drawing.specs.Devices.{address_column, cause_number, cause_words, device_text, finding_text, identity_text, ids_text, power_text, speed_column, stall_words, strings_text, supply_text, word_digits}
+use Rattle.usb_drawing.specs.Drawings.{IsOneLine, deepest, drawing_lines, entry_line, entry_lines, gap, granted_at, heading, is_unbroken}
 use Rattle.usb_drawing.specs.Texts.{is_pair, is_shown, labelled_text, shown_or_escaped, shown_unit, shown_units, string_text}
 
 abbrev Unbroken : List ℕ → Type 0

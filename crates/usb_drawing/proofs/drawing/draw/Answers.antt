@@ -1,4 +1,4 @@
-use Rattle.std.proofs.Common.{refl, Err}
+use Rattle.std.proofs.Common.{refl}
 use Rattle.usb_bus.specs.Watch.{inner_of}
 use Rattle.usb_serve.proofs.Interface.{at_fault}
 use Rattle.usb_drawing.specs.DrawnRuns.{IsDrawn, of_plan, unread}
