@@ -20,3 +20,4 @@ pub mod RunBounds
 pub mod Ledgers
 pub mod VoidRuns
 pub mod Enough
+pub mod Interface

@@ -130,7 +130,8 @@ each_line (v ∷ vs) (p, ps) = (p, each_line vs ps)
 pub item_lines_end : (number : ℕ) (item : Item) (vs : List (Vec ℕ)) → map (λ v. v.items) vs ≡ item_lines number item → All (λ (v : Vec ℕ). IsLine v.items) vs
 item_lines_end number item vs is = All-from_recursion (λ (v : Vec ℕ). IsLine v.items) vs (each_line vs (subst AreLines (sym is) (item_ends number item)))
 
-joined_lines : (vs : List (Vec ℕ)) → flat_map (λ v. v.items) vs ≡ concat (map (λ v. v.items) vs)
+-- their text
+pub joined_lines : (vs : List (Vec ℕ)) → flat_map (λ v. v.items) vs ≡ concat (map (λ v. v.items) vs)
 joined_lines [] = refl
 joined_lines (v ∷ vs) = ap (λ l. v.items ++ l) (joined_lines vs)
 

@@ -128,7 +128,11 @@ pub fn serve<R: Read, W: Write>(
 }
 
 /// The plan that a reader's text spells.
-fn plan_of<R: Read>(alloc: Global, reader: &mut Watched<R>) -> Result<Plan, ServeFault>
+///
+/// # Errors
+/// Read where the reader failed, TooLong for a text over the limit, Plan for a text that is no plan, Memory where memory
+/// was refused.
+pub fn plan_of<R: Read>(alloc: Global, reader: &mut Watched<R>) -> Result<Plan, ServeFault>
     ensures calls { calls_of reader.new ≤ calls_of reader.old + 1048577 }
     ensures read { IsErrOf result ServeFault.Read → has_failed reader.new ≡ true }
     ensures too_long { IsErrOf result ServeFault.TooLong →
@@ -194,7 +198,10 @@ fn write_tree<W: Write>(
 }
 
 /// The next item of a run in which no line is made.
-fn next_untraced(runner: &mut Runner<Untraced>) -> Result<Option<Item>, RunFault>
+///
+/// # Errors
+/// Those of `Runner::next_item`, but for TraceFailed.
+pub fn next_untraced(runner: &mut Runner<Untraced>) -> Result<Option<Item>, RunFault>
     ensures next { (runner.old.over ≡ false → Knows runner.old.host)
         → Next runner.old.over runner.old.host result runner.new.over runner.new.host }
     ensures caused { IfErr result (λ fault. IsCaused fault runner.new.host.world) }
@@ -209,7 +216,7 @@ fn next_untraced(runner: &mut Runner<Untraced>) -> Result<Option<Item>, RunFault
 }
 
 /// The number of the last listing, once an item is made.
-fn number_of(item: &Item, number: u64) -> u64
+pub fn number_of(item: &Item, number: u64) -> u64
     ensures { number < 18446744073709551615 → result ≡ number_of item.now number }
 {
     match item {
@@ -218,7 +225,8 @@ fn number_of(item: &Item, number: u64) -> u64
     }
 }
 
-fn item_lines(alloc: Global, number: u64, item: &Item) -> Result<Lines, AllocError>
+/// The lines of an item; the number is that of a listing.
+pub fn item_lines(alloc: Global, number: u64, item: &Item) -> Result<Lines, AllocError>
     ensures { IfOk result (λ lines. lines ≡ item_lines number item.now) }
 {
     match item {
@@ -237,7 +245,11 @@ fn one_line(alloc: Global, line: Vec<u8>) -> Result<Lines, AllocError>
     Ok(lines)
 }
 
-fn write_lines<W: Write>(writer: &mut Watched<W>, lines: &[Vec<u8>]) -> Result<(), ServeFault>
+/// Writes lines in their order.
+///
+/// # Errors
+/// Write where the writer failed.
+pub fn write_lines<W: Write>(writer: &mut Watched<W>, lines: &[Vec<u8>]) -> Result<(), ServeFault>
     ensures front { AppendsFront (W.contents (inner_of writer.old))
         (W.contents (inner_of writer.new)) (flat_map (λ line. line.items) lines.now) }
     ensures ok { OnOk result (Appends (W.contents (inner_of writer.old))

@@ -68,7 +68,8 @@ fn push_unit(out: &mut Vec<u8>, unit: u16) -> Result<(), AllocError>
     push_escaped(out, (unit / 256) as u8, (unit % 256) as u8)
 }
 
-fn push_escaped(out: &mut Vec<u8>, high: u8, low: u8) -> Result<(), AllocError>
+/// Adds a unit of these two bytes as `\uXXXX`.
+pub fn push_escaped(out: &mut Vec<u8>, high: u8, low: u8) -> Result<(), AllocError>
     ensures { OnOk result (out.new.items ≡ out.old.items ++ escaped_text high low) }
 {
     out.extend_from_slice(b"\\u")?;

@@ -1,0 +1,4 @@
+pub mod DrawnItems
+pub mod DrawingLaws
+pub mod OneLines
+pub mod Characters

@@ -1,0 +1,78 @@
+-- The lines of a drawn listing, each with its newline: one for each entry.
+use Rattle.std.specs.Prelude.{◌≡◌, ℕ, zero, suc, ◌-◌, Bool, true, false, not, ◌==◌, max, List, [], ◌∷◌, ◌++◌, length, Option, None, Some, codes, decimal, nat_eq, if◌then◌else◌}
+use Rattle.std.specs.List.{list_all}
+use Rattle.std.specs.Cmp.Lexicographic.{pointwise}
+use Rattle.usb_port.specs.Order.{parent_of}
+use Rattle.usb_port.specs.Path.{path_text}
+use Rattle.usb_resources.specs.Power.{supply_of}
+use Rattle.usb_enum.specs.declared.finding.Finding.{Finding}
+use Rattle.usb_enum.specs.declared.finding.Finding.TheVariants.{Device, Refused}
+use Rattle.usb_enum.specs.declared.hub.HubFacts.{HubFacts}
+use Rattle.usb_table.specs.Entries.{Entries}
+use Rattle.usb_drawing.specs.declared.art.Style.{Style}
+use Rattle.usb_drawing.specs.Art.{art}
+use Rattle.usb_drawing.specs.Devices.{finding_text}
+
+-- what each port of a hub gives, in mA
+abbrev pub hub_supply : Option HubFacts → Option ℕ
+hub_supply None = None
+hub_supply (Some facts) = Some facts.supply
+
+abbrev pub finding_supply : Finding → Option ℕ
+finding_supply (Device device) = hub_supply device.hub
+finding_supply (Refused cause) = None
+
+-- what each port of the hub at a path gives
+abbrev pub supply_below : List ℕ → Entries → Option ℕ
+supply_below hub [] = None
+supply_below hub (entry ∷ entries) = if pointwise nat_eq entry.0 hub then finding_supply entry.1 else supply_below hub entries
+
+abbrev pub supply_from : Option (List ℕ) → Entries → Option ℕ
+supply_from None entries = Some (supply_of true false)
+supply_from (Some hub) entries = supply_below hub entries
+
+-- what the port at a path gives: the root powers itself, and a hub's ports give what it says
+abbrev pub granted_at : List ℕ → Entries → Option ℕ
+granted_at path entries = supply_from (parent_of path) entries
+
+-- how many numbers the longest path has
+abbrev pub deepest : Entries → ℕ
+deepest [] = 0
+deepest (entry ∷ entries) = max (length entry.0) (deepest entries)
+
+-- the blanks behind the path of an entry that stands so many levels above the deepest: three of art, a dot and a digit each
+abbrev pub gap : ℕ → List ℕ
+gap zero = []
+gap (suc levels) = gap levels ++ codes "     "
+
+-- art, path, and what was found there; the entries behind it are given
+unfoldable pub entry_line : Style → ℕ → Option ℕ → List ℕ × Finding → Entries → List ℕ
+entry_line style most granted entry behind =
+    art style entry.0 behind ++ path_text entry.0 ++ gap (most - length entry.0) ++ codes "  " ++ finding_text style granted entry.1 ++ codes "\n"
+
+-- a line for each of the entries, which are the last ones of a listing
+abbrev pub entry_lines : Style → ℕ → Entries → Entries → List (List ℕ)
+entry_lines style most all [] = []
+entry_lines style most all (entry ∷ behind) = entry_line style most (granted_at entry.0 all) entry behind ∷ entry_lines style most all behind
+
+-- what stands behind the number of a listing
+abbrev pub heading_end : Entries → List ℕ
+heading_end [] = codes ": no devices\n"
+heading_end (entry ∷ entries) = codes "\n"
+
+unfoldable pub heading : ℕ → Entries → List ℕ
+heading number entries = codes "listing " ++ decimal number ++ heading_end entries
+
+-- the heading, and a line for each entry by rising path
+unfoldable pub drawing_lines : Style → ℕ → Entries → List (List ℕ)
+drawing_lines style number entries = heading number entries ∷ entry_lines style (deepest entries) entries entries
+
+-- bytes among which is no newline
+abbrev pub is_unbroken : List ℕ → Bool
+is_unbroken bytes = list_all (λ byte. not (byte == 10)) bytes
+
+-- a newline at the end, and no other
+pub record IsOneLine (line : List ℕ) : Type 0 where
+  pub front : List ℕ
+  pub ends : line ≡ front ++ 10 ∷ []
+  pub whole : is_unbroken front ≡ true

@@ -1,0 +1,72 @@
+-- What drawing a plan's run wrote.
+use Rattle.std.specs.Prelude.{◌≡◌, ◌≢◌, ◌⊎◌, ℕ, List, [], ◌∷◌, ◌++◌, Option, Bool, true, false, Result, Ok, Err, IfErr, IfSome, IsErrOf}
+use Rattle.std.specs.Io.KnownBytes.{Appends}
+use Rattle.std.specs.List.{concat}
+use Rattle.usb_world.specs.PlanData.{PlanData}
+use Rattle.usb_bus.specs.Watch.{AppendsFront}
+use Rattle.usb_host.specs.Hosting.{Hosting}
+use Rattle.usb_plan.specs.Plan.{spelled_plan}
+use Rattle.usb_serve.specs.declared.runs.Item.{Item}
+use Rattle.usb_serve.specs.declared.runs.Item.TheVariants.{Listing, Sent, Received, Cleared}
+use Rattle.usb_serve.specs.declared.serving.Mode.TheVariants.{Tree}
+use Rattle.usb_serve.specs.declared.serving.ServeFault.{ServeFault}
+use Rattle.usb_serve.specs.declared.serving.ServeFault.TheVariants as serve
+use Rattle.usb_serve.specs.Moments.{ListsRight}
+use Rattle.usb_serve.specs.ServeResults.{IsCausedInTree, IsOfRun, item_lines, number_of}
+use Rattle.usb_serve.specs.ServedRuns.{IsUnopened, IsUnread, Opens}
+use Rattle.usb_serve.specs.Transcript.{RunsTo, listings, never, of_run}
+use Rattle.usb_drawing.specs.declared.art.Style.{Style}
+use Rattle.usb_drawing.specs.Drawings.{drawing_lines}
+
+-- the lines of an item, those of a transfer as in mode Tree; the number is that of a listing
+abbrev pub drawn_lines : Style → ℕ → Item → List (List ℕ)
+drawn_lines style number (Listing entries taken) = drawing_lines style number entries
+drawn_lines style number (Sent path sent) = item_lines number (Sent path sent)
+drawn_lines style number (Received path received) = item_lines number (Received path received)
+drawn_lines style number (Cleared path cleared) = item_lines number (Cleared path cleared)
+
+-- the text of an item; those made before it are given, the newest first
+abbrev pub drawn_item : Style → List Item → Item → List ℕ
+drawn_item style items item = concat (drawn_lines style (number_of item (listings items)) item)
+
+-- the text of items, of which the newest stands first
+unfoldable pub drawn_items : Style → List Item → List ℕ
+drawn_items style [] = []
+drawn_items style (item ∷ items) = drawn_items style items ++ drawn_item style items item
+
+-- all items that were made are drawn, but for the last one where memory was refused for it; a front of that where the writer failed
+abbrev pub DrawnText : Style → List Item → Option (List ℕ) → Result (Unit {0}) ServeFault → Option (List ℕ) → Type 0
+DrawnText style items before (Ok done) now = Appends before now (drawn_items style items)
+DrawnText style items before (Err serve.Read) now = ⊥
+DrawnText style items before (Err serve.TooLong) now = ⊥
+DrawnText style items before (Err (serve.Plan fault)) now = ⊥
+DrawnText style items before (Err (serve.Run fault)) now = Appends before now (drawn_items style items)
+DrawnText style items before (Err serve.Write) now = AppendsFront before now (drawn_items style items)
+DrawnText style items before (Err serve.Memory) now = Appends before now (drawn_items style items)
+
+-- the drawings of a run of a plan, whose trace is thrown away; each of its items is right when it is made
+pub record Drawn (style : Style) (plan : PlanData) (before : Option (List ℕ)) (result : Result (Unit {0}) ServeFault) (now : Option (List ℕ)) : Type 0 where
+  pub thrown : Option (List ℕ)  -- where the trace goes
+  pub first : Hosting
+  pub opens : Opens plan thrown first
+  pub items : List Item
+  pub last : Hosting
+  pub ends : RunsTo Tree of_run never false first items result last
+  pub caused : IfErr result (λ fault. IsCausedInTree fault last.world)
+  pub limit : last.world.limit ≡ plan.limit
+  pub single : last.world.shared ≡ false
+  pub lists : ListsRight plan items last.world
+  pub text : DrawnText style items before result now
+
+abbrev pub RunDrawn : Style → PlanData → Option (List ℕ) → Result (Unit {0}) ServeFault → Option (List ℕ) → Type 0
+RunDrawn style plan before result now = IsUnopened before result now ⊎ Drawn style plan before result now
+
+-- what drawing a text wrote: nothing, where no plan was read; else the drawings of a run of the plan that the text spells, and then no fault is the text's or the reader's
+pub data IsDrawn (style : Style) (text before : Option (List ℕ)) (result : Result (Unit {0}) ServeFault) (now : Option (List ℕ)) : Type 0 where
+  unread : (fault : ServeFault) → result ≡ Err fault → IsUnread text fault → now ≡ before → IsDrawn style text before result now
+  of_plan : (plan : PlanData) → IfSome text (λ t. spelled_plan t ≡ Ok plan) → IsOfRun result → RunDrawn style plan before result now → IsDrawn style text before result now
+
+-- where a writer is told to have failed it has, and else its mark is as it was
+pub record MarksDrawing (result : Result (Unit {0}) ServeFault) (before now : Bool) : Type 0 where
+  pub write : IsErrOf result serve.Write → now ≡ true
+  pub kept : result ≢ Err serve.Write → now ≡ before

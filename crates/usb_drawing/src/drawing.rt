@@ -1,0 +1,78 @@
+//! A plan's text in, the drawings of its run out.
+ghost use Rattle.std.specs.Prelude.{◌≡◌, ◌≢◌, ◌+◌, ◌≤◌, ◌<◌, Ok, Err, true, length, IsErrOf, IfErr, IfOk, IfSome};
+ghost use Rattle.usb_bus.specs.Watch.{inner_of, has_failed, calls_of};
+ghost use Rattle.usb_serve.specs.ServeResults.{IsOfRun};
+ghost use Rattle.usb_drawing.specs.DrawnRuns.{IsDrawn, MarksDrawing, RunDrawn, drawn_lines};
+
+use crate::art::Style;
+use crate::listing::drawing_lines;
+use std::alloc::{AllocError, Global};
+use std::io::{Read, Write};
+use usb_bus::{Plan, Watched};
+use usb_serve::{
+    Item, RunFault, Runner, ServeFault, item_lines, next_untraced, number_of, plan_of, write_lines,
+};
+use usb_text::Lines;
+
+/// Reads a plan, runs it, and writes each listing as a tree when it is made, and the line of each transfer between them.
+///
+/// What is written is the drawings of the items of a run of the plan. Where the run ended early it is all that the run
+/// made so far; where the writer failed it is a front of that.
+///
+/// # Errors
+/// Read where the reader failed, TooLong for a text over the limit, Plan for a text that is no plan, Run where the run
+/// ended early, Write where the writer failed, Memory where memory was refused.
+pub fn draw<R: Read, W: Write>(
+    alloc: Global,
+    style: Style,
+    reader: &mut Watched<R>,
+    writer: &mut Watched<W>,
+) -> Result<(), ServeFault>
+    ensures calls { calls_of reader.new ≤ calls_of reader.old + 1048577 }
+    ensures read { IsErrOf result ServeFault.Read → has_failed reader.new ≡ true }
+    ensures too_long { IsErrOf result ServeFault.TooLong →
+        IfSome (R.remaining (inner_of reader.old)) (λ text. 1048576 < length text) }
+    // Write is told where the writer has failed in the call.
+    ensures writer { MarksDrawing result (has_failed writer.old) (has_failed writer.new) }
+    ensures drawn { IsDrawn style (R.remaining (inner_of reader.old))
+        (W.contents (inner_of writer.old)) result (W.contents (inner_of writer.new)) }
+{
+    let plan = plan_of(alloc, reader)?;
+    draw_run(alloc, style, &plan, writer)
+}
+
+/// Runs a plan, and writes the lines of each item when it is made.
+fn draw_run<W: Write>(
+    alloc: Global,
+    style: Style,
+    plan: &Plan,
+    writer: &mut Watched<W>,
+) -> Result<(), ServeFault>
+    ensures reader { IsOfRun result }
+    ensures writer { MarksDrawing result (has_failed writer.old) (has_failed writer.new) }
+    ensures drawn { RunDrawn style plan.now
+        (W.contents (inner_of writer.old)) result (W.contents (inner_of writer.new)) }
+{
+    let mut runner = match Runner::untraced(alloc, plan) {
+        Ok(runner) => runner,
+        Err(_) => return Err(ServeFault::Run(RunFault::Memory)),
+    };
+    let mut number = 0;
+    'items: while let Some(item) = next_untraced(&mut runner)? {
+        number = number_of(&item, number);
+        write_lines(writer, drawn_lines(alloc, style, number, &item)?.as_slice())?;
+    }
+    Ok(())
+}
+
+/// The lines of an item; the number is that of a listing.
+fn drawn_lines(alloc: Global, style: Style, number: u64, item: &Item) -> Result<Lines, AllocError>
+    ensures { IfOk result (λ lines. lines ≡ drawn_lines style number item.now) }
+{
+    match item {
+        Item::Listing(tree, _) => drawing_lines(alloc, style, number, tree.entries()),
+        Item::Sent(_, _) | Item::Received(_, _) | Item::Cleared(_, _) => {
+            item_lines(alloc, number, item)
+        }
+    }
+}

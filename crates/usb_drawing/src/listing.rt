@@ -1,0 +1,180 @@
+//! The lines of a drawn listing, each with its newline.
+ghost use Rattle.std.specs.Prelude.{◌≡◌, ◌+◌, ◌++◌, ◌∷◌, All, ℕ, List, length, slice_get, Some, OnOk, IfOk};
+ghost use Rattle.usb_enum.specs.declared.finding.Finding.{Finding as AFinding};
+ghost use Rattle.usb_table.specs.Entries.{Entries};
+ghost use Rattle.usb_drawing.specs.declared.art.Style.{Style as AStyle};
+ghost use Rattle.usb_drawing.specs.Drawings.{IsOneLine, deepest, drawing_lines, entry_line, entry_lines, finding_supply, gap, granted_at, heading, heading_end, hub_supply, supply_below};
+
+use crate::art::{Style, push_art};
+use crate::device::push_finding;
+use std::alloc::{AllocError, Global};
+use usb_enum::{Finding, HubFacts};
+use usb_port::PortPath;
+use usb_resources::supply;
+use usb_text::{Lines, push_decimal, push_path};
+
+/// The lines of a drawn listing: its number, then a line for each entry, which says by its art what the entry stands
+/// below.
+#[tactic(auto, unfolding(crate::specs::Drawings::drawing_lines))]
+pub fn drawing_lines(
+    alloc: Global,
+    style: Style,
+    number: u64,
+    entries: &[(PortPath, Finding)],
+) -> Result<Lines, AllocError>
+    ensures { IfOk result (λ lines. lines ≡ drawing_lines style number entries.now) }
+{
+    let mut lines = Lines::new(alloc);
+    lines.push(heading(alloc, number, entries)?)?;
+    push_entries(alloc, &mut lines, style, entries)?;
+    Ok(lines)
+}
+
+/// `listing N`, and that there is no device where there is none.
+#[tactic(auto, unfolding(crate::specs::Drawings::heading))]
+fn heading(
+    alloc: Global,
+    number: u64,
+    entries: &[(PortPath, Finding)],
+) -> Result<Vec<u8>, AllocError>
+    ensures { IfOk result (λ line. line.items ≡ heading number entries.now) }
+{
+    let mut line = Vec::new(alloc);
+    line.extend_from_slice(b"listing ")?;
+    push_decimal(alloc, &mut line, number)?;
+    line.extend_from_slice(heading_end(entries).as_bytes())?;
+    Ok(line)
+}
+
+fn heading_end(entries: &[(PortPath, Finding)]) -> &'static str
+    ensures { result.now ≡ heading_end entries.now }
+{
+    match entries.split_first() {
+        None => ": no devices\n",
+        Some(_) => "\n",
+    }
+}
+
+/// Adds a line for each entry of a listing.
+fn push_entries(
+    alloc: Global,
+    lines: &mut Lines,
+    style: Style,
+    entries: &[(PortPath, Finding)],
+) -> Result<(), AllocError>
+    ensures { OnOk result (lines.new
+        ≡ lines.old ++ entry_lines style (deepest entries.now) entries.now entries.now) }
+{
+    let most = deepest(entries);
+    let mut rest = entries;
+    'entries: while let Some((entry, behind)) = rest.split_first() {
+        let granted = granted_at(&entry.0, entries);
+        lines.push(entry_line(alloc, style, most, granted, entry, behind)?)?;
+        rest = behind;
+    }
+    Ok(())
+}
+
+/// Art, path, and what was found there.
+#[tactic(auto, unfolding(crate::specs::Drawings::entry_line))]
+fn entry_line(
+    alloc: Global,
+    style: Style,
+    most: usize,
+    granted: Option<u16>,
+    entry: &(PortPath, Finding),
+    behind: &[(PortPath, Finding)],
+) -> Result<Vec<u8>, AllocError>
+    ensures { IfOk result (λ line. line.items
+        ≡ entry_line style most granted entry.now behind.now) }
+{
+    let path = &entry.0;
+    let mut line = Vec::new(alloc);
+    push_art(&mut line, style, path, behind)?;
+    push_path(&mut line, path)?;
+    push_gap(&mut line, most.saturating_sub(path.numbers().len()))?;
+    line.extend_from_slice(b"  ")?;
+    push_finding(alloc, &mut line, style, granted, &entry.1)?;
+    line.extend_from_slice(b"\n")?;
+    Ok(line)
+}
+
+/// Adds the blanks behind the path of an entry that stands so many levels above the deepest.
+fn push_gap(out: &mut Vec<u8>, levels: usize) -> Result<(), AllocError>
+    ensures { OnOk result (out.new.items ≡ out.old.items ++ gap levels) }
+{
+    'levels: for level in 0..levels {
+        out.extend_from_slice(b"     ")?;
+    }
+    Ok(())
+}
+
+/// How many numbers the longest path has.
+fn deepest(entries: &[(PortPath, Finding)]) -> usize
+    ensures { result ≡ deepest entries.now }
+{
+    let Some((entry, behind)) = entries.split_first() else {
+        return 0;
+    };
+    let depth = entry.0.numbers().len();
+    let further = deepest(behind);
+    if depth < further { further } else { depth }
+}
+
+/// What the port at a path gives, in mA, where the listing says it.
+fn granted_at(path: &PortPath, entries: &[(PortPath, Finding)]) -> Option<u16>
+    ensures { result ≡ granted_at path.now entries.now }
+{
+    match path.parent() {
+        None => Some(supply(true, false)),
+        Some(hub) => supply_below(&hub, entries),
+    }
+}
+
+/// What each port of the hub at a path gives.
+fn supply_below(hub: &PortPath, entries: &[(PortPath, Finding)]) -> Option<u16>
+    ensures { result ≡ supply_below hub.now entries.now }
+{
+    let Some((entry, behind)) = entries.split_first() else {
+        return None;
+    };
+    if entry.0 == *hub {
+        finding_supply(&entry.1)
+    } else {
+        supply_below(hub, behind)
+    }
+}
+
+fn finding_supply(finding: &Finding) -> Option<u16>
+    ensures { result ≡ finding_supply finding.now }
+{
+    match finding {
+        Finding::Device(device) => hub_supply(&device.hub),
+        Finding::Refused(_) => None,
+    }
+}
+
+fn hub_supply(hub: &Option<HubFacts>) -> Option<u16>
+    ensures { result ≡ hub_supply hub.now }
+{
+    match hub {
+        None => None,
+        Some(facts) => Some(facts.supply),
+    }
+}
+
+/// A drawn listing leaves no entry out, and gives each one line.
+pub fn drawing_laws()
+    // One line is the heading, and each other one an entry's.
+    ensures count { (style : AStyle) (number : ℕ) (entries : Entries)
+        → length (drawing_lines style number entries) ≡ length entries + 1 }
+    // The lines are in the order of the entries, accepted or refused.
+    ensures order { (style : AStyle) (number : ℕ) (before behind : Entries)
+        (e : List ℕ × AFinding)
+        → slice_get (drawing_lines style number (before ++ e ∷ behind)) (length before + 1)
+        ≡ Some (entry_line style (deepest (before ++ e ∷ behind))
+        (granted_at e.0 (before ++ e ∷ behind)) e behind) }
+    // No line has a newline but at its end.
+    ensures whole { (style : AStyle) (number : ℕ) (entries : Entries)
+        → All IsOneLine (drawing_lines style number entries) }
+{}

@@ -1,0 +1,64 @@
+//! A writer that fails behind so many bytes: what went out of a row, and the fault that is told.
+use super::rows::{A_FUNCTION, Row};
+use std::alloc::Global;
+use std::io;
+use std::io::{Error, ErrorKind, Write};
+use std::test::Fail;
+use usb_bus::Watched;
+use usb_drawing::{Style, draw};
+use usb_serve::ServeFault;
+
+/// A writer with room for so many bytes, which fails where it is full.
+#[derive(Drop)]
+struct Narrow {
+    taken: Vec<u8>,
+    room: usize,
+}
+
+impl Write for Narrow {
+    ghost use Rattle.std.specs.Prelude.{Some};
+
+    ghost contents = { λ n. Some n.taken.items };
+
+    fn write(&mut self, buf: &[u8]) -> io::Result<usize> {
+        let count = buf.len().min(self.room);
+        if count == 0 && !buf.is_empty() {
+            return Err(Error::from(ErrorKind::Other));
+        }
+        self.taken.extend_from_slice(&buf[..count])?;
+        self.room -= count;
+        Ok(count)
+    }
+
+    fn flush(&mut self) -> io::Result<()> {
+        Ok(())
+    }
+}
+
+/// Whether a writer of this room has just a front of the row's text, and is told to have failed where that is not all.
+fn is_front(alloc: Global, row: &Row, room: usize) -> bool {
+    let mut reader = Watched::new(row.plan.as_bytes());
+    let mut writer = Watched::new(Narrow {
+        taken: Vec::new(alloc),
+        room,
+    });
+    let ended = draw(alloc, Style::Lines, &mut reader, &mut writer);
+    let failed = writer.failed();
+    let wanted = if room < row.lines.len() {
+        Err(ServeFault::Write)
+    } else {
+        Ok(())
+    };
+    let front = row.lines.as_bytes().get(..room.min(row.lines.len()));
+    ended == wanted
+        && failed == wanted.is_err()
+        && front == Some(writer.into_inner().taken.as_slice())
+}
+
+#[test]
+fn a_full_writer_has_a_front_of_the_text(rt: HostRuntime) -> Result<(), Fail> {
+    for room in 0..=A_FUNCTION.lines.len() {
+        assert!(rt; is_front(rt.alloc(), &A_FUNCTION, room), "{room} bytes");
+    }
+    Ok(())
+}
