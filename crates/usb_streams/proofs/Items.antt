@@ -46,7 +46,7 @@ use Rattle.usb_serve.specs.declared.runs.RunFault.{RunFault}
 use Rattle.usb_serve.specs.declared.transfer.TransferFault.{TransferFault}
 use Rattle.usb_serve.specs.RunSegments.{Knows}
 use Rattle.usb_serve.specs.Transfers.{ClearTells, IsItemOf, ReceiveTells, SendTells, Transfers, failed, sent_count, transfer_ended}
-use Rattle.usb_serve.proofs.ToldTransfers.{count_done, told_cleared, told_received, told_sent}
+use Rattle.usb_serve.proofs.Interface.{count_done, told_cleared, told_received, told_sent}
 use Rattle.usb_streams.specs.Stretches.{Told}
 use Rattle.usb_streams.specs.Streams.{ClearsNoIn, ClearsNoOut, GaveNextBy, IsAtWork, Joins, StreamsAt, bytes_for, bytes_from, is_done}
 use Rattle.usb_streams.proofs.Bytes.{SinkStep, joins_none, step_none}

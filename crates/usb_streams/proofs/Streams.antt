@@ -25,8 +25,7 @@ use Rattle.usb_serve.specs.declared.runs.Item.{Item}
 use Rattle.usb_serve.specs.RunSegments.{Comes, Knows, RoundTells, Settled}
 use Rattle.usb_serve.specs.Transcript.{AppendsText}
 use Rattle.usb_serve.specs.Transfers.{IsItemOf}
-use Rattle.usb_serve.proofs.KnowledgeKept.{came_running, came_still}
-use Rattle.usb_serve.proofs.RunCourses.{comes_onward}
+use Rattle.usb_serve.proofs.Interface.{came_running, came_still, comes_onward}
 use Rattle.usb_streams.specs.Stretches.{LiesBetween, round, changed, last, wrote, Stretch, begun, further, more, Told}
 use Rattle.usb_streams.specs.Streams.{StartsAt, StoodAt, StoodOrFound, Streams, StreamsAt}
 use Rattle.usb_streams.proofs.Devices.{Moves, Stays, at_then, spares_stays, streams_move, streams_none, streams_stay}

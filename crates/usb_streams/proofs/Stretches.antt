@@ -15,9 +15,7 @@ use Rattle.usb_serve.specs.Run.{listing_of}
 use Rattle.usb_serve.specs.RunSegments.{Comes, Knows, Ran, idle, changed as ran_changed, Rounds, none, more as one_more, RoundTells, Settles}
 use Rattle.usb_serve.specs.Transcript.{AppendsText, Makes, asked, last as run_last, Transcript, begun as run_begun, told as run_told, shown}
 use Rattle.usb_serve.specs.Transfers.{IsItemOf, TransferTells}
-use Rattle.usb_serve.proofs.KnowledgeKept.{knows_then, puts_knows}
-use Rattle.usb_serve.proofs.RunCourses.{Onward, called_onward, comes_onward, puts_onward}
-use Rattle.usb_serve.proofs.RunParts.{item_called, round_called}
+use Rattle.usb_serve.proofs.Interface.{Onward, called_onward, comes_onward, item_called, knows_then, puts_knows, puts_onward, round_called}
 use Rattle.usb_streams.specs.Stretches.{IsStretch, LiesBetween, round, changed, last, wrote, Stretch, begun, further, more, Told}
 
 -- A part
