@@ -1,0 +1,6 @@
+pub mod Key
+pub mod Shown
+pub mod Nearest
+pub mod Place
+pub mod Report
+pub mod Check

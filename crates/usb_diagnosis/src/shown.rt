@@ -1,0 +1,45 @@
+//! Pieces of what is told: numbers, and texts of the plan made fit for one line.
+
+ghost use Rattle.std.specs.Prelude.{◌≡◌, ◌++◌, decimal, OnOk, string_bytes};
+ghost use Rattle.std.specs.Str.{chars};
+ghost use Rattle.usb_diagnosis.specs.Shown.{char_shown, shown};
+
+use std::alloc::{AllocError, Global};
+
+/// How many characters of a text are shown.
+const MOST_SHOWN: usize = 60;
+
+/// Adds a number in decimal digits.
+pub(crate) fn push_number(alloc: Global, out: &mut String, number: u64) -> Result<(), AllocError>
+    ensures { OnOk result (string_bytes out.new ≡ string_bytes out.old ++ decimal number) }
+{
+    let digits = number.to_string(alloc)?;
+    out.push_str(digits.as_str())
+}
+
+/// Adds a character, a control character as `\u` and its number in four hexadecimal digits.
+fn push_char(alloc: Global, out: &mut String, letter: char) -> Result<(), AllocError>
+    ensures { OnOk result (string_bytes out.new ≡ string_bytes out.old ++ char_shown letter) }
+{
+    if !letter.is_control() {
+        return out.push(letter);
+    }
+    let digits = hex::encode_upper(alloc, &[letter as u8])?;
+    out.push_str("\\u00")?;
+    out.push_str(digits.as_str())
+}
+
+/// Adds the first 60 characters of a text, and three dots where there are more.
+pub(crate) fn push_shown(alloc: Global, out: &mut String, text: &str) -> Result<(), AllocError>
+    ensures { OnOk result (string_bytes out.new ≡ string_bytes out.old ++ shown (chars text.now)) }
+{
+    let mut count = 0;
+    'letters: for letter in text.chars() {
+        if count == MOST_SHOWN {
+            return out.push_str("...");
+        }
+        push_char(alloc, out, letter)?;
+        count += 1;
+    }
+    Ok(())
+}
