@@ -3,4 +3,5 @@ pub mod Shown
 pub mod Nearest
 pub mod Place
 pub mod Report
-pub mod Check
+pub mod Checking
+pub mod Trouble

@@ -6,9 +6,9 @@ use crate::marks::{Mark, entry_line, key_line, top_line};
 use crate::nearest::nearest;
 use crate::place::Spot;
 use crate::shown::{push_number, push_shown};
-use crate::trouble::{Trouble, is_known, is_word, trouble_of};
+use crate::trouble::{Trouble, is_known, is_word};
 use std::alloc::{AllocError, Global};
-use toml::{Table, Value};
+use toml::Value;
 use usb_plan::{Place, PlanFault};
 
 /// The line where an entry begins.
@@ -287,10 +287,13 @@ pub(crate) fn trouble_lines(
     alloc: Global,
     marks: &[Mark],
     entry: &Entry<'_>,
-    trouble: Trouble<'_>,
+    trouble: Option<Trouble<'_>>,
     fault: PlanFault,
 ) -> Result<String, AllocError> {
     let mut lines = String::new(alloc);
+    let Some(trouble) = trouble else {
+        return Ok(lines);
+    };
     push_head(alloc, &mut lines, marks, entry)?;
     push_trouble(alloc, &mut lines, trouble)?;
     push_allowed(alloc, &mut lines, entry, trouble, fault)?;

@@ -1,6 +1,9 @@
 //! The entry of a plan's document in which a fault stands.
 
-ghost use Rattle.std.specs.Prelude.{◌≡◌};
+ghost use Rattle.std.specs.Prelude.{◌≡◌, option_map};
+ghost use Rattle.toml.specs.Data.{get_member};
+ghost use Rattle.toml.specs.View.{view, table_view};
+ghost use Rattle.usb_diagnosis.specs.Key.{key_name};
 
 use crate::key::{DAMAGE_KEYS, DEVICE_KEYS, PlanKey, TOP_KEYS, verb_keys};
 use toml::{Table, Value};
@@ -92,7 +95,10 @@ impl<'a> Entry<'a> {
     }
 
     /// The value at a key.
-    pub(crate) fn value(&self, key: PlanKey) -> Option<&'a Value> {
+    pub(crate) fn value(&self, key: PlanKey) -> Option<&'a Value>
+        ensures { option_map (λ v. view v.now) result
+            ≡ get_member (key_name key) (table_view self.now.table.now) }
+    {
         self.table.get(key.name())
     }
 

@@ -3,7 +3,7 @@
 //! `check_text` makes the lines, `check` writes them.
 #![tactic(auto)]
 
-mod check;
+mod checking;
 mod details;
 mod entry;
 mod key;
@@ -14,4 +14,4 @@ mod report;
 mod shown;
 mod trouble;
 
-pub use check::{CheckFault, Checked, Verdict, check, check_text};
+pub use checking::{CheckFault, Checked, Verdict, check, check_text};

@@ -101,7 +101,7 @@ fn opening_of(start: &str) -> (Opening, &str)
 
 /// The text behind a comment, an end of a line or a closing bracket that ends a statement.
 fn after_value(alloc: Global, start: &str) -> Result<&str, ParseError>
-    ensures { length result.now ≤ length start.now }
+    ensures { IfOk result (λ rest. length rest.now ≤ length start.now) }
 {
     let mut rest = start;
     let mut depth = 0usize;

@@ -13,6 +13,7 @@ const MOST_EDITS: usize = 2;
 const LONGEST_NAME: usize = 64;
 
 /// How many letters have to be put in, taken out or exchanged, or 3 where one of the two is longer than any name.
+#[tactic(auto, unfolding(crate::specs::Nearest::edits_between))]
 fn edits_between(alloc: Global, from: &str, to: &str) -> Result<usize, AllocError>
     ensures { IfOk result (λ n. n ≡ edits_between from.now to.now) }
 {
@@ -28,7 +29,7 @@ pub(crate) fn nearest(
     word: &str,
     names: &[&str],
 ) -> Result<Option<usize>, AllocError>
-    ensures { IfOk result (IsNearest word.now (map (λ n. n.now) names.now)) }
+    ensures { IfOk result (IsNearest (map (λ n. edits_between word.now n.now) names.now)) }
 {
     let mut found = None;
     let mut fewest = MOST_EDITS + 1;

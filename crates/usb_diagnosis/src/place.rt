@@ -1,7 +1,7 @@
 //! Where in a file something stands, and how that is told.
 
-ghost use Rattle.std.specs.Prelude.{◌≡◌, ◌++◌, OnOk, string_bytes};
-ghost use Rattle.usb_diagnosis.specs.Place.{spot_after, spot_text};
+ghost use Rattle.std.specs.Prelude.{◌≡◌, ◌-◌, ◌^◌, ◌<◌, ◌++◌, OnOk, string_bytes};
+ghost use Rattle.usb_diagnosis.specs.Place.{behind, numbered, spot_after, spot_text};
 
 use crate::shown::push_number;
 use std::alloc::{AllocError, Global};
@@ -17,21 +17,30 @@ pub(crate) enum Spot {
     Column(usize, usize),
 }
 
+/// The line and the column behind one more byte of a text. Of a character's bytes the first alone counts.
+fn behind(at: (usize, usize), byte: u8) -> (usize, usize)
+    requires line { at.0 < 2 ^ 64 - 1 }
+    requires column { at.1 < 2 ^ 64 - 1 }
+    ensures { result ≡ behind at byte }
+{
+    if byte == b'\n' {
+        (at.0 + 1, 1)
+    } else if byte & 0xC0 == 0x80 {
+        at
+    } else {
+        (at.0, at.1 + 1)
+    }
+}
+
 /// The spot behind these bytes of a text.
 pub(crate) fn spot_after(before: &[u8]) -> Spot
     ensures { result ≡ spot_after before.now }
 {
-    let mut line = 1;
-    let mut column = 1;
+    let mut at = (1, 1);
     'bytes: for byte in before {
-        if *byte == b'\n' {
-            line += 1;
-            column = 1;
-        } else if *byte & 0xC0 != 0x80 {
-            column += 1;
-        }
+        at = behind(at, *byte);
     }
-    Spot::Column(line, column)
+    Spot::Column(at.0, at.1)
 }
 
 /// Adds `:LINE`, `:LINE:COLUMN` or nothing.
@@ -48,7 +57,9 @@ pub(crate) fn push_spot(alloc: Global, out: &mut String, spot: Spot) -> Result<(
     }
 }
 
-fn push_behind_colon(alloc: Global, out: &mut String, number: usize) -> Result<(), AllocError> {
+fn push_behind_colon(alloc: Global, out: &mut String, number: usize) -> Result<(), AllocError>
+    ensures { OnOk result (string_bytes out.new ≡ string_bytes out.old ++ numbered number) }
+{
     out.push_str(":")?;
     push_number(alloc, out, number as u64)
 }

@@ -20,6 +20,7 @@ fn push_count(alloc: Global, out: &mut String, word: &str, number: u64) -> Resul
 }
 
 /// What a plan holds: how many devices, events and damages, and its bound.
+#[tactic(auto, unfolding(crate::specs::Report::plan_lines))]
 pub(crate) fn plan_lines(alloc: Global, plan: &Plan) -> Result<String, AllocError>
     ensures { IfOk result (λ lines. string_bytes lines ≡ plan_lines plan.now) }
 {
@@ -73,6 +74,7 @@ pub(crate) fn place_of(fault: PlanFault) -> Option<Place>
 }
 
 /// Adds the words of a fault, as `plan: device 2: bad value`.
+#[tactic(auto, unfolding(crate::specs::Report::fault_text))]
 fn push_fault(alloc: Global, out: &mut String, fault: PlanFault) -> Result<(), AllocError>
     ensures { OnOk result (string_bytes out.new ≡ string_bytes out.old ++ fault_text fault) }
 {
@@ -85,6 +87,7 @@ fn push_fault(alloc: Global, out: &mut String, fault: PlanFault) -> Result<(), A
 }
 
 /// The first line of what is told of a text that is no plan: `FILE:LINE: FAULT`.
+#[tactic(auto, unfolding(crate::specs::Report::first_line))]
 pub(crate) fn first_line(
     alloc: Global,
     file: &str,

@@ -1,6 +1,6 @@
 //! Pieces of what is told: numbers, and texts of the plan made fit for one line.
 
-ghost use Rattle.std.specs.Prelude.{◌≡◌, ◌++◌, decimal, OnOk, string_bytes};
+ghost use Rattle.std.specs.Prelude.{◌≡◌, ◌++◌, decimal, flat_map, IfOk, OnOk, string_bytes};
 ghost use Rattle.std.specs.Str.{chars};
 ghost use Rattle.usb_diagnosis.specs.Shown.{char_shown, shown};
 
@@ -29,17 +29,37 @@ fn push_char(alloc: Global, out: &mut String, letter: char) -> Result<(), AllocE
     out.push_str(digits.as_str())
 }
 
+fn push_letters(alloc: Global, out: &mut String, letters: &[char]) -> Result<(), AllocError>
+    ensures { OnOk result (string_bytes out.new
+        ≡ string_bytes out.old ++ flat_map char_shown letters.now) }
+{
+    'letters: for letter in letters {
+        push_char(alloc, out, *letter)?;
+    }
+    Ok(())
+}
+
+/// Adds the first 60 letters, and three dots where there are more.
+fn push_front(alloc: Global, out: &mut String, letters: &[char]) -> Result<(), AllocError>
+    ensures { OnOk result (string_bytes out.new ≡ string_bytes out.old ++ shown letters.now) }
+{
+    if letters.len() <= MOST_SHOWN {
+        return push_letters(alloc, out, letters);
+    }
+    push_letters(alloc, out, &letters[..MOST_SHOWN])?;
+    out.push_str("...")
+}
+
+fn letters_of(alloc: Global, text: &str) -> Result<Vec<char>, AllocError>
+    ensures { IfOk result (λ letters. letters.items ≡ chars text.now) }
+{
+    text.chars().collect(alloc)
+}
+
 /// Adds the first 60 characters of a text, and three dots where there are more.
 pub(crate) fn push_shown(alloc: Global, out: &mut String, text: &str) -> Result<(), AllocError>
     ensures { OnOk result (string_bytes out.new ≡ string_bytes out.old ++ shown (chars text.now)) }
 {
-    let mut count = 0;
-    'letters: for letter in text.chars() {
-        if count == MOST_SHOWN {
-            return out.push_str("...");
-        }
-        push_char(alloc, out, letter)?;
-        count += 1;
-    }
-    Ok(())
+    let letters = letters_of(alloc, text)?;
+    push_front(alloc, out, letters.as_slice())
 }

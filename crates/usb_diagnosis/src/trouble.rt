@@ -1,5 +1,11 @@
 //! Which key of an entry makes its fault.
 
+ghost use Rattle.std.specs.Prelude.{◌≡◌, None, IfSome};
+ghost use Rattle.toml.specs.Data.{get_member};
+ghost use Rattle.toml.specs.View.{table_view};
+ghost use Rattle.usb_diagnosis.specs.Key.{key_name};
+ghost use Rattle.usb_diagnosis.specs.Trouble.{IsTroubleOf};
+
 use crate::entry::{Entry, text_at};
 use crate::key::{Kind, PlanKey};
 use toml::{Table, Value};
@@ -111,7 +117,9 @@ fn flaw_of(key: PlanKey, value: &Value) -> Option<Flaw> {
 }
 
 /// The first of the entry's keys whose value has the flaw.
-fn flawed<'a>(entry: &Entry<'a>, flaw: Flaw) -> Option<Trouble<'a>> {
+fn flawed<'a>(entry: &Entry<'a>, flaw: Flaw) -> Option<Trouble<'a>>
+    ensures { IfSome result (IsTroubleOf (table_view entry.now.table.now)) }
+{
     for key in entry.keys() {
         if let Some(value) = entry.value(*key) {
             if flaw_of(*key, value) == Some(flaw) {
@@ -123,7 +131,9 @@ fn flawed<'a>(entry: &Entry<'a>, flaw: Flaw) -> Option<Trouble<'a>> {
 }
 
 /// What is wrong with the value at the key, if one stands there.
-fn wrong_at<'a>(entry: &Entry<'a>, key: PlanKey) -> Option<Trouble<'a>> {
+fn wrong_at<'a>(entry: &Entry<'a>, key: PlanKey) -> Option<Trouble<'a>>
+    ensures { IfSome result (IsTroubleOf (table_view entry.now.table.now)) }
+{
     let value = entry.value(key)?;
     Some(Trouble::Wrong(key, value))
 }
@@ -145,7 +155,10 @@ fn unknown_key<'a>(entry: &Entry<'a>) -> Option<&'a str> {
 }
 
 /// The first key that the entry has to have, and has not.
-fn missing_key(entry: &Entry<'_>) -> Option<PlanKey> {
+fn missing_key(entry: &Entry<'_>) -> Option<PlanKey>
+    ensures { IfSome result (λ key.
+        get_member (key_name key) (table_view entry.now.table.now) ≡ None) }
+{
     for key in entry.keys() {
         if entry.needs(*key) && entry.value(*key).is_none() {
             return Some(*key);
@@ -180,7 +193,9 @@ fn has_other_class(entry: &Entry<'_>) -> bool {
 }
 
 /// What is wrong with a device whose keys each have a value that they allow by themselves.
-fn device_trouble<'a>(entry: &Entry<'a>) -> Option<Trouble<'a>> {
+fn device_trouble<'a>(entry: &Entry<'a>) -> Option<Trouble<'a>>
+    ensures { IfSome result (IsTroubleOf (table_view entry.now.table.now)) }
+{
     if let Some(name) = entry.text(PlanKey::Name) {
         if is_taken_name(entry, name) {
             return wrong_at(entry, PlanKey::Name);
@@ -214,7 +229,9 @@ fn number_at(table: Option<&Table>, key: &str) -> i64 {
 }
 
 /// What is wrong with a damage whose keys each have a value that they allow by themselves.
-fn damage_trouble<'a>(entry: &Entry<'a>) -> Option<Trouble<'a>> {
+fn damage_trouble<'a>(entry: &Entry<'a>) -> Option<Trouble<'a>>
+    ensures { IfSome result (IsTroubleOf (table_view entry.now.table.now)) }
+{
     if number_at(Some(entry.table()), "attempt") <= last_attempt(entry) {
         return wrong_at(entry, PlanKey::Attempt);
     }
@@ -225,7 +242,9 @@ fn damage_trouble<'a>(entry: &Entry<'a>) -> Option<Trouble<'a>> {
 }
 
 /// What is wrong with values that their keys allow by themselves, beside the rest of the plan.
-fn trouble_beside_others<'a>(entry: &Entry<'a>) -> Option<Trouble<'a>> {
+fn trouble_beside_others<'a>(entry: &Entry<'a>) -> Option<Trouble<'a>>
+    ensures { IfSome result (IsTroubleOf (table_view entry.now.table.now)) }
+{
     match entry.place() {
         Place::Device(_) => device_trouble(entry),
         Place::Damage(_) => damage_trouble(entry),
@@ -234,7 +253,9 @@ fn trouble_beside_others<'a>(entry: &Entry<'a>) -> Option<Trouble<'a>> {
 }
 
 /// Why an entry has a bad value. Where nothing else is wrong, a hub's descriptor tells of other ports than it has.
-fn bad_value<'a>(entry: &Entry<'a>) -> Option<Trouble<'a>> {
+fn bad_value<'a>(entry: &Entry<'a>) -> Option<Trouble<'a>>
+    ensures { IfSome result (IsTroubleOf (table_view entry.now.table.now)) }
+{
     if let Some(name) = unknown_key(entry) {
         return Some(Trouble::Unknown(name));
     }
@@ -251,7 +272,9 @@ fn bad_value<'a>(entry: &Entry<'a>) -> Option<Trouble<'a>> {
 }
 
 /// What of the entry makes the fault that is told of it.
-pub(crate) fn trouble_of<'a>(entry: &Entry<'a>, fault: PlanFault) -> Option<Trouble<'a>> {
+pub(crate) fn trouble_of<'a>(entry: &Entry<'a>, fault: PlanFault) -> Option<Trouble<'a>>
+    ensures { IfSome result (IsTroubleOf (table_view entry.now.table.now)) }
+{
     match fault {
         PlanFault::MissingKey(_) => match missing_key(entry) {
             None => None,
