@@ -1,5 +1,5 @@
 -- Texts of a plan, made fit for one line.
-use Rattle.std.specs.Prelude.{ℕ, nat_le, codes, List, [], ◌∷◌, ◌++◌, length, take, flat_map, encode_utf8, if◌then◌else◌}
+use Rattle.std.specs.Prelude.{ℕ, nat_lt, codes, List, [], ◌∷◌, ◌++◌, length, take, flat_map, encode_utf8, if◌then◌else◌}
 use Rattle.std.specs.Char.{is_control}
 use Rattle.hex.specs.Hex.{encode_upper}
 
@@ -7,6 +7,10 @@ use Rattle.hex.specs.Hex.{encode_upper}
 abbrev pub char_shown : ℕ → List ℕ
 char_shown c = if is_control c then codes "\\u00" ++ encode_upper (c ∷ []) else encode_utf8 c
 
--- the first 60 characters, and three dots where there are more
+-- three dots, where there are more than 60 characters
+abbrev pub dots : List ℕ → List ℕ
+dots cs = if nat_lt 60 (length cs) then codes "..." else []
+
+-- the first 60 characters, and those dots
 abbrev pub shown : List ℕ → List ℕ
-shown cs = if nat_le (length cs) 60 then flat_map char_shown cs else flat_map char_shown (take 60 cs) ++ codes "..."
+shown cs = flat_map char_shown (take 60 cs) ++ dots cs

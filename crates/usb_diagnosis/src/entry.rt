@@ -41,9 +41,16 @@ fn values_at<'a>(document: &'a Table, key: &str) -> &'a [Value] {
     }
 }
 
+/// The value at a key.
+fn value_at<'a>(table: &'a Table, key: &str) -> Option<&'a Value>
+    ensures { option_map (λ v. view v.now) result ≡ get_member key.now (table_view table.now) }
+{
+    table.get(key)
+}
+
 /// The text at a key, where it is one.
 pub(crate) fn text_at<'a>(table: &'a Table, key: &str) -> Option<&'a str> {
-    table.get(key)?.as_str()
+    value_at(table, key)?.as_str()
 }
 
 impl<'a> Entry<'a> {
@@ -99,7 +106,7 @@ impl<'a> Entry<'a> {
         ensures { option_map (λ v. view v.now) result
             ≡ get_member (key_name key) (table_view self.now.table.now) }
     {
-        self.table.get(key.name())
+        value_at(self.table, key.name())
     }
 
     /// The text at a key, where it is one.

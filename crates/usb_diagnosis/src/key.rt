@@ -75,12 +75,7 @@ pub(crate) const DAMAGE_KEYS: [PlanKey; 4] = [
 /// The keys of an event whose `do` is absent or no word: nothing else of it is looked at.
 const NO_VERB_KEYS: [PlanKey; 1] = [PlanKey::Do];
 
-const PLUG_KEYS: [PlanKey; 4] = [
-    PlanKey::Do,
-    PlanKey::After,
-    PlanKey::Path,
-    PlanKey::Device,
-];
+const PLUG_KEYS: [PlanKey; 4] = [PlanKey::Do, PlanKey::After, PlanKey::Path, PlanKey::Device];
 
 const PATH_KEYS: [PlanKey; 3] = [PlanKey::Do, PlanKey::After, PlanKey::Path];
 
@@ -88,12 +83,7 @@ const SHOW_KEYS: [PlanKey; 2] = [PlanKey::Do, PlanKey::After];
 
 const SEND_KEYS: [PlanKey; 4] = [PlanKey::Do, PlanKey::After, PlanKey::Path, PlanKey::Bytes];
 
-const RECEIVE_KEYS: [PlanKey; 4] = [
-    PlanKey::Do,
-    PlanKey::After,
-    PlanKey::Path,
-    PlanKey::Packets,
-];
+const RECEIVE_KEYS: [PlanKey; 4] = [PlanKey::Do, PlanKey::After, PlanKey::Path, PlanKey::Packets];
 
 /// The words of `speed`.
 const SPEEDS: [&str; 2] = ["full", "low"];

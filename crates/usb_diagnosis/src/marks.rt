@@ -105,7 +105,7 @@ fn after_value(alloc: Global, start: &str) -> Result<&str, ParseError>
 {
     let mut rest = start;
     let mut depth = 0usize;
-    for _ in 0..start.len() {
+    'steps: for _ in 0..start.len() {
         let byte = first(rest);
         if starts_string(rest) {
             rest = quoted(alloc, rest)?.1;

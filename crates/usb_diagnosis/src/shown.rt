@@ -1,8 +1,8 @@
 //! Pieces of what is told: numbers, and texts of the plan made fit for one line.
 
-ghost use Rattle.std.specs.Prelude.{◌≡◌, ◌++◌, decimal, flat_map, IfOk, OnOk, string_bytes};
+ghost use Rattle.std.specs.Prelude.{◌≡◌, ◌++◌, decimal, flat_map, IfOk, OnOk, string_bytes, take};
 ghost use Rattle.std.specs.Str.{chars};
-ghost use Rattle.usb_diagnosis.specs.Shown.{char_shown, shown};
+ghost use Rattle.usb_diagnosis.specs.Shown.{char_shown, dots, shown};
 
 use std::alloc::{AllocError, Global};
 
@@ -39,15 +39,33 @@ fn push_letters(alloc: Global, out: &mut String, letters: &[char]) -> Result<(),
     Ok(())
 }
 
-/// Adds the first 60 letters, and three dots where there are more.
+/// The first 60 letters, or all that there are.
+fn front(letters: &[char]) -> &[char]
+    ensures { result.now ≡ take 60 letters.now }
+{
+    if letters.len() < MOST_SHOWN {
+        letters
+    } else {
+        &letters[..MOST_SHOWN]
+    }
+}
+
+/// What stands behind the first 60 letters: three dots, where there are more.
+fn dots(letters: &[char]) -> &'static str
+    ensures { result.now ≡ dots letters.now }
+{
+    if letters.len() > MOST_SHOWN {
+        "..."
+    } else {
+        ""
+    }
+}
+
 fn push_front(alloc: Global, out: &mut String, letters: &[char]) -> Result<(), AllocError>
     ensures { OnOk result (string_bytes out.new ≡ string_bytes out.old ++ shown letters.now) }
 {
-    if letters.len() <= MOST_SHOWN {
-        return push_letters(alloc, out, letters);
-    }
-    push_letters(alloc, out, &letters[..MOST_SHOWN])?;
-    out.push_str("...")
+    push_letters(alloc, out, front(letters))?;
+    out.push_str(dots(letters))
 }
 
 fn letters_of(alloc: Global, text: &str) -> Result<Vec<char>, AllocError>

@@ -88,7 +88,10 @@ fn hexes_flaw(value: &Value, count: usize, most: usize) -> Option<Flaw> {
     if values.len() > count || has_flaw(values.as_slice(), most, Flaw::Value) {
         return Some(Flaw::Value);
     }
-    flaw_if(has_flaw(values.as_slice(), most, Flaw::Digits), Flaw::Digits)
+    flaw_if(
+        has_flaw(values.as_slice(), most, Flaw::Digits),
+        Flaw::Digits,
+    )
 }
 
 fn has_flaw(values: &[Value], most: usize, flaw: Flaw) -> bool {

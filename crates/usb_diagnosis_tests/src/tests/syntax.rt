@@ -7,8 +7,7 @@ use usb_plan::PlanFault;
 const ROWS: [Row; 6] = [
     Row {
         text: "limit = \n",
-        told:
-            "p.toml:1:9: plan: syntax\n  invalid value, expected a string, number, boolean, date-time, array or inline table\n",
+        told: "p.toml:1:9: plan: syntax\n  invalid value, expected a string, number, boolean, date-time, array or inline table\n",
     },
     Row {
         text: "limit = 1\nroots 1\n",
@@ -60,7 +59,10 @@ fn a_plan(rt: HostRuntime) -> Result<(), AllocError> {
 #[test]
 fn bytes_that_are_no_text(rt: HostRuntime) -> Result<(), AllocError> {
     let checked = check_text(rt.alloc(), "p.toml", b"limit = 1\n# \xC3\xA4\xFF\n")?;
-    assert_eq!(rt; checked.lines.as_str(), "p.toml:2:4: plan: syntax\n  invalid UTF-8\n");
+    assert_eq!(rt;
+        checked.lines.as_str(),
+        "p.toml:2:4: plan: syntax\n  invalid UTF-8\n"
+    );
     assert!(rt; checked.verdict == Verdict::Refused(PlanFault::Syntax));
     Ok(())
 }
