@@ -1,5 +1,5 @@
 -- What is told of a text.
-use Rattle.std.specs.Prelude.{◌≡◌, ◌≢◌, ℕ, ◌≤◌, List, ◌++◌, length, take, Option, None, Result, Ok, Err, IsUtf8}
+use Rattle.std.specs.Prelude.{◌≡◌, ◌≢◌, ℕ, List, ◌++◌, Option, None, Result, Ok, Err, IsUtf8}
 use Rattle.std.specs.Io.KnownBytes.{Appends}
 use Rattle.toml.specs.Parse.{parse_document}
 use Rattle.usb_bus.specs.Watch.{AppendsFront}
@@ -12,7 +12,7 @@ use Rattle.usb_diagnosis.specs.declared.checking.CheckFault.TheVariants.{Write, 
 use Rattle.usb_diagnosis.specs.declared.checking.Verdict.{Verdict}
 use Rattle.usb_diagnosis.specs.declared.checking.Verdict.TheVariants.{Plan, Refused}
 use Rattle.usb_diagnosis.specs.declared.place.Spot.{Spot}
-use Rattle.usb_diagnosis.specs.Place.{spot_after}
+use Rattle.usb_diagnosis.specs.Place.{IsColumnIn, IsSpotIn}
 use Rattle.usb_diagnosis.specs.Report.{plan_lines, first_line}
 
 -- the text spells a plan, and the lines are the plan's
@@ -26,22 +26,18 @@ pub record IsLed (first lines : List ℕ) : Type 0 where
   pub rest : List ℕ
   pub told : lines ≡ first ++ rest
 
--- they begin with the file, a spot and the fault
-pub record BeginsWith (file : List ℕ) (fault : PlanFault) (lines : List ℕ) : Type 0 where
+-- they begin with the file, a spot of the text and the fault
+pub record BeginsWith (file text : List ℕ) (fault : PlanFault) (lines : List ℕ) : Type 0 where
   pub spot : Spot
+  pub found : IsSpotIn text spot
   pub led : IsLed (first_line file spot fault) lines
 
--- the spot behind a front of the text
-pub record IsSpotIn (text : List ℕ) (spot : Spot) : Type 0 where
-  pub count : ℕ
-  pub within : count ≤ length text
-  pub behind : spot ≡ spot_after (take count text)
-
--- the same, with a spot in the text where that is no document
+-- the same; where the text is no document a column is told
 pub record BeginsAt (file text : List ℕ) (fault : PlanFault) (lines : List ℕ) : Type 0 where
   pub spot : Spot
+  pub found : IsSpotIn text spot
+  pub garbled : parse_document text ≡ None → IsColumnIn text spot
   pub led : IsLed (first_line file spot fault) lines
-  pub found : parse_document text ≡ None → IsSpotIn text spot
 
 -- the text is no plan, for this fault, with which the lines begin
 pub record TellsFault (file text : List ℕ) (fault : PlanFault) (lines : List ℕ) : Type 0 where

@@ -5,13 +5,13 @@ ghost use Rattle.std.specs.Str.{valid_up_to};
 ghost use Rattle.usb_bus.specs.Watch.{inner_of, has_failed};
 ghost use Rattle.usb_plan.specs.declared.fault.PlanFault.TheVariants as plan;
 ghost use Rattle.usb_diagnosis.specs.Checking.{BeginsAt, BeginsWith, IsLed, Tells, Writes};
-ghost use Rattle.usb_diagnosis.specs.Place.{spot_after};
+ghost use Rattle.usb_diagnosis.specs.Place.{spot_behind};
 ghost use Rattle.usb_diagnosis.specs.Report.{first_line};
 
 use crate::details::{spot_of, trouble_lines};
 use crate::entry::Entry;
-use crate::marks::marks_of;
-use crate::place::{Spot, spot_after};
+use crate::marks::Layout;
+use crate::place::{Spot, spot_behind};
 use crate::report::{first_line, place_of, plan_lines};
 use crate::trouble::trouble_of;
 use std::alloc::{AllocError, Global};
@@ -92,9 +92,9 @@ fn garbled(
     why: &str,
 ) -> Result<String, AllocError>
     ensures { IfOk result (λ lines.
-        IsLed (first_line file.now (spot_after before.now) fault) (string_bytes lines)) }
+        IsLed (first_line file.now (spot_behind before.now) fault) (string_bytes lines)) }
 {
-    let first = first_line(alloc, file, spot_after(before), fault)?;
+    let first = first_line(alloc, file, spot_behind(before), fault)?;
     let rest = format!(in alloc; "  {why}\n")?;
     joined(first, rest.as_str())
 }
@@ -107,13 +107,13 @@ fn lines_on(
     entry: &Entry<'_>,
     fault: PlanFault,
 ) -> Result<String, AllocError>
-    ensures { IfOk result (λ lines. BeginsWith file.now fault (string_bytes lines)) }
+    ensures { IfOk result (λ lines. BeginsWith file.now text.now fault (string_bytes lines)) }
 {
-    let marks = marks_of(alloc, text)?;
+    let layout = Layout::of(alloc, text)?;
     let trouble = trouble_of(entry, fault);
-    let spot = spot_of(marks.as_slice(), entry.place(), trouble);
+    let spot = spot_of(&layout, entry.place(), trouble);
     let first = first_line(alloc, file, spot, fault)?;
-    let rest = trouble_lines(alloc, marks.as_slice(), entry, trouble, fault)?;
+    let rest = trouble_lines(alloc, &layout, entry, trouble, fault)?;
     joined(first, rest.as_str())
 }
 
@@ -125,7 +125,7 @@ fn document_lines(
     document: &Table,
     fault: PlanFault,
 ) -> Result<String, AllocError>
-    ensures { IfOk result (λ lines. BeginsWith file.now fault (string_bytes lines)) }
+    ensures { IfOk result (λ lines. BeginsWith file.now text.now fault (string_bytes lines)) }
 {
     match Entry::at(document, place_of(fault).unwrap_or(Place::Top)) {
         None => first_line(alloc, file, Spot::Unknown, fault),

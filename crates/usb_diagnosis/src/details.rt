@@ -1,8 +1,11 @@
 //! What is told of an entry behind the first line: which key, what stands there, what is allowed, and what was meant.
 
+ghost use Rattle.std.specs.Prelude.{◌≡◌, IfSome};
+ghost use Rattle.usb_diagnosis.specs.Place.{IsLineIn, IsSpotIn, spot_on};
+
 use crate::entry::{Entry, array_of, text_at};
 use crate::key::PlanKey;
-use crate::marks::{Mark, entry_line, key_line, top_line};
+use crate::marks::Layout;
 use crate::nearest::nearest;
 use crate::place::Spot;
 use crate::shown::{push_number, push_shown};
@@ -12,40 +15,53 @@ use toml::Value;
 use usb_plan::{Place, PlanFault};
 
 /// The line where an entry begins.
-fn head_line(marks: &[Mark], place: Place) -> Option<usize> {
+fn head_line(layout: &Layout<'_>, place: Place) -> Option<usize>
+    ensures { IfSome result (IsLineIn layout.now.text.now) }
+{
     let (array, number) = array_of(place)?;
-    match entry_line(marks, array, number) {
-        None => top_line(marks, array),
+    match layout.entry_line(array, number) {
+        None => layout.top_line(array),
         line => line,
     }
 }
 
 /// The line of a key of an entry.
-fn line_of_key(marks: &[Mark], place: Place, key: &str) -> Option<usize> {
+fn line_of_key(layout: &Layout<'_>, place: Place, key: &str) -> Option<usize>
+    ensures { IfSome result (IsLineIn layout.now.text.now) }
+{
     match array_of(place) {
-        None => top_line(marks, key),
-        Some((array, number)) => key_line(marks, array, number, key),
+        None => layout.top_line(key),
+        Some((array, number)) => layout.key_line(array, number, key),
     }
 }
 
-/// The line of what makes a fault: of the key, and else where the entry begins.
-fn trouble_line(marks: &[Mark], place: Place, trouble: Option<Trouble<'_>>) -> Option<usize> {
-    let line = match trouble {
-        Some(Trouble::Unknown(key)) => line_of_key(marks, place, key),
-        Some(Trouble::Wrong(key, _)) => line_of_key(marks, place, key.name()),
+/// The line of the key that makes a fault.
+fn line_of_trouble(layout: &Layout<'_>, place: Place, trouble: Option<Trouble<'_>>) -> Option<usize>
+    ensures { IfSome result (IsLineIn layout.now.text.now) }
+{
+    match trouble {
+        Some(Trouble::Unknown(key)) => line_of_key(layout, place, key),
+        Some(Trouble::Wrong(key, _)) => line_of_key(layout, place, key.name()),
         Some(Trouble::Missing(_)) | Some(Trouble::OneTooMany) | None => None,
-    };
-    match line {
-        None => head_line(marks, place),
-        line => line,
     }
 }
 
-/// Where the trouble of an entry stands.
-pub(crate) fn spot_of(marks: &[Mark], place: Place, trouble: Option<Trouble<'_>>) -> Spot {
-    match trouble_line(marks, place, trouble) {
+fn spot_on(line: Option<usize>) -> Spot
+    ensures { result ≡ spot_on line }
+{
+    match line {
         None => Spot::Unknown,
         Some(line) => Spot::Line(line),
+    }
+}
+
+/// Where the trouble of an entry stands: at its key, and else where the entry begins.
+pub(crate) fn spot_of(layout: &Layout<'_>, place: Place, trouble: Option<Trouble<'_>>) -> Spot
+    ensures { IsSpotIn layout.now.text.now result }
+{
+    match line_of_trouble(layout, place, trouble) {
+        None => spot_on(head_line(layout, place)),
+        line => spot_on(line),
     }
 }
 
@@ -53,7 +69,7 @@ pub(crate) fn spot_of(marks: &[Mark], place: Place, trouble: Option<Trouble<'_>>
 fn push_head(
     alloc: Global,
     out: &mut String,
-    marks: &[Mark],
+    layout: &Layout<'_>,
     entry: &Entry<'_>,
 ) -> Result<(), AllocError> {
     let words = entry.place().to_string(alloc)?;
@@ -64,7 +80,7 @@ fn push_head(
         push_shown(alloc, out, name)?;
         out.push_str("\"")?;
     }
-    if let Some(line) = head_line(marks, entry.place()) {
+    if let Some(line) = head_line(layout, entry.place()) {
         out.push_str(", line ")?;
         push_number(alloc, out, line as u64)?;
     }
@@ -285,7 +301,7 @@ fn push_misspelled(
 /// The lines behind the first one on an entry's trouble.
 pub(crate) fn trouble_lines(
     alloc: Global,
-    marks: &[Mark],
+    layout: &Layout<'_>,
     entry: &Entry<'_>,
     trouble: Option<Trouble<'_>>,
     fault: PlanFault,
@@ -294,7 +310,7 @@ pub(crate) fn trouble_lines(
     let Some(trouble) = trouble else {
         return Ok(lines);
     };
-    push_head(alloc, &mut lines, marks, entry)?;
+    push_head(alloc, &mut lines, layout, entry)?;
     push_trouble(alloc, &mut lines, trouble)?;
     push_allowed(alloc, &mut lines, entry, trouble, fault)?;
     push_example(&mut lines, trouble)?;

@@ -2,17 +2,19 @@
 //!
 //! The document's values know nothing of that, so its text is walked once more, statement by statement.
 
-ghost use Rattle.std.specs.Prelude.{◌≡◌, ◌≤◌, length, IfOk};
+ghost use Rattle.std.specs.Prelude.{◌≡◌, ◌≤◌, length, IfOk, IfSome};
+ghost use Rattle.usb_diagnosis.specs.Place.{IsLineIn};
 
+use crate::place::line_behind;
 use std::alloc::{AllocError, Global};
 use toml_parser::text::{byte_at, first, skip, skip_blank, skip_ws};
 use toml_parser::{Key, ParseError, dotted_key, quoted, starts_string};
 
 /// A statement of a document.
 #[derive(Debug, Drop)]
-pub(crate) struct Mark {
-    /// Its line, counted from 1.
-    line: usize,
+struct Mark {
+    /// How many bytes of the text are before it.
+    at: usize,
     /// It begins an entry of the array at its path.
     begins: bool,
     /// The first two keys of the path of what it defines, from the top.
@@ -42,37 +44,68 @@ impl Mark {
     }
 }
 
-/// The line of the first statement on a key at the top.
-pub(crate) fn top_line(marks: &[Mark], key: &str) -> Option<usize> {
-    let mark = marks.iter().find(|mark| mark.is_below(key))?;
-    Some(mark.line)
+/// A document's text with its statements.
+#[derive(Debug, Drop)]
+pub(crate) struct Layout<'a> {
+    text: &'a str,
+    marks: Vec<Mark>,
 }
 
-/// The line where an entry of the array begins.
-pub(crate) fn entry_line(marks: &[Mark], array: &str, number: usize) -> Option<usize> {
-    let mut begun = 0usize;
-    for mark in marks {
-        if mark.begins(array) {
-            begun = begun.saturating_add(1);
-            if begun == number {
-                return Some(mark.line);
+impl<'a> Layout<'a> {
+    /// The layout of a text, up to the first statement that is none.
+    pub(crate) fn of(alloc: Global, text: &'a str) -> Result<Self, AllocError>
+        ensures { IfOk result (λ layout. layout.text.now ≡ text.entry.now) }
+    {
+        let marks = marks_of(alloc, text)?;
+        Ok(Layout { text, marks })
+    }
+
+    /// The line of a statement.
+    fn line(&self, mark: &Mark) -> usize
+        ensures { IsLineIn self.now.text.now result }
+    {
+        let at = mark.at.min(self.text.len());
+        line_behind(&self.text.as_bytes()[..at])
+    }
+
+    /// The line of the first statement on a key at the top.
+    pub(crate) fn top_line(&self, key: &str) -> Option<usize>
+        ensures { IfSome result (IsLineIn self.now.text.now) }
+    {
+        let mark = self.marks.iter().find(|mark| mark.is_below(key))?;
+        Some(self.line(mark))
+    }
+
+    /// The line where an entry of the array begins.
+    pub(crate) fn entry_line(&self, array: &str, number: usize) -> Option<usize>
+        ensures { IfSome result (IsLineIn self.now.text.now) }
+    {
+        let mut begun = 0usize;
+        for mark in &self.marks {
+            if mark.begins(array) {
+                begun = begun.saturating_add(1);
+                if begun == number {
+                    return Some(self.line(mark));
+                }
             }
         }
+        None
     }
-    None
-}
 
-/// The line of a key of an entry of the array.
-pub(crate) fn key_line(marks: &[Mark], array: &str, number: usize, key: &str) -> Option<usize> {
-    let mut begun = 0usize;
-    for mark in marks {
-        if mark.begins(array) {
-            begun = begun.saturating_add(1);
-        } else if begun == number && mark.defines(array, key) {
-            return Some(mark.line);
+    /// The line of a key of an entry of the array.
+    pub(crate) fn key_line(&self, array: &str, number: usize, key: &str) -> Option<usize>
+        ensures { IfSome result (IsLineIn self.now.text.now) }
+    {
+        let mut begun = 0usize;
+        for mark in &self.marks {
+            if mark.begins(array) {
+                begun = begun.saturating_add(1);
+            } else if begun == number && mark.defines(array, key) {
+                return Some(self.line(mark));
+            }
         }
+        None
     }
-    None
 }
 
 /// What a statement begins with.
@@ -132,14 +165,6 @@ fn depth_after(depth: usize, byte: u8) -> usize {
     }
 }
 
-/// How many lines end between two places of a text, the later one given by what follows it.
-fn ends_between(from: &str, to: &str) -> usize
-    requires { length to.now ≤ length from.now }
-{
-    let between = &from.as_bytes()[..from.len() - to.len()];
-    between.iter().filter(|byte| **byte == b'\n').count()
-}
-
 /// Adds a part to a path that has less than two.
 fn push_part(alloc: Global, path: &mut Vec<String>, part: &str) -> Result<(), AllocError> {
     if path.len() < 2 {
@@ -188,14 +213,12 @@ fn path_of(
 }
 
 /// The statements of a text, up to the first that is none.
-pub(crate) fn marks_of(alloc: Global, text: &str) -> Result<Vec<Mark>, AllocError> {
+fn marks_of(alloc: Global, text: &str) -> Result<Vec<Mark>, AllocError> {
     let mut marks = Vec::new(alloc);
     let mut table = Vec::new(alloc);
-    let mut line = 1usize;
     let mut rest = text.strip_prefix('\u{FEFF}').unwrap_or(text);
     for _ in 0..text.len() {
         let start = skip_blank(rest, true);
-        line = line.saturating_add(ends_between(rest, start));
         let (statement, after) = match read_statement(alloc, start) {
             Ok(read) => read,
             Err(ParseError::OutOfMemory) => return Err(AllocError),
@@ -205,9 +228,11 @@ pub(crate) fn marks_of(alloc: Global, text: &str) -> Result<Vec<Mark>, AllocErro
         if statement.opening != Opening::Pair {
             table = path.clone()?;
         }
-        let begins = statement.opening == Opening::Entry && path.len() == 1;
-        marks.push(Mark { line, begins, path })?;
-        line = line.saturating_add(ends_between(start, after));
+        marks.push(Mark {
+            at: text.len().saturating_sub(start.len()),
+            begins: statement.opening == Opening::Entry && path.len() == 1,
+            path,
+        })?;
         rest = after;
     }
     Ok(marks)

@@ -1,7 +1,7 @@
 //! Where in a file something stands, and how that is told.
 
 ghost use Rattle.std.specs.Prelude.{◌≡◌, ◌-◌, ◌^◌, ◌<◌, ◌++◌, OnOk, string_bytes};
-ghost use Rattle.usb_diagnosis.specs.Place.{behind, numbered, spot_after, spot_text};
+ghost use Rattle.usb_diagnosis.specs.Place.{behind, behind_all, line_behind, numbered, spot_behind, spot_text};
 
 use crate::shown::push_number;
 use std::alloc::{AllocError, Global};
@@ -32,15 +32,31 @@ fn behind(at: (usize, usize), byte: u8) -> (usize, usize)
     }
 }
 
-/// The spot behind these bytes of a text.
-pub(crate) fn spot_after(before: &[u8]) -> Spot
-    ensures { result ≡ spot_after before.now }
+/// The line and the column behind these bytes of a text.
+fn behind_all(before: &[u8]) -> (usize, usize)
+    ensures { result ≡ behind_all before.now }
 {
     let mut at = (1, 1);
     'bytes: for byte in before {
         at = behind(at, *byte);
     }
-    Spot::Column(at.0, at.1)
+    at
+}
+
+/// The spot behind these bytes of a text.
+pub(crate) fn spot_behind(before: &[u8]) -> Spot
+    ensures { result ≡ spot_behind before.now }
+{
+    let (line, column) = behind_all(before);
+    Spot::Column(line, column)
+}
+
+/// The line behind these bytes of a text.
+pub(crate) fn line_behind(before: &[u8]) -> usize
+    ensures { result ≡ line_behind before.now }
+{
+    let (line, _) = behind_all(before);
+    line
 }
 
 /// Adds `:LINE`, `:LINE:COLUMN` or nothing.

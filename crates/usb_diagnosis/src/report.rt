@@ -11,7 +11,8 @@ use usb_plan::{Place, Plan, PlanFault, bound};
 
 /// Adds a word, a number and the end of the line.
 fn push_count(alloc: Global, out: &mut String, word: &str, number: u64) -> Result<(), AllocError>
-    ensures { OnOk result (string_bytes out.new ≡ string_bytes out.old ++ count_line word.now number) }
+    ensures { OnOk result
+        (string_bytes out.new ≡ string_bytes out.old ++ count_line word.now number) }
 {
     out.push_str(word)?;
     out.push_str(" ")?;

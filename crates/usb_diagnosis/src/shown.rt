@@ -76,7 +76,8 @@ fn letters_of(alloc: Global, text: &str) -> Result<Vec<char>, AllocError>
 
 /// Adds the first 60 characters of a text, and three dots where there are more.
 pub(crate) fn push_shown(alloc: Global, out: &mut String, text: &str) -> Result<(), AllocError>
-    ensures { OnOk result (string_bytes out.new ≡ string_bytes out.old ++ shown (chars text.now)) }
+    ensures { OnOk result
+        (string_bytes out.new ≡ string_bytes out.old ++ shown (chars text.now)) }
 {
     let letters = letters_of(alloc, text)?;
     push_front(alloc, out, letters.as_slice())

@@ -3,6 +3,7 @@ mod entries;
 mod events;
 mod syntax;
 mod top;
+mod writing;
 
 use std::alloc::{AllocError, Global};
 use std::process::Abort;

@@ -19,6 +19,23 @@ fn entries_in_one_array(rt: HostRuntime) -> Result<(), AllocError> {
     check_rows(&rt, rt.alloc(), "", &INLINE)
 }
 
+/// Heads in comments and texts begin no entry, and a value may go over several lines.
+const LAYOUTS: [Row; 2] = [
+    Row {
+        text: "\u{FEFF}limit = 1 # [[event]]\r\nroots = 1\r\n[[event]]\r\ndo = 'show'\r\n\r\n[[event]] # [[event]]\r\n  \"after\" = 0\r\n\tdo = \"\"\"\\\n  sh[ow\"\"\" # x\r\n",
+        told: "p.toml:8: plan: event 2: bad value\n  event 2, line 6: `do` is \"sh[ow\"\n  allowed: \"plug\", \"unplug\", \"show\", \"send\", \"receive\" or \"clear\"\n  did you mean \"show\"?\n",
+    },
+    Row {
+        text: "limit = 1\nroots = 1\n[[damage]]\nattempt = 1\npacket = 1\nhow = '''\n[[damage]]\n'''\n[[damage]]\nattempt = 'x'\n",
+        told: "p.toml:6: plan: damage 1: bad value\n  damage 1, line 3: `how` is \"\"\"\\u000A[[damage]]\\u000A\"\"\"\n  allowed: \"lose\", \"pre\" or \"flip\"\n",
+    },
+];
+
+#[test]
+fn lines_of_entries_and_keys(rt: HostRuntime) -> Result<(), AllocError> {
+    check_rows(&rt, rt.alloc(), "", &LAYOUTS)
+}
+
 #[test]
 fn a_device_too_many(rt: HostRuntime) -> Result<(), AllocError> {
     let alloc = rt.alloc();
