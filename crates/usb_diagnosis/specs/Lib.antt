@@ -5,3 +5,4 @@ pub mod Place
 pub mod Report
 pub mod Checking
 pub mod Trouble
+pub mod Entry

@@ -1,5 +1,5 @@
 -- Where in a file something stands.
-use Rattle.std.specs.Prelude.{◌≡◌, ⊤, ℕ, ◌+◌, ◌≤◌, ◌==◌, length, take, codes, List, [], ◌∷◌, ◌++◌, decimal, Option, Some, None, fold, bit_and, if◌then◌else◌}
+use Rattle.std.specs.Prelude.{◌≡◌, ⊤, ℕ, ◌+◌, ◌≤◌, ◌==◌, length, take, codes, List, [], ◌++◌, decimal, Option, Some, None, fold, bit_and, if◌then◌else◌}
 use Rattle.usb_diagnosis.specs.declared.place.Spot.{Spot}
 use Rattle.usb_diagnosis.specs.declared.place.Spot.TheVariants as spot
 

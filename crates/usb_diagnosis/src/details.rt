@@ -139,7 +139,7 @@ fn allowed_for(key: PlanKey, fault: PlanFault) -> &'static str {
 /// How many entries a plan may have.
 fn room_for(place: Place) -> &'static str {
     match place {
-        Place::Top => "one",
+        Place::Top => "no other",
         Place::Device(_) => "at most 127 devices",
         Place::Event(_) => "at most 10000 events",
         Place::Damage(_) => "at most 10000 damages",

@@ -1,11 +1,12 @@
 //! The entry of a plan's document in which a fault stands.
 
-ghost use Rattle.std.specs.Prelude.{◌≡◌, option_map};
+ghost use Rattle.std.specs.Prelude.{◌≡◌, map, option_map};
 ghost use Rattle.toml.specs.Data.{get_member};
 ghost use Rattle.toml.specs.View.{view, table_view};
+ghost use Rattle.usb_diagnosis.specs.Entry.{entry_keys, text_of};
 ghost use Rattle.usb_diagnosis.specs.Key.{key_name};
 
-use crate::key::{DAMAGE_KEYS, DEVICE_KEYS, PlanKey, TOP_KEYS, verb_keys};
+use crate::key::{DAMAGE_KEYS, DEVICE_KEYS, PlanKey, TOP_KEYS, keys_with};
 use toml::{Table, Value};
 use usb_plan::Place;
 
@@ -49,8 +50,13 @@ fn value_at<'a>(table: &'a Table, key: &str) -> Option<&'a Value>
 }
 
 /// The text at a key, where it is one.
-pub(crate) fn text_at<'a>(table: &'a Table, key: &str) -> Option<&'a str> {
-    value_at(table, key)?.as_str()
+pub(crate) fn text_at<'a>(table: &'a Table, key: &str) -> Option<&'a str>
+    ensures { option_map (λ t. t.now) result ≡ text_of (get_member key.now (table_view table.now)) }
+{
+    match value_at(table, key) {
+        None => None,
+        Some(value) => value.as_str(),
+    }
 }
 
 impl<'a> Entry<'a> {
@@ -92,11 +98,14 @@ impl<'a> Entry<'a> {
     }
 
     /// The keys that have a meaning in the entry.
-    pub(crate) fn keys(&self) -> &'static [PlanKey] {
+    pub(crate) fn keys(&self) -> &'static [PlanKey]
+        ensures { map key_name result.now
+            ≡ entry_keys self.now.place (table_view self.now.table.now) }
+    {
         match self.place {
             Place::Top => &TOP_KEYS,
             Place::Device(_) => &DEVICE_KEYS,
-            Place::Event(_) => verb_keys(text_at(self.table, "do")),
+            Place::Event(_) => keys_with(text_at(self.table, "do")),
             Place::Damage(_) => &DAMAGE_KEYS,
         }
     }
@@ -122,7 +131,7 @@ impl<'a> Entry<'a> {
         }
     }
 
-    /// How many entries its array may have, and more than that are before it.
+    /// Whether as many entries as a plan may have are before it.
     pub(crate) fn is_one_too_many(&self) -> bool {
         match self.place {
             Place::Top => false,

@@ -1,6 +1,7 @@
 //! The keys of a plan, and what each of them allows.
 
-ghost use Rattle.std.specs.Prelude.{◌≡◌};
+ghost use Rattle.std.specs.Prelude.{◌≡◌, map, option_map};
+ghost use Rattle.usb_diagnosis.specs.Entry.{keys_with, verb_keys};
 ghost use Rattle.usb_diagnosis.specs.Key.{key_name};
 
 /// A key of a plan.
@@ -262,13 +263,26 @@ impl PlanKey {
 }
 
 /// The keys that go with an event's `do`.
-pub(crate) fn verb_keys(verb: Option<&str>) -> &'static [PlanKey] {
+fn verb_keys(verb: &str) -> &'static [PlanKey]
+    ensures { map key_name result.now ≡ verb_keys verb.now }
+{
     match verb {
-        Some("plug") => &PLUG_KEYS,
-        Some("unplug") | Some("clear") => &PATH_KEYS,
-        Some("show") => &SHOW_KEYS,
-        Some("send") => &SEND_KEYS,
-        Some("receive") => &RECEIVE_KEYS,
+        "plug" => &PLUG_KEYS,
+        "unplug" => &PATH_KEYS,
+        "show" => &SHOW_KEYS,
+        "send" => &SEND_KEYS,
+        "receive" => &RECEIVE_KEYS,
+        "clear" => &PATH_KEYS,
         _ => &NO_VERB_KEYS,
+    }
+}
+
+/// The keys of an event whose `do` is this text, or none.
+pub(crate) fn keys_with(verb: Option<&str>) -> &'static [PlanKey]
+    ensures { map key_name result.now ≡ keys_with (option_map (λ t. t.now) verb.entry) }
+{
+    match verb {
+        None => &NO_VERB_KEYS,
+        Some(verb) => verb_keys(verb),
     }
 }

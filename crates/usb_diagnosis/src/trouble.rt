@@ -1,8 +1,11 @@
 //! Which key of an entry makes its fault.
 
-ghost use Rattle.std.specs.Prelude.{◌≡◌, None, IfSome};
+ghost use Rattle.std.specs.Prelude.{◌≡◌, None, IfSome, false, map};
+ghost use Rattle.std.specs.List.{list_any};
+ghost use Rattle.std.specs.Str.{bytes_eq};
 ghost use Rattle.toml.specs.Data.{get_member};
 ghost use Rattle.toml.specs.View.{table_view};
+ghost use Rattle.usb_diagnosis.specs.Entry.{entry_keys};
 ghost use Rattle.usb_diagnosis.specs.Key.{key_name};
 ghost use Rattle.usb_diagnosis.specs.Trouble.{IsTroubleOf};
 
@@ -121,7 +124,7 @@ fn flaw_of(key: PlanKey, value: &Value) -> Option<Flaw> {
 
 /// The first of the entry's keys whose value has the flaw.
 fn flawed<'a>(entry: &Entry<'a>, flaw: Flaw) -> Option<Trouble<'a>>
-    ensures { IfSome result (IsTroubleOf (table_view entry.now.table.now)) }
+    ensures { IfSome result (IsTroubleOf entry.now.place (table_view entry.now.table.now)) }
 {
     for key in entry.keys() {
         if let Some(value) = entry.value(*key) {
@@ -135,19 +138,37 @@ fn flawed<'a>(entry: &Entry<'a>, flaw: Flaw) -> Option<Trouble<'a>>
 
 /// What is wrong with the value at the key, if one stands there.
 fn wrong_at<'a>(entry: &Entry<'a>, key: PlanKey) -> Option<Trouble<'a>>
-    ensures { IfSome result (IsTroubleOf (table_view entry.now.table.now)) }
+    ensures { IfSome result (IsTroubleOf entry.now.place (table_view entry.now.table.now)) }
 {
     let value = entry.value(key)?;
     Some(Trouble::Wrong(key, value))
 }
 
-/// Whether a key of the table is one of the keys.
-pub(crate) fn is_known(keys: &[PlanKey], name: &str) -> bool {
-    keys.iter().any(|key| key.name() == name)
+/// Whether the key has the name.
+fn has_name(key: PlanKey, name: &str) -> bool
+    ensures { result ≡ bytes_eq name.now (key_name key) }
+{
+    name == key.name()
+}
+
+fn some_has_name(keys: &[PlanKey], name: &str) -> bool
+    ensures { result ≡ list_any (λ k. bytes_eq name.now (key_name k)) keys.now }
+{
+    keys.iter().any(|key| has_name(*key, name))
+}
+
+/// Whether the name is that of one of the keys.
+pub(crate) fn is_known(keys: &[PlanKey], name: &str) -> bool
+    ensures { result ≡ list_any (bytes_eq name.now) (map key_name keys.now) }
+{
+    some_has_name(keys, name)
 }
 
 /// The first key of the entry that has no meaning there.
-fn unknown_key<'a>(entry: &Entry<'a>) -> Option<&'a str> {
+fn unknown_key<'a>(entry: &Entry<'a>) -> Option<&'a str>
+    ensures { IfSome result (λ name. list_any (bytes_eq name.now)
+        (entry_keys entry.now.place (table_view entry.now.table.now)) ≡ false) }
+{
     let keys = entry.keys();
     for name in entry.table().keys() {
         if !is_known(keys, name.as_str()) {
@@ -197,7 +218,7 @@ fn has_other_class(entry: &Entry<'_>) -> bool {
 
 /// What is wrong with a device whose keys each have a value that they allow by themselves.
 fn device_trouble<'a>(entry: &Entry<'a>) -> Option<Trouble<'a>>
-    ensures { IfSome result (IsTroubleOf (table_view entry.now.table.now)) }
+    ensures { IfSome result (IsTroubleOf entry.now.place (table_view entry.now.table.now)) }
 {
     if let Some(name) = entry.text(PlanKey::Name) {
         if is_taken_name(entry, name) {
@@ -233,7 +254,7 @@ fn number_at(table: Option<&Table>, key: &str) -> i64 {
 
 /// What is wrong with a damage whose keys each have a value that they allow by themselves.
 fn damage_trouble<'a>(entry: &Entry<'a>) -> Option<Trouble<'a>>
-    ensures { IfSome result (IsTroubleOf (table_view entry.now.table.now)) }
+    ensures { IfSome result (IsTroubleOf entry.now.place (table_view entry.now.table.now)) }
 {
     if number_at(Some(entry.table()), "attempt") <= last_attempt(entry) {
         return wrong_at(entry, PlanKey::Attempt);
@@ -246,7 +267,7 @@ fn damage_trouble<'a>(entry: &Entry<'a>) -> Option<Trouble<'a>>
 
 /// What is wrong with values that their keys allow by themselves, beside the rest of the plan.
 fn trouble_beside_others<'a>(entry: &Entry<'a>) -> Option<Trouble<'a>>
-    ensures { IfSome result (IsTroubleOf (table_view entry.now.table.now)) }
+    ensures { IfSome result (IsTroubleOf entry.now.place (table_view entry.now.table.now)) }
 {
     match entry.place() {
         Place::Device(_) => device_trouble(entry),
@@ -257,13 +278,13 @@ fn trouble_beside_others<'a>(entry: &Entry<'a>) -> Option<Trouble<'a>>
 
 /// Why an entry has a bad value. Where nothing else is wrong, a hub's descriptor tells of other ports than it has.
 fn bad_value<'a>(entry: &Entry<'a>) -> Option<Trouble<'a>>
-    ensures { IfSome result (IsTroubleOf (table_view entry.now.table.now)) }
+    ensures { IfSome result (IsTroubleOf entry.now.place (table_view entry.now.table.now)) }
 {
-    if let Some(name) = unknown_key(entry) {
-        return Some(Trouble::Unknown(name));
-    }
     if let Some(trouble) = flawed(entry, Flaw::Value) {
         return Some(trouble);
+    }
+    if let Some(name) = unknown_key(entry) {
+        return Some(Trouble::Unknown(name));
     }
     if let Some(trouble) = trouble_beside_others(entry) {
         return Some(trouble);
@@ -276,7 +297,7 @@ fn bad_value<'a>(entry: &Entry<'a>) -> Option<Trouble<'a>>
 
 /// What of the entry makes the fault that is told of it.
 pub(crate) fn trouble_of<'a>(entry: &Entry<'a>, fault: PlanFault) -> Option<Trouble<'a>>
-    ensures { IfSome result (IsTroubleOf (table_view entry.now.table.now)) }
+    ensures { IfSome result (IsTroubleOf entry.now.place (table_view entry.now.table.now)) }
 {
     match fault {
         PlanFault::MissingKey(_) => match missing_key(entry) {
