@@ -1,0 +1,2 @@
+pub mod BestSoFar
+pub mod KnownKeys

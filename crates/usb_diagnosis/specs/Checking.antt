@@ -1,0 +1,58 @@
+-- What is told of a text.
+use Rattle.std.specs.Prelude.{◌≡◌, ◌≢◌, ℕ, List, ◌++◌, Option, None, Result, Ok, Err, IsUtf8}
+use Rattle.std.specs.Io.KnownBytes.{Appends}
+use Rattle.toml.specs.Parse.{parse_document}
+use Rattle.usb_bus.specs.Watch.{AppendsFront}
+use Rattle.usb_plan.specs.Plan.{spelled_plan}
+use Rattle.usb_plan.specs.declared.fault.PlanFault.{PlanFault}
+use Rattle.usb_plan.specs.declared.fault.PlanFault.TheVariants as plan
+use Rattle.usb_world.specs.PlanData.{PlanData}
+use Rattle.usb_diagnosis.specs.declared.checking.CheckFault.{CheckFault}
+use Rattle.usb_diagnosis.specs.declared.checking.CheckFault.TheVariants.{Write, Memory}
+use Rattle.usb_diagnosis.specs.declared.checking.Verdict.{Verdict}
+use Rattle.usb_diagnosis.specs.declared.checking.Verdict.TheVariants.{Plan, Refused}
+use Rattle.usb_diagnosis.specs.declared.place.Spot.{Spot}
+use Rattle.usb_diagnosis.specs.Place.{IsColumnIn, IsSpotIn}
+use Rattle.usb_diagnosis.specs.Report.{plan_lines, first_line}
+
+-- the text spells a plan, and the lines are the plan's
+pub record TellsPlan (text lines : List ℕ) : Type 0 where
+  pub plan : PlanData
+  pub spelled : spelled_plan text ≡ Ok plan
+  pub told : lines ≡ plan_lines plan
+
+-- the lines begin with this one
+pub record IsLed (first lines : List ℕ) : Type 0 where
+  pub rest : List ℕ
+  pub told : lines ≡ first ++ rest
+
+-- they begin with the file, a spot of the text and the fault
+pub record BeginsWith (file text : List ℕ) (fault : PlanFault) (lines : List ℕ) : Type 0 where
+  pub spot : Spot
+  pub found : IsSpotIn text spot
+  pub led : IsLed (first_line file spot fault) lines
+
+-- the same; where the text is no document a column is told
+pub record BeginsAt (file text : List ℕ) (fault : PlanFault) (lines : List ℕ) : Type 0 where
+  pub spot : Spot
+  pub found : IsSpotIn text spot
+  pub garbled : parse_document text ≡ None → IsColumnIn text spot
+  pub led : IsLed (first_line file spot fault) lines
+
+-- the text is no plan, for this fault, with which the lines begin
+pub record TellsFault (file text : List ℕ) (fault : PlanFault) (lines : List ℕ) : Type 0 where
+  pub read : fault ≢ plan.Memory
+  pub spelled : IsUtf8 text → spelled_plan text ≡ Err fault
+  pub garbled : (IsUtf8 text → ⊥) → fault ≡ plan.Syntax
+  pub begins : BeginsAt file text fault lines
+
+-- what a text is told to be
+abbrev pub Tells : List ℕ → List ℕ → Verdict → List ℕ → Type 0
+Tells file text Plan lines = TellsPlan text lines
+Tells file text (Refused fault) lines = TellsFault file text fault lines
+
+-- what is told of the text is written, a front of it where the writer failed, and nothing where memory was refused
+abbrev pub Writes : List ℕ → List ℕ → Option (List ℕ) → Result Verdict CheckFault → Option (List ℕ) → Type 0
+Writes file text before (Ok verdict) now = (lines : List ℕ) × Tells file text verdict lines × Appends before now lines
+Writes file text before (Err Write) now = (verdict : Verdict) × (lines : List ℕ) × Tells file text verdict lines × AppendsFront before now lines
+Writes file text before (Err Memory) now = now ≡ before

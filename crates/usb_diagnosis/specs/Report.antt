@@ -1,0 +1,59 @@
+-- The lines that tell what a text holds.
+use Rattle.std.specs.Prelude.{ℕ, codes, List, [], ◌++◌, length, decimal, Option, Some, None}
+use Rattle.usb_plan.specs.Attempts.{bound_of}
+use Rattle.usb_plan.specs.Place.{place_text}
+use Rattle.usb_plan.specs.declared.fault.Place.{Place}
+use Rattle.usb_plan.specs.declared.fault.PlanFault.{PlanFault}
+use Rattle.usb_plan.specs.declared.fault.PlanFault.TheVariants as plan
+use Rattle.usb_world.specs.PlanData.{PlanData}
+use Rattle.usb_diagnosis.specs.declared.place.Spot.{Spot}
+use Rattle.usb_diagnosis.specs.Place.{spot_text}
+
+-- WORD N
+abbrev pub count_line : List ℕ → ℕ → List ℕ
+count_line word n = word ++ codes " " ++ decimal n ++ codes "\n"
+
+-- how many devices, events and damages a plan has, and its bound
+unfoldable pub plan_lines : PlanData → List ℕ
+plan_lines p =
+    count_line (codes "devices") (length p.devices)
+    ++ count_line (codes "events") (length p.events)
+    ++ count_line (codes "damages") (length p.damages)
+    ++ count_line (codes "bound") (bound_of p)
+
+-- the entry that a fault is told of
+abbrev pub place_of : PlanFault → Option Place
+place_of (plan.MissingKey place) = Some place
+place_of (plan.BadValue place) = Some place
+place_of (plan.BadHex place) = Some place
+place_of (plan.UnknownDevice place) = Some place
+place_of (plan.BadPath place) = Some place
+place_of (plan.PortTaken place) = Some place
+place_of (plan.PortEmpty place) = Some place
+place_of plan.Syntax = None
+place_of plan.Memory = None
+
+-- what is wrong there
+abbrev pub fault_word : PlanFault → List ℕ
+fault_word plan.Syntax = codes "syntax"
+fault_word (plan.MissingKey place) = codes "missing key"
+fault_word (plan.BadValue place) = codes "bad value"
+fault_word (plan.BadHex place) = codes "bad hex"
+fault_word (plan.UnknownDevice place) = codes "unknown device"
+fault_word (plan.BadPath place) = codes "bad path"
+fault_word (plan.PortTaken place) = codes "port taken"
+fault_word (plan.PortEmpty place) = codes "port empty"
+fault_word plan.Memory = codes "out of memory"
+
+-- an entry with its colon
+abbrev pub place_words : Option Place → List ℕ
+place_words None = []
+place_words (Some place) = place_text place ++ codes ": "
+
+-- plan: PLACE: FAULT
+unfoldable pub fault_text : PlanFault → List ℕ
+fault_text fault = codes "plan: " ++ place_words (place_of fault) ++ fault_word fault
+
+-- FILE:LINE:COLUMN: plan: PLACE: FAULT
+unfoldable pub first_line : List ℕ → Spot → PlanFault → List ℕ
+first_line file at fault = file ++ spot_text at ++ codes ": " ++ fault_text fault ++ codes "\n"

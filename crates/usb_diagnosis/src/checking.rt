@@ -1,0 +1,230 @@
+//! What `usbplan check` tells of a text.
+
+ghost use Rattle.std.specs.Prelude.{◌≡◌, ◌≢◌, ◌≤◌, Err, IfOk, IsErrOf, IsUtf8, length, string_bytes, true};
+ghost use Rattle.std.specs.Str.{valid_up_to};
+ghost use Rattle.usb_bus.specs.Watch.{inner_of, has_failed};
+ghost use Rattle.usb_plan.specs.declared.fault.PlanFault.TheVariants as plan;
+ghost use Rattle.usb_diagnosis.specs.Checking.{BeginsAt, BeginsWith, IsLed, Tells, Writes};
+ghost use Rattle.usb_diagnosis.specs.Place.{spot_behind};
+ghost use Rattle.usb_diagnosis.specs.Report.{first_line};
+
+use crate::details::{spot_of, trouble_lines};
+use crate::entry::Entry;
+use crate::marks::Layout;
+use crate::place::{Spot, spot_behind};
+use crate::report::{first_line, place_of, plan_lines};
+use crate::trouble::trouble_of;
+use std::alloc::{AllocError, Global};
+use std::io::Write;
+use std::str;
+use std::str::Utf8Error;
+use thiserror::Error;
+use toml::Table;
+use usb_bus::{Watched, WriteFailed, put_piece};
+use usb_plan::{Place, PlanFault, read_plan};
+
+/// What a text is.
+#[derive(Clone, Copy, Debug, PartialEq, Eq)]
+pub enum Verdict {
+    /// A plan.
+    Plan,
+    /// No plan, for this fault.
+    Refused(PlanFault),
+}
+
+/// What a text is, and the lines that tell it.
+#[derive(Debug, Drop)]
+pub struct Checked {
+    /// What it is.
+    pub verdict: Verdict,
+    /// The lines, each with its newline.
+    pub lines: String,
+}
+
+/// Why a text was not checked to the end.
+#[derive(Clone, Copy, Debug, PartialEq, Eq, Error)]
+pub enum CheckFault {
+    /// The writer failed.
+    #[error("write failed")]
+    Write,
+    /// Memory was refused.
+    #[error("out of memory")]
+    Memory,
+}
+
+impl From<AllocError> for CheckFault {
+    ghost use Rattle.std.specs.Prelude.{◌≡◌};
+    ghost use Rattle.usb_diagnosis.specs.declared.checking.CheckFault.TheVariants.{Memory};
+
+    ghost from_gives = { λ _ e. e ≡ Memory };
+
+    fn from(_e: AllocError) -> CheckFault {
+        CheckFault::Memory
+    }
+}
+
+impl From<WriteFailed> for CheckFault {
+    ghost use Rattle.std.specs.Prelude.{◌≡◌};
+    ghost use Rattle.usb_diagnosis.specs.declared.checking.CheckFault.TheVariants.{Write as write_failed};
+
+    ghost from_gives = { λ _ e. e ≡ write_failed };
+
+    fn from(_e: WriteFailed) -> CheckFault {
+        CheckFault::Write
+    }
+}
+
+/// The first line and the others.
+fn joined(first: String, rest: &str) -> Result<String, AllocError>
+    ensures { IfOk result (λ lines. IsLed (string_bytes first) (string_bytes lines)) }
+{
+    let mut lines = first;
+    lines.push_str(rest)?;
+    Ok(lines)
+}
+
+/// The lines on a text that is no TOML behind this front of it.
+fn garbled(
+    alloc: Global,
+    file: &str,
+    before: &[u8],
+    fault: PlanFault,
+    why: &str,
+) -> Result<String, AllocError>
+    ensures { IfOk result (λ lines.
+        IsLed (first_line file.now (spot_behind before.now) fault) (string_bytes lines)) }
+{
+    let first = first_line(alloc, file, spot_behind(before), fault)?;
+    let rest = format!(in alloc; "  {why}\n")?;
+    joined(first, rest.as_str())
+}
+
+/// The first line, and those on the trouble of the entry.
+fn lines_on(
+    alloc: Global,
+    file: &str,
+    text: &str,
+    entry: &Entry<'_>,
+    fault: PlanFault,
+) -> Result<String, AllocError>
+    ensures { IfOk result (λ lines. BeginsWith file.now text.now fault (string_bytes lines)) }
+{
+    let layout = Layout::of(alloc, text)?;
+    let trouble = trouble_of(entry, fault);
+    let spot = spot_of(&layout, entry.place(), trouble);
+    let first = first_line(alloc, file, spot, fault)?;
+    let rest = trouble_lines(alloc, &layout, entry, trouble, fault)?;
+    joined(first, rest.as_str())
+}
+
+/// The lines on a document with the fault.
+fn document_lines(
+    alloc: Global,
+    file: &str,
+    text: &str,
+    document: &Table,
+    fault: PlanFault,
+) -> Result<String, AllocError>
+    ensures { IfOk result (λ lines. BeginsWith file.now text.now fault (string_bytes lines)) }
+{
+    match Entry::at(document, place_of(fault).unwrap_or(Place::Top)) {
+        None => first_line(alloc, file, Spot::Unknown, fault),
+        Some(entry) => lines_on(alloc, file, text, &entry, fault),
+    }
+}
+
+/// The lines on a text that is no plan.
+fn refusal_lines(
+    alloc: Global,
+    file: &str,
+    text: &str,
+    fault: PlanFault,
+) -> Result<String, AllocError>
+    ensures { IfOk result (λ lines. BeginsAt file.now text.now fault (string_bytes lines)) }
+{
+    match toml::table_from_str(alloc, text) {
+        Ok(document) => document_lines(alloc, file, text, &document, fault),
+        Err(error) => match error.span() {
+            None => Err(AllocError),
+            Some(span) => {
+                let before = &text.as_bytes()[..span.start];
+                garbled(alloc, file, before, fault, error.message())
+            }
+        },
+    }
+}
+
+/// The lines on bytes that are no text.
+fn no_text_lines(
+    alloc: Global,
+    file: &str,
+    bytes: &[u8],
+    error: Utf8Error,
+) -> Result<String, AllocError>
+    requires { valid_up_to error ≤ length bytes.now }
+    ensures { IfOk result (λ lines.
+        BeginsAt file.now bytes.now plan.Syntax (string_bytes lines)) }
+{
+    let before = &bytes[..error.valid_up_to()];
+    garbled(alloc, file, before, PlanFault::Syntax, "invalid UTF-8")
+}
+
+/// The verdict on a text, and its lines.
+fn checked_text(alloc: Global, file: &str, text: &str) -> Result<Checked, AllocError>
+    requires { IsUtf8 text.now }
+    ensures { IfOk result (λ checked.
+        Tells file.now text.now checked.verdict (string_bytes checked.lines)) }
+{
+    match read_plan(alloc, text) {
+        Ok(plan) => Ok(Checked {
+            verdict: Verdict::Plan,
+            lines: plan_lines(alloc, &plan)?,
+        }),
+        Err(PlanFault::Memory) => Err(AllocError),
+        Err(fault) => Ok(Checked {
+            verdict: Verdict::Refused(fault),
+            lines: refusal_lines(alloc, file, text, fault)?,
+        }),
+    }
+}
+
+/// What a text is, and the lines that tell it. Those of a plan tell how many devices, events and damages it has, and
+/// its bound; those of any other text begin with the file, the line and `read_plan`'s fault.
+///
+/// # Errors
+///
+/// Memory was refused.
+pub fn check_text(alloc: Global, file: &str, text: &[u8]) -> Result<Checked, AllocError>
+    ensures { IfOk result (λ checked.
+        Tells file.now text.now checked.verdict (string_bytes checked.lines)) }
+{
+    match str::from_utf8(text) {
+        Ok(text) => checked_text(alloc, file, text),
+        Err(error) => Ok(Checked {
+            verdict: Verdict::Refused(PlanFault::Syntax),
+            lines: no_text_lines(alloc, file, text, error)?,
+        }),
+    }
+}
+
+/// Writes what a text is told to be, as `check_text` tells it.
+///
+/// # Errors
+///
+/// Write where the writer failed, Memory where memory was refused.
+pub fn check<W: Write>(
+    alloc: Global,
+    file: &str,
+    text: &[u8],
+    writer: &mut Watched<W>,
+) -> Result<Verdict, CheckFault>
+    ensures written { Writes file.now text.now (W.contents (inner_of writer.old)) result
+        (W.contents (inner_of writer.new)) }
+    ensures marked { IsErrOf result CheckFault.Write → has_failed writer.new ≡ true }
+    ensures unmarked { (result ≢ Err CheckFault.Write)
+        → has_failed writer.new ≡ has_failed writer.old }
+{
+    let checked = check_text(alloc, file, text)?;
+    put_piece(writer, checked.lines.as_bytes())?;
+    Ok(checked.verdict)
+}

@@ -1,0 +1,319 @@
+//! What is told of an entry behind the first line: which key, what stands there, what is allowed, and what was meant.
+
+ghost use Rattle.std.specs.Prelude.{◌≡◌, IfSome};
+ghost use Rattle.usb_diagnosis.specs.Place.{IsLineIn, IsSpotIn, spot_on};
+
+use crate::entry::{Entry, array_of, text_at};
+use crate::key::PlanKey;
+use crate::marks::Layout;
+use crate::nearest::nearest;
+use crate::place::Spot;
+use crate::shown::{push_number, push_shown};
+use crate::trouble::{Trouble, is_known, is_word};
+use std::alloc::{AllocError, Global};
+use toml::Value;
+use usb_plan::{Place, PlanFault};
+
+/// The line where an entry begins.
+fn head_line(layout: &Layout<'_>, place: Place) -> Option<usize>
+    ensures { IfSome result (IsLineIn layout.now.text.now) }
+{
+    let (array, number) = array_of(place)?;
+    match layout.entry_line(array, number) {
+        None => layout.top_line(array),
+        line => line,
+    }
+}
+
+/// The line of a key of an entry.
+fn line_of_key(layout: &Layout<'_>, place: Place, key: &str) -> Option<usize>
+    ensures { IfSome result (IsLineIn layout.now.text.now) }
+{
+    match array_of(place) {
+        None => layout.top_line(key),
+        Some((array, number)) => layout.key_line(array, number, key),
+    }
+}
+
+/// The line of the key that makes a fault.
+fn line_of_trouble(layout: &Layout<'_>, place: Place, trouble: Option<Trouble<'_>>) -> Option<usize>
+    ensures { IfSome result (IsLineIn layout.now.text.now) }
+{
+    match trouble {
+        Some(Trouble::Unknown(key)) => line_of_key(layout, place, key),
+        Some(Trouble::Wrong(key, _)) => line_of_key(layout, place, key.name()),
+        Some(Trouble::Missing(_)) | Some(Trouble::OneTooMany) | None => None,
+    }
+}
+
+fn spot_on(line: Option<usize>) -> Spot
+    ensures { result ≡ spot_on line }
+{
+    match line {
+        None => Spot::Unknown,
+        Some(line) => Spot::Line(line),
+    }
+}
+
+/// Where the trouble of an entry stands: at its key, and else where the entry begins.
+pub(crate) fn spot_of(layout: &Layout<'_>, place: Place, trouble: Option<Trouble<'_>>) -> Spot
+    ensures { IsSpotIn layout.now.text.now result }
+{
+    match line_of_trouble(layout, place, trouble) {
+        None => spot_on(head_line(layout, place)),
+        line => spot_on(line),
+    }
+}
+
+/// Adds two blanks, the words for an entry, its name and its line: `  device 2 "keyboard", line 9: `.
+fn push_head(
+    alloc: Global,
+    out: &mut String,
+    layout: &Layout<'_>,
+    entry: &Entry<'_>,
+) -> Result<(), AllocError> {
+    let words = entry.place().to_string(alloc)?;
+    out.push_str("  ")?;
+    out.push_str(words.as_str())?;
+    if let Some(name) = entry.text(PlanKey::Name) {
+        out.push_str(" \"")?;
+        push_shown(alloc, out, name)?;
+        out.push_str("\"")?;
+    }
+    if let Some(line) = head_line(layout, entry.place()) {
+        out.push_str(", line ")?;
+        push_number(alloc, out, line as u64)?;
+    }
+    out.push_str(": ")
+}
+
+/// Adds a name between backquotes.
+fn push_key(alloc: Global, out: &mut String, name: &str) -> Result<(), AllocError> {
+    out.push_str("`")?;
+    push_shown(alloc, out, name)?;
+    out.push_str("`")
+}
+
+/// Adds the names of keys, with commas between them.
+fn push_keys(alloc: Global, out: &mut String, keys: &[PlanKey]) -> Result<(), AllocError> {
+    for (i, key) in keys.iter().enumerate() {
+        if i > 0 {
+            out.push_str(", ")?;
+        }
+        push_key(alloc, out, key.name())?;
+    }
+    Ok(())
+}
+
+/// Adds what the trouble is, behind the head.
+fn push_trouble(alloc: Global, out: &mut String, trouble: Trouble<'_>) -> Result<(), AllocError> {
+    match trouble {
+        Trouble::Missing(key) => {
+            out.push_str("no key ")?;
+            push_key(alloc, out, key.name())?;
+        }
+        Trouble::Unknown(name) => {
+            out.push_str("unknown key ")?;
+            push_key(alloc, out, name)?;
+        }
+        Trouble::Wrong(key, value) => {
+            let text = value.to_string(alloc)?;
+            push_key(alloc, out, key.name())?;
+            out.push_str(" is ")?;
+            push_shown(alloc, out, text.as_str())?;
+        }
+        Trouble::OneTooMany => out.push_str("one too many")?,
+    }
+    out.push_str("\n")
+}
+
+/// What is allowed at a key, as far as the fault asks for it.
+fn allowed_for(key: PlanKey, fault: PlanFault) -> &'static str {
+    match (key, fault) {
+        (PlanKey::Path, PlanFault::PortTaken(_)) => "a port where nothing is plugged",
+        (PlanKey::Path, PlanFault::PortEmpty(_)) => "a port where something is plugged",
+        _ => key.allowed(),
+    }
+}
+
+/// How many entries a plan may have.
+fn room_for(place: Place) -> &'static str {
+    match place {
+        Place::Top => "no other",
+        Place::Device(_) => "at most 127 devices",
+        Place::Event(_) => "at most 10000 events",
+        Place::Damage(_) => "at most 10000 damages",
+    }
+}
+
+/// Adds the line that says what is allowed.
+fn push_allowed(
+    alloc: Global,
+    out: &mut String,
+    entry: &Entry<'_>,
+    trouble: Trouble<'_>,
+    fault: PlanFault,
+) -> Result<(), AllocError> {
+    out.push_str("  allowed: ")?;
+    match trouble {
+        Trouble::Missing(key) => out.push_str(key.allowed())?,
+        Trouble::Unknown(_) => push_keys(alloc, out, entry.keys())?,
+        Trouble::Wrong(key, _) => out.push_str(allowed_for(key, fault))?,
+        Trouble::OneTooMany => out.push_str(room_for(entry.place()))?,
+    }
+    out.push_str("\n")
+}
+
+/// Adds a line that gives the key, of a key that is missing.
+fn push_example(out: &mut String, trouble: Trouble<'_>) -> Result<(), AllocError> {
+    let Trouble::Missing(key) = trouble else {
+        return Ok(());
+    };
+    match key.example() {
+        None => Ok(()),
+        Some(line) => {
+            out.push_str("  such as: ")?;
+            out.push_str(line)?;
+            out.push_str("\n")
+        }
+    }
+}
+
+fn key_names(alloc: Global, keys: &[PlanKey]) -> Result<Vec<&'static str>, AllocError> {
+    let mut names = Vec::new(alloc);
+    for key in keys {
+        names.push(key.name())?;
+    }
+    Ok(names)
+}
+
+/// The keys of the entry that have no meaning there.
+fn unknown_names<'a>(alloc: Global, entry: &Entry<'a>) -> Result<Vec<&'a str>, AllocError> {
+    let mut names = Vec::new(alloc);
+    for name in entry.table().keys() {
+        if !is_known(entry.keys(), name.as_str()) {
+            names.push(name.as_str())?;
+        }
+    }
+    Ok(names)
+}
+
+fn device_names<'a>(alloc: Global, devices: &'a [Value]) -> Result<Vec<&'a str>, AllocError> {
+    let mut names = Vec::new(alloc);
+    for device in devices {
+        if let Some(table) = device.as_table() {
+            if let Some(name) = text_at(table, "name") {
+                names.push(name)?;
+            }
+        }
+    }
+    Ok(names)
+}
+
+/// The first text of a value that is none of the words: its own, or one of its array.
+fn first_other<'a>(value: &'a Value, words: &[&str]) -> Option<&'a str> {
+    match value.as_array() {
+        None => value.as_str(),
+        Some(values) => values.iter().find(|value| !is_word(value, words))?.as_str(),
+    }
+}
+
+/// Adds a line that asks whether the name nearest to a word was meant, if one is near.
+fn push_meant(
+    alloc: Global,
+    out: &mut String,
+    word: &str,
+    names: &[&str],
+    quote: &str,
+) -> Result<(), AllocError> {
+    let Some(i) = nearest(alloc, word, names)? else {
+        return Ok(());
+    };
+    let Some(name) = names.get(i) else {
+        return Ok(());
+    };
+    out.push_str("  did you mean ")?;
+    out.push_str(quote)?;
+    push_shown(alloc, out, *name)?;
+    out.push_str(quote)?;
+    out.push_str("?\n")
+}
+
+/// Adds what was meant by a value that is no word, or names no device.
+fn push_meant_value(
+    alloc: Global,
+    out: &mut String,
+    entry: &Entry<'_>,
+    key: PlanKey,
+    value: &Value,
+) -> Result<(), AllocError> {
+    let Some(word) = first_other(value, key.words()) else {
+        return Ok(());
+    };
+    if key == PlanKey::Device {
+        let names = device_names(alloc, entry.devices())?;
+        return push_meant(alloc, out, word, names.as_slice(), "\"");
+    }
+    push_meant(alloc, out, word, key.words(), "\"")
+}
+
+/// Adds what was meant, if it is near to what is known.
+fn push_suggestion(
+    alloc: Global,
+    out: &mut String,
+    entry: &Entry<'_>,
+    trouble: Trouble<'_>,
+) -> Result<(), AllocError> {
+    match trouble {
+        Trouble::Missing(key) => {
+            let names = unknown_names(alloc, entry)?;
+            push_misspelled(alloc, out, key.name(), names.as_slice())
+        }
+        Trouble::Unknown(name) => {
+            let names = key_names(alloc, entry.keys())?;
+            push_meant(alloc, out, name, names.as_slice(), "`")
+        }
+        Trouble::Wrong(key, value) => push_meant_value(alloc, out, entry, key, value),
+        Trouble::OneTooMany => Ok(()),
+    }
+}
+
+/// Adds a line on the key that stands there in the place of a missing one, if one is near.
+fn push_misspelled(
+    alloc: Global,
+    out: &mut String,
+    key: &str,
+    names: &[&str],
+) -> Result<(), AllocError> {
+    let Some(i) = nearest(alloc, key, names)? else {
+        return Ok(());
+    };
+    let Some(name) = names.get(i) else {
+        return Ok(());
+    };
+    out.push_str("  unknown key ")?;
+    push_key(alloc, out, *name)?;
+    out.push_str(": did you mean ")?;
+    push_key(alloc, out, key)?;
+    out.push_str("?\n")
+}
+
+/// The lines behind the first one on an entry's trouble.
+pub(crate) fn trouble_lines(
+    alloc: Global,
+    layout: &Layout<'_>,
+    entry: &Entry<'_>,
+    trouble: Option<Trouble<'_>>,
+    fault: PlanFault,
+) -> Result<String, AllocError> {
+    let mut lines = String::new(alloc);
+    let Some(trouble) = trouble else {
+        return Ok(lines);
+    };
+    push_head(alloc, &mut lines, layout, entry)?;
+    push_trouble(alloc, &mut lines, trouble)?;
+    push_allowed(alloc, &mut lines, entry, trouble, fault)?;
+    push_example(&mut lines, trouble)?;
+    push_suggestion(alloc, &mut lines, entry, trouble)?;
+    Ok(lines)
+}

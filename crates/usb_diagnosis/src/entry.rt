@@ -1,0 +1,142 @@
+//! The entry of a plan's document in which a fault stands.
+
+ghost use Rattle.std.specs.Prelude.{◌≡◌, map, option_map};
+ghost use Rattle.toml.specs.Data.{get_member};
+ghost use Rattle.toml.specs.View.{view, table_view};
+ghost use Rattle.usb_diagnosis.specs.Entry.{entry_keys, text_of};
+ghost use Rattle.usb_diagnosis.specs.Key.{key_name};
+
+use crate::key::{DAMAGE_KEYS, DEVICE_KEYS, PlanKey, TOP_KEYS, keys_with};
+use toml::{Table, Value};
+use usb_plan::Place;
+
+/// An entry, with the entries that it is judged beside.
+#[derive(Clone, Copy)]
+pub(crate) struct Entry<'a> {
+    place: Place,
+    table: &'a Table,
+    /// The entries of its array before it.
+    earlier: &'a [Value],
+    /// The devices of the document.
+    devices: &'a [Value],
+}
+
+/// The array of a place, and which of its entries stands there, counted from 1.
+pub(crate) fn array_of(place: Place) -> Option<(&'static str, usize)> {
+    match place {
+        Place::Top => None,
+        Place::Device(number) => Some(("device", number)),
+        Place::Event(number) => Some(("event", number)),
+        Place::Damage(number) => Some(("damage", number)),
+    }
+}
+
+/// The values of an array at the top, none where there is no such array.
+fn values_at<'a>(document: &'a Table, key: &str) -> &'a [Value] {
+    match document.get(key) {
+        None => &[],
+        Some(value) => match value.as_array() {
+            None => &[],
+            Some(values) => values.as_slice(),
+        },
+    }
+}
+
+/// The value at a key.
+fn value_at<'a>(table: &'a Table, key: &str) -> Option<&'a Value>
+    ensures { option_map (λ v. view v.now) result ≡ get_member key.now (table_view table.now) }
+{
+    table.get(key)
+}
+
+/// The text at a key, where it is one.
+pub(crate) fn text_at<'a>(table: &'a Table, key: &str) -> Option<&'a str>
+    ensures { option_map (λ t. t.now) result ≡ text_of (get_member key.now (table_view table.now)) }
+{
+    match value_at(table, key) {
+        None => None,
+        Some(value) => value.as_str(),
+    }
+}
+
+impl<'a> Entry<'a> {
+    /// The entry at a place of a document.
+    pub(crate) fn at(document: &'a Table, place: Place) -> Option<Self> {
+        let devices = values_at(document, "device");
+        let Some((array, number)) = array_of(place) else {
+            return Some(Entry {
+                place,
+                table: document,
+                earlier: &[],
+                devices,
+            });
+        };
+        let values = values_at(document, array);
+        let index = number.checked_sub(1)?;
+        Some(Entry {
+            place,
+            table: values.get(index)?.as_table()?,
+            earlier: values.get(..index)?,
+            devices,
+        })
+    }
+
+    pub(crate) fn place(&self) -> Place {
+        self.place
+    }
+
+    pub(crate) fn table(&self) -> &'a Table {
+        self.table
+    }
+
+    pub(crate) fn earlier(&self) -> &'a [Value] {
+        self.earlier
+    }
+
+    pub(crate) fn devices(&self) -> &'a [Value] {
+        self.devices
+    }
+
+    /// The keys that have a meaning in the entry.
+    pub(crate) fn keys(&self) -> &'static [PlanKey]
+        ensures { map key_name result.now
+            ≡ entry_keys self.now.place (table_view self.now.table.now) }
+    {
+        match self.place {
+            Place::Top => &TOP_KEYS,
+            Place::Device(_) => &DEVICE_KEYS,
+            Place::Event(_) => keys_with(text_at(self.table, "do")),
+            Place::Damage(_) => &DAMAGE_KEYS,
+        }
+    }
+
+    /// The value at a key.
+    pub(crate) fn value(&self, key: PlanKey) -> Option<&'a Value>
+        ensures { option_map (λ v. view v.now) result
+            ≡ get_member (key_name key) (table_view self.now.table.now) }
+    {
+        value_at(self.table, key.name())
+    }
+
+    /// The text at a key, where it is one.
+    pub(crate) fn text(&self, key: PlanKey) -> Option<&'a str> {
+        text_at(self.table, key.name())
+    }
+
+    /// Whether the entry has to have the key.
+    pub(crate) fn needs(&self, key: PlanKey) -> bool {
+        match key {
+            PlanKey::Bit => self.text(PlanKey::How) == Some("flip"),
+            _ => key.example().is_some(),
+        }
+    }
+
+    /// Whether as many entries as a plan may have are before it.
+    pub(crate) fn is_one_too_many(&self) -> bool {
+        match self.place {
+            Place::Top => false,
+            Place::Device(number) => number > 127,
+            Place::Event(number) | Place::Damage(number) => number > 10_000,
+        }
+    }
+}

@@ -1,0 +1,288 @@
+//! The keys of a plan, and what each of them allows.
+
+ghost use Rattle.std.specs.Prelude.{◌≡◌, map, option_map};
+ghost use Rattle.usb_diagnosis.specs.Entry.{keys_with, verb_keys};
+ghost use Rattle.usb_diagnosis.specs.Key.{key_name};
+
+/// A key of a plan.
+#[derive(Clone, Copy, Debug, PartialEq, Eq)]
+pub(crate) enum PlanKey {
+    Limit,
+    Roots,
+    Devices,
+    Events,
+    Damages,
+    Name,
+    Speed,
+    Descriptor,
+    Configs,
+    Strings,
+    Ports,
+    HubDescriptor,
+    SelfPowered,
+    Busy,
+    Silent,
+    Naks,
+    Stalls,
+    Source,
+    HaltAfter,
+    Do,
+    After,
+    Path,
+    Device,
+    Bytes,
+    Packets,
+    Attempt,
+    Packet,
+    How,
+    Bit,
+}
+
+/// The keys at the top.
+pub(crate) const TOP_KEYS: [PlanKey; 5] = [
+    PlanKey::Limit,
+    PlanKey::Roots,
+    PlanKey::Devices,
+    PlanKey::Events,
+    PlanKey::Damages,
+];
+
+/// The keys of a device.
+pub(crate) const DEVICE_KEYS: [PlanKey; 14] = [
+    PlanKey::Name,
+    PlanKey::Speed,
+    PlanKey::Descriptor,
+    PlanKey::Configs,
+    PlanKey::Strings,
+    PlanKey::Ports,
+    PlanKey::HubDescriptor,
+    PlanKey::SelfPowered,
+    PlanKey::Busy,
+    PlanKey::Silent,
+    PlanKey::Naks,
+    PlanKey::Stalls,
+    PlanKey::Source,
+    PlanKey::HaltAfter,
+];
+
+/// The keys of a damage.
+pub(crate) const DAMAGE_KEYS: [PlanKey; 4] = [
+    PlanKey::Attempt,
+    PlanKey::Packet,
+    PlanKey::How,
+    PlanKey::Bit,
+];
+
+/// The keys of an event whose `do` is absent or no word: nothing else of it is looked at.
+const NO_VERB_KEYS: [PlanKey; 1] = [PlanKey::Do];
+
+const PLUG_KEYS: [PlanKey; 4] = [PlanKey::Do, PlanKey::After, PlanKey::Path, PlanKey::Device];
+
+const PATH_KEYS: [PlanKey; 3] = [PlanKey::Do, PlanKey::After, PlanKey::Path];
+
+const SHOW_KEYS: [PlanKey; 2] = [PlanKey::Do, PlanKey::After];
+
+const SEND_KEYS: [PlanKey; 4] = [PlanKey::Do, PlanKey::After, PlanKey::Path, PlanKey::Bytes];
+
+const RECEIVE_KEYS: [PlanKey; 4] = [PlanKey::Do, PlanKey::After, PlanKey::Path, PlanKey::Packets];
+
+/// The words of `speed`.
+const SPEEDS: [&str; 2] = ["full", "low"];
+
+/// The words of `stalls`.
+const STALLS: [&str; 7] = [
+    "device",
+    "address",
+    "config",
+    "set_config",
+    "status",
+    "hub",
+    "string",
+];
+
+/// The words of `do`.
+const VERBS: [&str; 6] = ["plug", "unplug", "show", "send", "receive", "clear"];
+
+/// The words of `how`.
+const WAYS: [&str; 3] = ["lose", "pre", "flip"];
+
+/// What stands at a key.
+#[derive(Clone, Copy, Debug, PartialEq, Eq)]
+pub(crate) enum Kind {
+    /// A number in this range.
+    Number(u64, u64),
+    /// True or false.
+    Flag,
+    /// A text.
+    Text,
+    /// One of the key's words.
+    Word,
+    /// An array of the key's words.
+    Words,
+    /// The hexadecimal digits of at most so many bytes.
+    Hex(usize),
+    /// An array of at most so many texts, each with the digits of at most so many bytes.
+    Hexes(usize, usize),
+    /// An array of tables.
+    Tables,
+}
+
+impl PlanKey {
+    /// The key as a plan spells it.
+    pub(crate) fn name(self) -> &'static str
+        ensures { result.now ≡ key_name self }
+    {
+        match self {
+            PlanKey::Limit => "limit",
+            PlanKey::Roots => "roots",
+            PlanKey::Devices => "device",
+            PlanKey::Events => "event",
+            PlanKey::Damages => "damage",
+            PlanKey::Name => "name",
+            PlanKey::Speed => "speed",
+            PlanKey::Descriptor => "descriptor",
+            PlanKey::Configs => "configs",
+            PlanKey::Strings => "strings",
+            PlanKey::Ports => "ports",
+            PlanKey::HubDescriptor => "hub_descriptor",
+            PlanKey::SelfPowered => "self_powered",
+            PlanKey::Busy => "busy",
+            PlanKey::Silent => "silent",
+            PlanKey::Naks => "naks",
+            PlanKey::Stalls => "stalls",
+            PlanKey::Source => "source",
+            PlanKey::HaltAfter => "halt_after",
+            PlanKey::Do => "do",
+            PlanKey::After => "after",
+            PlanKey::Path => "path",
+            PlanKey::Device => "device",
+            PlanKey::Bytes => "bytes",
+            PlanKey::Packets => "packets",
+            PlanKey::Attempt => "attempt",
+            PlanKey::Packet => "packet",
+            PlanKey::How => "how",
+            PlanKey::Bit => "bit",
+        }
+    }
+
+    /// What stands at the key.
+    pub(crate) fn kind(self) -> Kind {
+        match self {
+            PlanKey::Limit => Kind::Number(0, 100_000_000_000_000),
+            PlanKey::Roots | PlanKey::Ports => Kind::Number(1, 7),
+            PlanKey::Devices | PlanKey::Events | PlanKey::Damages => Kind::Tables,
+            PlanKey::Name | PlanKey::Path | PlanKey::Device => Kind::Text,
+            PlanKey::Speed | PlanKey::Do | PlanKey::How => Kind::Word,
+            PlanKey::Stalls => Kind::Words,
+            PlanKey::Descriptor | PlanKey::HubDescriptor => Kind::Hex(255),
+            PlanKey::Source => Kind::Hex(65535),
+            PlanKey::Bytes => Kind::Hex(usize::MAX),
+            PlanKey::Configs => Kind::Hexes(8, 65535),
+            PlanKey::Strings => Kind::Hexes(256, 255),
+            PlanKey::SelfPowered | PlanKey::Busy | PlanKey::Silent => Kind::Flag,
+            PlanKey::Naks => Kind::Number(0, 200),
+            PlanKey::HaltAfter => Kind::Number(1, 65535),
+            PlanKey::After => Kind::Number(0, 1_000_000_000),
+            PlanKey::Packets => Kind::Number(0, 1000),
+            PlanKey::Attempt => Kind::Number(1, (1 << 63) - 1),
+            PlanKey::Packet => Kind::Number(1, 3),
+            PlanKey::Bit => Kind::Number(0, 535),
+        }
+    }
+
+    /// The words that can stand at the key, where it is one of words.
+    pub(crate) fn words(self) -> &'static [&'static str] {
+        match self {
+            PlanKey::Speed => &SPEEDS,
+            PlanKey::Stalls => &STALLS,
+            PlanKey::Do => &VERBS,
+            PlanKey::How => &WAYS,
+            _ => &[],
+        }
+    }
+
+    /// What is allowed at the key.
+    pub(crate) fn allowed(self) -> &'static str {
+        match self {
+            PlanKey::Limit => "a number from 0 to 100000000000000",
+            PlanKey::Roots => "a number from 1 to 7",
+            PlanKey::Devices => "tables, each headed [[device]]",
+            PlanKey::Events => "tables, each headed [[event]]",
+            PlanKey::Damages => "tables, each headed [[damage]]",
+            PlanKey::Name => "a text that is not empty and names no earlier device",
+            PlanKey::Speed => "\"full\" or \"low\"",
+            PlanKey::Descriptor => "two hexadecimal digits for each of at most 255 bytes",
+            PlanKey::Configs =>
+                "at most 8 texts, each of two hexadecimal digits for each of at most 65535 bytes",
+            PlanKey::Strings =>
+                "at most 256 texts, each of two hexadecimal digits for each of at most 255 bytes",
+            PlanKey::Ports =>
+                "a number from 1 to 7, at full speed, where the descriptor's fifth byte is 09",
+            PlanKey::HubDescriptor =>
+                "two hexadecimal digits for each of at most 255 bytes, of a hub with as many `ports`",
+            PlanKey::SelfPowered | PlanKey::Busy | PlanKey::Silent => "true or false",
+            PlanKey::Naks => "a number from 0 to 200",
+            PlanKey::Stalls =>
+                "an array of \"device\", \"address\", \"config\", \"set_config\", \"status\", \"hub\", \"string\"",
+            PlanKey::Source => "two hexadecimal digits for each of at most 65535 bytes",
+            PlanKey::HaltAfter => "a number from 1 to 65535",
+            PlanKey::Do => "\"plug\", \"unplug\", \"show\", \"send\", \"receive\" or \"clear\"",
+            PlanKey::After => "a number from 0 to 1000000000",
+            PlanKey::Path => "the numbers of ports from a root port on, joined by dots",
+            PlanKey::Device => "the name of a device of the plan",
+            PlanKey::Bytes => "two hexadecimal digits for each byte",
+            PlanKey::Packets => "a number from 0 to 1000",
+            PlanKey::Attempt => "a number above 0 and above that of the damage before it",
+            PlanKey::Packet => "1, 2 or 3",
+            PlanKey::How => "\"lose\", \"pre\" or \"flip\"",
+            PlanKey::Bit => "a number from 0 to 535, beside how = \"flip\" alone",
+        }
+    }
+
+    /// A line that gives the key, of a key that can be wanted.
+    pub(crate) fn example(self) -> Option<&'static str> {
+        match self {
+            PlanKey::Limit => Some("limit = 10000"),
+            PlanKey::Roots => Some("roots = 1"),
+            PlanKey::Name => Some("name = \"keyboard\""),
+            PlanKey::Speed => Some("speed = \"low\""),
+            PlanKey::Descriptor => Some("descriptor = \"120100020000000834127856000100000001\""),
+            PlanKey::Configs => Some("configs = [\"0902120001010080320904000000FF000000\"]"),
+            PlanKey::Do => Some("do = \"plug\""),
+            PlanKey::Path => Some("path = \"1\""),
+            PlanKey::Device => Some("device = \"keyboard\""),
+            PlanKey::Bytes => Some("bytes = \"0102\""),
+            PlanKey::Packets => Some("packets = 1"),
+            PlanKey::Attempt => Some("attempt = 1"),
+            PlanKey::Packet => Some("packet = 1"),
+            PlanKey::How => Some("how = \"lose\""),
+            PlanKey::Bit => Some("bit = 0"),
+            _ => None,
+        }
+    }
+}
+
+/// The keys that go with an event's `do`.
+fn verb_keys(verb: &str) -> &'static [PlanKey]
+    ensures { map key_name result.now ≡ verb_keys verb.now }
+{
+    match verb {
+        "plug" => &PLUG_KEYS,
+        "unplug" => &PATH_KEYS,
+        "show" => &SHOW_KEYS,
+        "send" => &SEND_KEYS,
+        "receive" => &RECEIVE_KEYS,
+        "clear" => &PATH_KEYS,
+        _ => &NO_VERB_KEYS,
+    }
+}
+
+/// The keys of an event whose `do` is this text, or none.
+pub(crate) fn keys_with(verb: Option<&str>) -> &'static [PlanKey]
+    ensures { map key_name result.now ≡ keys_with (option_map (λ t. t.now) verb.entry) }
+{
+    match verb {
+        None => &NO_VERB_KEYS,
+        Some(verb) => verb_keys(verb),
+    }
+}

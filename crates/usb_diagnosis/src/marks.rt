@@ -1,0 +1,239 @@
+//! On which lines the entries of a document and their keys stand.
+//!
+//! The document's values know nothing of that, so its text is walked once more, statement by statement.
+
+ghost use Rattle.std.specs.Prelude.{◌≡◌, ◌≤◌, length, IfOk, IfSome};
+ghost use Rattle.usb_diagnosis.specs.Place.{IsLineIn};
+
+use crate::place::line_behind;
+use std::alloc::{AllocError, Global};
+use toml_parser::text::{byte_at, first, skip, skip_blank, skip_ws};
+use toml_parser::{Key, ParseError, dotted_key, quoted, starts_string};
+
+/// A statement of a document.
+#[derive(Debug, Drop)]
+struct Mark {
+    /// How many bytes of the text are before it.
+    at: usize,
+    /// It begins an entry of the array at its path.
+    begins: bool,
+    /// The first two keys of the path of what it defines, from the top.
+    path: Vec<String>,
+}
+
+impl Mark {
+    /// Whether it begins an entry of the array.
+    fn begins(&self, array: &str) -> bool {
+        self.begins && self.is_below(array)
+    }
+
+    /// Whether it defines what stands at the key at the top, or something below it.
+    fn is_below(&self, key: &str) -> bool {
+        match self.path.first() {
+            None => false,
+            Some(first) => first.as_str() == key,
+        }
+    }
+
+    /// Whether it defines the key of an entry of the array.
+    fn defines(&self, array: &str, key: &str) -> bool {
+        match self.path.get(1) {
+            None => false,
+            Some(second) => self.is_below(array) && second.as_str() == key,
+        }
+    }
+}
+
+/// A document's text with its statements.
+#[derive(Debug, Drop)]
+pub(crate) struct Layout<'a> {
+    text: &'a str,
+    marks: Vec<Mark>,
+}
+
+impl<'a> Layout<'a> {
+    /// The layout of a text, up to the first statement that is none.
+    pub(crate) fn of(alloc: Global, text: &'a str) -> Result<Self, AllocError>
+        ensures { IfOk result (λ layout. layout.text.now ≡ text.entry.now) }
+    {
+        let marks = marks_of(alloc, text)?;
+        Ok(Layout { text, marks })
+    }
+
+    /// The line of a statement.
+    fn line(&self, mark: &Mark) -> usize
+        ensures { IsLineIn self.now.text.now result }
+    {
+        let at = mark.at.min(self.text.len());
+        line_behind(&self.text.as_bytes()[..at])
+    }
+
+    /// The line of the first statement on a key at the top.
+    pub(crate) fn top_line(&self, key: &str) -> Option<usize>
+        ensures { IfSome result (IsLineIn self.now.text.now) }
+    {
+        let mark = self.marks.iter().find(|mark| mark.is_below(key))?;
+        Some(self.line(mark))
+    }
+
+    /// The line where an entry of the array begins.
+    pub(crate) fn entry_line(&self, array: &str, number: usize) -> Option<usize>
+        ensures { IfSome result (IsLineIn self.now.text.now) }
+    {
+        let mut begun = 0usize;
+        for mark in &self.marks {
+            if mark.begins(array) {
+                begun = begun.saturating_add(1);
+                if begun == number {
+                    return Some(self.line(mark));
+                }
+            }
+        }
+        None
+    }
+
+    /// The line of a key of an entry of the array.
+    pub(crate) fn key_line(&self, array: &str, number: usize, key: &str) -> Option<usize>
+        ensures { IfSome result (IsLineIn self.now.text.now) }
+    {
+        let mut begun = 0usize;
+        for mark in &self.marks {
+            if mark.begins(array) {
+                begun = begun.saturating_add(1);
+            } else if begun == number && mark.defines(array, key) {
+                return Some(self.line(mark));
+            }
+        }
+        None
+    }
+}
+
+/// What a statement begins with.
+#[derive(Clone, Copy, PartialEq, Eq)]
+enum Opening {
+    /// No bracket: a key with its value.
+    Pair,
+    /// One bracket: the head of a table.
+    Table,
+    /// Two brackets: the head of an entry of an array.
+    Entry,
+}
+
+/// What the statement begins with, and the text after that.
+fn opening_of(start: &str) -> (Opening, &str)
+    ensures { length result.1.now ≤ length start.now }
+{
+    if first(start) != b'[' {
+        (Opening::Pair, start)
+    } else if byte_at(start, 1) != b'[' {
+        (Opening::Table, skip(start, 1))
+    } else {
+        (Opening::Entry, skip(start, 2))
+    }
+}
+
+/// The text behind a comment, an end of a line or a closing bracket that ends a statement.
+fn after_value(alloc: Global, start: &str) -> Result<&str, ParseError>
+    ensures { IfOk result (λ rest. length rest.now ≤ length start.now) }
+{
+    let mut rest = start;
+    let mut depth = 0usize;
+    'steps: for _ in 0..start.len() {
+        let byte = first(rest);
+        if starts_string(rest) {
+            rest = quoted(alloc, rest)?.1;
+        } else if depth == 0 && (byte == b'\n' || byte == b'#') {
+            return Ok(rest);
+        } else if byte == b'#' {
+            rest = skip_blank(rest, true);
+        } else if byte == 0 || byte >= 128 {
+            return Ok(rest);
+        } else {
+            depth = depth_after(depth, byte);
+            rest = skip(rest, 1);
+        }
+    }
+    Ok(rest)
+}
+
+/// How many brackets are open behind the byte.
+fn depth_after(depth: usize, byte: u8) -> usize {
+    match byte {
+        b'[' | b'{' => depth.saturating_add(1),
+        b']' | b'}' => depth.saturating_sub(1),
+        _ => depth,
+    }
+}
+
+/// Adds a part to a path that has less than two.
+fn push_part(alloc: Global, path: &mut Vec<String>, part: &str) -> Result<(), AllocError> {
+    if path.len() < 2 {
+        path.push(String::from_str(alloc, part)?)?;
+    }
+    Ok(())
+}
+
+fn push_parts(alloc: Global, path: &mut Vec<String>, parts: &[String]) -> Result<(), AllocError> {
+    for part in parts {
+        push_part(alloc, path, part.as_str())?;
+    }
+    Ok(())
+}
+
+/// What a statement begins with, and its key.
+#[derive(Drop)]
+struct Statement {
+    opening: Opening,
+    key: Key,
+}
+
+/// The statement at the front of a text, and the text behind it.
+fn read_statement(alloc: Global, start: &str) -> Result<(Statement, &str), ParseError>
+    ensures { IfOk result (λ read. length read.1.now ≤ length start.now) }
+{
+    let (opening, at_key) = opening_of(start);
+    let (key, after_key) = dotted_key(alloc, skip_ws(at_key))?;
+    let rest = after_value(alloc, after_key)?;
+    Ok((Statement { opening, key }, rest))
+}
+
+/// The first two keys of a statement's path; that of a pair goes on behind the path of its table.
+fn path_of(
+    alloc: Global,
+    table: &[String],
+    statement: &Statement,
+) -> Result<Vec<String>, AllocError> {
+    let mut path = Vec::new(alloc);
+    if statement.opening == Opening::Pair {
+        push_parts(alloc, &mut path, table)?;
+    }
+    push_parts(alloc, &mut path, statement.key.path.as_slice())?;
+    push_part(alloc, &mut path, statement.key.last.as_str())?;
+    Ok(path)
+}
+
+/// The statements of a text, up to the first that is none.
+fn marks_of(alloc: Global, text: &str) -> Result<Vec<Mark>, AllocError> {
+    let mut marks = Vec::new(alloc);
+    let mut table = Vec::new(alloc);
+    let mut rest = text.strip_prefix('\u{FEFF}').unwrap_or(text);
+    for _ in 0..text.len() {
+        let start = skip_blank(rest, true);
+        let (statement, after) = match read_statement(alloc, start) {
+            Ok(read) => read,
+            Err(ParseError::OutOfMemory) => return Err(AllocError),
+            Err(ParseError::At(_, _, _)) => return Ok(marks),
+        };
+        let path = path_of(alloc, table.as_slice(), &statement)?;
+        if statement.opening != Opening::Pair {
+            table = path.clone()?;
+        }
+        marks.push(Mark {
+            at: text.len().saturating_sub(start.len()),
+            begins: statement.opening == Opening::Entry && path.len() == 1,
+            path,
+        })?;
+        rest = after;
+    }
+    Ok(marks)
+}

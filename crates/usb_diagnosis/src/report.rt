@@ -1,0 +1,106 @@
+//! The lines that tell what a plan holds, and those that tell why a text is none.
+
+ghost use Rattle.std.specs.Prelude.{◌≡◌, ◌++◌, IfOk, OnOk, string_bytes};
+ghost use Rattle.usb_plan.specs.Place.{place_text};
+ghost use Rattle.usb_diagnosis.specs.Report.{count_line, fault_text, fault_word, first_line, place_of, plan_lines};
+
+use crate::place::{Spot, push_spot};
+use crate::shown::push_number;
+use std::alloc::{AllocError, Global};
+use usb_plan::{Place, Plan, PlanFault, bound};
+
+/// Adds a word, a number and the end of the line.
+fn push_count(alloc: Global, out: &mut String, word: &str, number: u64) -> Result<(), AllocError>
+    ensures { OnOk result
+        (string_bytes out.new ≡ string_bytes out.old ++ count_line word.now number) }
+{
+    out.push_str(word)?;
+    out.push_str(" ")?;
+    push_number(alloc, out, number)?;
+    out.push_str("\n")
+}
+
+/// What a plan holds: how many devices, events and damages, and its bound.
+#[tactic(auto, unfolding(crate::specs::Report::plan_lines))]
+pub(crate) fn plan_lines(alloc: Global, plan: &Plan) -> Result<String, AllocError>
+    ensures { IfOk result (λ lines. string_bytes lines ≡ plan_lines plan.now) }
+{
+    let mut lines = String::new(alloc);
+    push_count(alloc, &mut lines, "devices", plan.devices().len() as u64)?;
+    push_count(alloc, &mut lines, "events", plan.events().len() as u64)?;
+    push_count(alloc, &mut lines, "damages", plan.damages().len() as u64)?;
+    push_count(alloc, &mut lines, "bound", bound(plan))?;
+    Ok(lines)
+}
+
+/// Adds the words for an entry.
+fn push_place(alloc: Global, out: &mut String, place: Place) -> Result<(), AllocError>
+    ensures { OnOk result (string_bytes out.new ≡ string_bytes out.old ++ place_text place) }
+{
+    let words = place.to_string(alloc)?;
+    out.push_str(words.as_str())
+}
+
+/// What is wrong with an entry, in the words of the fault.
+fn fault_word(fault: PlanFault) -> &'static str
+    ensures { result.now ≡ fault_word fault }
+{
+    match fault {
+        PlanFault::Syntax => "syntax",
+        PlanFault::MissingKey(_) => "missing key",
+        PlanFault::BadValue(_) => "bad value",
+        PlanFault::BadHex(_) => "bad hex",
+        PlanFault::UnknownDevice(_) => "unknown device",
+        PlanFault::BadPath(_) => "bad path",
+        PlanFault::PortTaken(_) => "port taken",
+        PlanFault::PortEmpty(_) => "port empty",
+        PlanFault::Memory => "out of memory",
+    }
+}
+
+/// The entry that a fault is told of.
+pub(crate) fn place_of(fault: PlanFault) -> Option<Place>
+    ensures { result ≡ place_of fault }
+{
+    match fault {
+        PlanFault::MissingKey(place)
+        | PlanFault::BadValue(place)
+        | PlanFault::BadHex(place)
+        | PlanFault::UnknownDevice(place)
+        | PlanFault::BadPath(place)
+        | PlanFault::PortTaken(place)
+        | PlanFault::PortEmpty(place) => Some(place),
+        PlanFault::Syntax | PlanFault::Memory => None,
+    }
+}
+
+/// Adds the words of a fault, as `plan: device 2: bad value`.
+#[tactic(auto, unfolding(crate::specs::Report::fault_text))]
+fn push_fault(alloc: Global, out: &mut String, fault: PlanFault) -> Result<(), AllocError>
+    ensures { OnOk result (string_bytes out.new ≡ string_bytes out.old ++ fault_text fault) }
+{
+    out.push_str("plan: ")?;
+    if let Some(place) = place_of(fault) {
+        push_place(alloc, out, place)?;
+        out.push_str(": ")?;
+    }
+    out.push_str(fault_word(fault))
+}
+
+/// The first line of what is told of a text that is no plan: `FILE:LINE: FAULT`.
+#[tactic(auto, unfolding(crate::specs::Report::first_line))]
+pub(crate) fn first_line(
+    alloc: Global,
+    file: &str,
+    spot: Spot,
+    fault: PlanFault,
+) -> Result<String, AllocError>
+    ensures { IfOk result (λ line. string_bytes line ≡ first_line file.now spot fault) }
+{
+    let mut line = String::from_str(alloc, file)?;
+    push_spot(alloc, &mut line, spot)?;
+    line.push_str(": ")?;
+    push_fault(alloc, &mut line, fault)?;
+    line.push_str("\n")?;
+    Ok(line)
+}

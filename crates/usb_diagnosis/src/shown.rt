@@ -1,0 +1,84 @@
+//! Pieces of what is told: numbers, and texts of the plan made fit for one line.
+
+ghost use Rattle.std.specs.Prelude.{◌≡◌, ◌++◌, decimal, flat_map, IfOk, OnOk, string_bytes, take};
+ghost use Rattle.std.specs.Str.{chars};
+ghost use Rattle.usb_diagnosis.specs.Shown.{char_shown, dots, shown};
+
+use std::alloc::{AllocError, Global};
+
+/// How many characters of a text are shown.
+const MOST_SHOWN: usize = 60;
+
+/// Adds a number in decimal digits.
+pub(crate) fn push_number(alloc: Global, out: &mut String, number: u64) -> Result<(), AllocError>
+    ensures { OnOk result (string_bytes out.new ≡ string_bytes out.old ++ decimal number) }
+{
+    let digits = number.to_string(alloc)?;
+    out.push_str(digits.as_str())
+}
+
+/// Adds a character, a control character as `\u` and its number in four hexadecimal digits.
+fn push_char(alloc: Global, out: &mut String, letter: char) -> Result<(), AllocError>
+    ensures { OnOk result (string_bytes out.new ≡ string_bytes out.old ++ char_shown letter) }
+{
+    if !letter.is_control() {
+        return out.push(letter);
+    }
+    let digits = hex::encode_upper(alloc, &[letter as u8])?;
+    out.push_str("\\u00")?;
+    out.push_str(digits.as_str())
+}
+
+fn push_letters(alloc: Global, out: &mut String, letters: &[char]) -> Result<(), AllocError>
+    ensures { OnOk result (string_bytes out.new
+        ≡ string_bytes out.old ++ flat_map char_shown letters.now) }
+{
+    'letters: for letter in letters {
+        push_char(alloc, out, *letter)?;
+    }
+    Ok(())
+}
+
+/// The first 60 letters, or all that there are.
+fn front(letters: &[char]) -> &[char]
+    ensures { result.now ≡ take 60 letters.now }
+{
+    if letters.len() < MOST_SHOWN {
+        letters
+    } else {
+        &letters[..MOST_SHOWN]
+    }
+}
+
+/// What stands behind the first 60 letters: three dots, where there are more.
+fn dots(letters: &[char]) -> &'static str
+    ensures { result.now ≡ dots letters.now }
+{
+    if letters.len() > MOST_SHOWN {
+        "..."
+    } else {
+        ""
+    }
+}
+
+fn push_front(alloc: Global, out: &mut String, letters: &[char]) -> Result<(), AllocError>
+    ensures { OnOk result (string_bytes out.new ≡ string_bytes out.old ++ shown letters.now) }
+{
+    push_letters(alloc, out, front(letters))?;
+    out.push_str(dots(letters))
+}
+
+fn letters_of(alloc: Global, text: &str) -> Result<Vec<char>, AllocError>
+    ensures { IfOk result (λ letters. letters.items ≡ chars text.now) }
+{
+    text.chars().collect(alloc)
+}
+
+/// Adds the first 60 characters of a text, and three dots where there are more.
+pub(crate) fn push_shown(alloc: Global, out: &mut String, text: &str) -> Result<(), AllocError>
+    ensures { OnOk result
+        (string_bytes out.new ≡ string_bytes out.old ++ shown (chars text.now)) }
+{
+    let letters = letters_of(alloc, text)?;
+    push_front(alloc, out, letters.as_slice())
+}

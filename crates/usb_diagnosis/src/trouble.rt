@@ -1,0 +1,315 @@
+//! Which key of an entry makes its fault.
+
+ghost use Rattle.std.specs.Prelude.{◌≡◌, None, IfSome, false, map};
+ghost use Rattle.std.specs.List.{list_any};
+ghost use Rattle.std.specs.Str.{bytes_eq};
+ghost use Rattle.toml.specs.Data.{get_member};
+ghost use Rattle.toml.specs.View.{table_view};
+ghost use Rattle.usb_diagnosis.specs.Entry.{entry_keys};
+ghost use Rattle.usb_diagnosis.specs.Key.{key_name};
+ghost use Rattle.usb_diagnosis.specs.Trouble.{IsTroubleOf};
+
+use crate::entry::{Entry, text_at};
+use crate::key::{Kind, PlanKey};
+use toml::{Table, Value};
+use usb_plan::{Place, PlanFault};
+
+/// What of an entry makes its fault.
+#[derive(Clone, Copy)]
+pub(crate) enum Trouble<'a> {
+    /// The key is wanted, and absent.
+    Missing(PlanKey),
+    /// The key has no meaning in the entry.
+    Unknown(&'a str),
+    /// The value is none that the key allows.
+    Wrong(PlanKey, &'a Value),
+    /// The entry is one more than a plan may have.
+    OneTooMany,
+}
+
+/// How a value fails what its key allows.
+#[derive(Clone, Copy, PartialEq, Eq)]
+enum Flaw {
+    /// It is of another kind, out of range or too long.
+    Value,
+    /// It has texts that are no hexadecimal digits, two for each byte.
+    Digits,
+}
+
+fn is_number_in(value: &Value, low: u64, high: u64) -> bool {
+    match value.as_integer() {
+        Some(number) if number >= 0 => (low..=high).contains(&(number as u64)),
+        _ => false,
+    }
+}
+
+fn is_one_of(word: &str, words: &[&str]) -> bool {
+    words.iter().any(|other| word == *other)
+}
+
+/// Whether it is a text that is one of the words.
+pub(crate) fn is_word(value: &Value, words: &[&str]) -> bool {
+    match value.as_str() {
+        None => false,
+        Some(word) => is_one_of(word, words),
+    }
+}
+
+fn are_words(value: &Value, words: &[&str]) -> bool {
+    match value.as_array() {
+        None => false,
+        Some(values) => values.iter().all(|value| is_word(value, words)),
+    }
+}
+
+fn are_tables(value: &Value) -> bool {
+    match value.as_array() {
+        None => false,
+        Some(values) => values.iter().all(|value| value.as_table().is_some()),
+    }
+}
+
+fn are_hex_digits(text: &str) -> bool {
+    text.len() % 2 == 0 && text.bytes().all(|byte| byte.is_ascii_hexdigit())
+}
+
+/// How a value fails to be the digits of so many bytes at most.
+fn hex_flaw(value: &Value, most: usize) -> Option<Flaw> {
+    match value.as_str() {
+        None => Some(Flaw::Value),
+        Some(text) if !are_hex_digits(text) => Some(Flaw::Digits),
+        Some(text) if text.len() / 2 > most => Some(Flaw::Value),
+        Some(_) => None,
+    }
+}
+
+/// How an array fails to be so many texts of digits at most. A flaw of value is told before one of digits.
+fn hexes_flaw(value: &Value, count: usize, most: usize) -> Option<Flaw> {
+    let Some(values) = value.as_array() else {
+        return Some(Flaw::Value);
+    };
+    if values.len() > count || has_flaw(values.as_slice(), most, Flaw::Value) {
+        return Some(Flaw::Value);
+    }
+    flaw_if(
+        has_flaw(values.as_slice(), most, Flaw::Digits),
+        Flaw::Digits,
+    )
+}
+
+fn has_flaw(values: &[Value], most: usize, flaw: Flaw) -> bool {
+    values
+        .iter()
+        .any(|value| hex_flaw(value, most) == Some(flaw))
+}
+
+fn flaw_if(failed: bool, flaw: Flaw) -> Option<Flaw> {
+    if failed { Some(flaw) } else { None }
+}
+
+/// How a value fails what stands at the key, whatever else the entry has.
+fn flaw_of(key: PlanKey, value: &Value) -> Option<Flaw> {
+    let fits = match key.kind() {
+        Kind::Number(low, high) => is_number_in(value, low, high),
+        Kind::Flag => value.as_bool().is_some(),
+        Kind::Text => value.as_str().is_some(),
+        Kind::Word => is_word(value, key.words()),
+        Kind::Words => are_words(value, key.words()),
+        Kind::Tables => are_tables(value),
+        Kind::Hex(most) => return hex_flaw(value, most),
+        Kind::Hexes(count, most) => return hexes_flaw(value, count, most),
+    };
+    flaw_if(!fits, Flaw::Value)
+}
+
+/// The first of the entry's keys whose value has the flaw.
+fn flawed<'a>(entry: &Entry<'a>, flaw: Flaw) -> Option<Trouble<'a>>
+    ensures { IfSome result (IsTroubleOf entry.now.place (table_view entry.now.table.now)) }
+{
+    for key in entry.keys() {
+        if let Some(value) = entry.value(*key) {
+            if flaw_of(*key, value) == Some(flaw) {
+                return Some(Trouble::Wrong(*key, value));
+            }
+        }
+    }
+    None
+}
+
+/// What is wrong with the value at the key, if one stands there.
+fn wrong_at<'a>(entry: &Entry<'a>, key: PlanKey) -> Option<Trouble<'a>>
+    ensures { IfSome result (IsTroubleOf entry.now.place (table_view entry.now.table.now)) }
+{
+    let value = entry.value(key)?;
+    Some(Trouble::Wrong(key, value))
+}
+
+/// Whether the key has the name.
+fn has_name(key: PlanKey, name: &str) -> bool
+    ensures { result ≡ bytes_eq name.now (key_name key) }
+{
+    name == key.name()
+}
+
+fn some_has_name(keys: &[PlanKey], name: &str) -> bool
+    ensures { result ≡ list_any (λ k. bytes_eq name.now (key_name k)) keys.now }
+{
+    keys.iter().any(|key| has_name(*key, name))
+}
+
+/// Whether the name is that of one of the keys.
+pub(crate) fn is_known(keys: &[PlanKey], name: &str) -> bool
+    ensures { result ≡ list_any (bytes_eq name.now) (map key_name keys.now) }
+{
+    some_has_name(keys, name)
+}
+
+/// The first key of the entry that has no meaning there.
+fn unknown_key<'a>(entry: &Entry<'a>) -> Option<&'a str>
+    ensures { IfSome result (λ name. list_any (bytes_eq name.now)
+        (entry_keys entry.now.place (table_view entry.now.table.now)) ≡ false) }
+{
+    let keys = entry.keys();
+    for name in entry.table().keys() {
+        if !is_known(keys, name.as_str()) {
+            return Some(name.as_str());
+        }
+    }
+    None
+}
+
+/// The first key that the entry has to have, and has not.
+fn missing_key(entry: &Entry<'_>) -> Option<PlanKey>
+    ensures { IfSome result (λ key.
+        get_member (key_name key) (table_view entry.now.table.now) ≡ None) }
+{
+    for key in entry.keys() {
+        if entry.needs(*key) && entry.value(*key).is_none() {
+            return Some(*key);
+        }
+    }
+    None
+}
+
+fn is_named(value: &Value, name: &str) -> bool {
+    match value.as_table() {
+        None => false,
+        Some(table) => text_at(table, "name") == Some(name),
+    }
+}
+
+/// Whether the name is empty or one of an earlier device.
+fn is_taken_name(entry: &Entry<'_>, name: &str) -> bool {
+    name.is_empty() || entry.earlier().iter().any(|device| is_named(device, name))
+}
+
+/// Whether the fifth byte of the digits is that of the class of hubs.
+fn has_hub_class(digits: &str) -> bool {
+    digits.as_bytes().get(8..10) == Some(b"09".as_slice())
+}
+
+/// Whether the device's descriptor can be read, and has another class than that of hubs.
+fn has_other_class(entry: &Entry<'_>) -> bool {
+    match entry.text(PlanKey::Descriptor) {
+        None => false,
+        Some(digits) => are_hex_digits(digits) && !has_hub_class(digits),
+    }
+}
+
+/// What is wrong with a device whose keys each have a value that they allow by themselves.
+fn device_trouble<'a>(entry: &Entry<'a>) -> Option<Trouble<'a>>
+    ensures { IfSome result (IsTroubleOf entry.now.place (table_view entry.now.table.now)) }
+{
+    if let Some(name) = entry.text(PlanKey::Name) {
+        if is_taken_name(entry, name) {
+            return wrong_at(entry, PlanKey::Name);
+        }
+    }
+    if entry.value(PlanKey::Ports).is_none() {
+        return wrong_at(entry, PlanKey::HubDescriptor);
+    }
+    if entry.text(PlanKey::Speed) == Some("low") || has_other_class(entry) {
+        return wrong_at(entry, PlanKey::Ports);
+    }
+    None
+}
+
+/// The attempt of the last damage before the entry, 0 with none.
+fn last_attempt(entry: &Entry<'_>) -> i64 {
+    match entry.earlier().last() {
+        None => 0,
+        Some(value) => number_at(value.as_table(), "attempt"),
+    }
+}
+
+fn number_at(table: Option<&Table>, key: &str) -> i64 {
+    match table {
+        None => 0,
+        Some(table) => match table.get(key) {
+            None => 0,
+            Some(value) => value.as_integer().unwrap_or(0),
+        },
+    }
+}
+
+/// What is wrong with a damage whose keys each have a value that they allow by themselves.
+fn damage_trouble<'a>(entry: &Entry<'a>) -> Option<Trouble<'a>>
+    ensures { IfSome result (IsTroubleOf entry.now.place (table_view entry.now.table.now)) }
+{
+    if number_at(Some(entry.table()), "attempt") <= last_attempt(entry) {
+        return wrong_at(entry, PlanKey::Attempt);
+    }
+    if !entry.needs(PlanKey::Bit) {
+        return wrong_at(entry, PlanKey::Bit);
+    }
+    None
+}
+
+/// What is wrong with values that their keys allow by themselves, beside the rest of the plan.
+fn trouble_beside_others<'a>(entry: &Entry<'a>) -> Option<Trouble<'a>>
+    ensures { IfSome result (IsTroubleOf entry.now.place (table_view entry.now.table.now)) }
+{
+    match entry.place() {
+        Place::Device(_) => device_trouble(entry),
+        Place::Damage(_) => damage_trouble(entry),
+        Place::Top | Place::Event(_) => None,
+    }
+}
+
+/// Why an entry has a bad value. Where nothing else is wrong, a hub's descriptor tells of other ports than it has.
+fn bad_value<'a>(entry: &Entry<'a>) -> Option<Trouble<'a>>
+    ensures { IfSome result (IsTroubleOf entry.now.place (table_view entry.now.table.now)) }
+{
+    if let Some(trouble) = flawed(entry, Flaw::Value) {
+        return Some(trouble);
+    }
+    if let Some(name) = unknown_key(entry) {
+        return Some(Trouble::Unknown(name));
+    }
+    if let Some(trouble) = trouble_beside_others(entry) {
+        return Some(trouble);
+    }
+    if entry.is_one_too_many() {
+        return Some(Trouble::OneTooMany);
+    }
+    wrong_at(entry, PlanKey::HubDescriptor)
+}
+
+/// What of the entry makes the fault that is told of it.
+pub(crate) fn trouble_of<'a>(entry: &Entry<'a>, fault: PlanFault) -> Option<Trouble<'a>>
+    ensures { IfSome result (IsTroubleOf entry.now.place (table_view entry.now.table.now)) }
+{
+    match fault {
+        PlanFault::MissingKey(_) => match missing_key(entry) {
+            None => None,
+            Some(key) => Some(Trouble::Missing(key)),
+        },
+        PlanFault::BadValue(_) => bad_value(entry),
+        PlanFault::BadHex(_) => flawed(entry, Flaw::Digits),
+        PlanFault::UnknownDevice(_) => wrong_at(entry, PlanKey::Device),
+        PlanFault::BadPath(_) | PlanFault::PortTaken(_) | PlanFault::PortEmpty(_) => {
+            wrong_at(entry, PlanKey::Path)
+        }
+        PlanFault::Syntax | PlanFault::Memory => None,
+    }
+}

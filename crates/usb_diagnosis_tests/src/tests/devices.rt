@@ -1,0 +1,150 @@
+//! Faults of a second device, which begins on line 8.
+use super::{FUNCTION, Row, check_rows};
+use std::alloc::AllocError;
+
+const MISSING: [Row; 4] = [
+    Row {
+        text: "[[device]]\n",
+        told: "p.toml:8: plan: device 2: missing key\n  device 2, line 8: no key `name`\n  allowed: a text that is not empty and names no earlier device\n  such as: name = \"keyboard\"\n",
+    },
+    Row {
+        text: "[[device]]\nname = \"keyboard\"\nsped = \"full\"\n",
+        told: "p.toml:8: plan: device 2: missing key\n  device 2 \"keyboard\", line 8: no key `speed`\n  allowed: \"full\" or \"low\"\n  such as: speed = \"low\"\n  unknown key `sped`: did you mean `speed`?\n",
+    },
+    Row {
+        text: "[[ \"device\" ]]\nname = 1\nspeed = \"full\"\n",
+        told: "p.toml:8: plan: device 2: missing key\n  device 2, line 8: no key `descriptor`\n  allowed: two hexadecimal digits for each of at most 255 bytes\n  such as: descriptor = \"120100020000000834127856000100000001\"\n",
+    },
+    Row {
+        text: "[[device]]\nname = \"a\"\nspeed = \"full\"\ndescriptor = \"\"\n",
+        told: "p.toml:8: plan: device 2: missing key\n  device 2 \"a\", line 8: no key `configs`\n  allowed: at most 8 texts, each of two hexadecimal digits for each of at most 65535 bytes\n  such as: configs = [\"0902120001010080320904000000FF000000\"]\n",
+    },
+];
+
+#[test]
+fn a_device_without_a_key(rt: HostRuntime) -> Result<(), AllocError> {
+    check_rows(&rt, rt.alloc(), FUNCTION, &MISSING)
+}
+
+const NAMES: [Row; 5] = [
+    Row {
+        text: "[[device]]\nspeed = \"full\"\nname = \"fn\"\ndescriptor = \"\"\nconfigs = []\n",
+        told: "p.toml:10: plan: device 2: bad value\n  device 2 \"fn\", line 8: `name` is \"fn\"\n  allowed: a text that is not empty and names no earlier device\n",
+    },
+    Row {
+        text: "[[device]]\nname = \"\"\nspeed = \"full\"\ndescriptor = \"\"\nconfigs = []\n",
+        told: "p.toml:9: plan: device 2: bad value\n  device 2 \"\", line 8: `name` is \"\"\n  allowed: a text that is not empty and names no earlier device\n",
+    },
+    Row {
+        text: "[[device]]\nname = 5\nspeed = \"full\"\ndescriptor = \"\"\nconfigs = []\n",
+        told: "p.toml:9: plan: device 2: bad value\n  device 2, line 8: `name` is 5\n  allowed: a text that is not empty and names no earlier device\n",
+    },
+    Row {
+        text: "[[device]]\nname = \"k\"\nspeed = \"full\"\ndescriptor = \"\"\nconfigs = [\n  # none: ]\n]\nstrngs = [\"\"\"\n\"\"\"]\n",
+        told: "p.toml:15: plan: device 2: bad value\n  device 2 \"k\", line 8: unknown key `strngs`\n  allowed: `name`, `speed`, `descriptor`, `configs`, `strings`, `ports`, `hub_descriptor`, `self_powered`, `busy`, `silent`, `naks`, `stalls`, `source`, `halt_after`\n  did you mean `strings`?\n",
+    },
+    Row {
+        text: "[[device]]\nname = \"k\"\nspeed = \"full\"\ndescriptor = \"\"\nconfigs = []\n[device.extra]\nb = 1\n",
+        told: "p.toml:13: plan: device 2: bad value\n  device 2 \"k\", line 8: unknown key `extra`\n  allowed: `name`, `speed`, `descriptor`, `configs`, `strings`, `ports`, `hub_descriptor`, `self_powered`, `busy`, `silent`, `naks`, `stalls`, `source`, `halt_after`\n",
+    },
+];
+
+#[test]
+fn a_device_of_a_bad_name_or_an_unknown_key(rt: HostRuntime) -> Result<(), AllocError> {
+    check_rows(&rt, rt.alloc(), FUNCTION, &NAMES)
+}
+
+/// A second device with the five bytes of class 9, so that it may have ports.
+const HUB: &str =
+    "[[device]]\nname = \"hub\"\nspeed = \"full\"\ndescriptor = \"0102030409\"\nconfigs = []\n";
+
+/// Further lines of it, the first of which is line 13.
+const VALUES: [Row; 13] = [
+    Row {
+        text: "strings = [\"04\", 5]\n",
+        told: "p.toml:13: plan: device 2: bad value\n  device 2 \"hub\", line 8: `strings` is [\"04\", 5]\n  allowed: at most 256 texts, each of two hexadecimal digits for each of at most 255 bytes\n",
+    },
+    Row {
+        text: "strings = [\"04\", \"5\"]\n",
+        told: "p.toml:13: plan: device 2: bad hex\n  device 2 \"hub\", line 8: `strings` is [\"04\", \"5\"]\n  allowed: at most 256 texts, each of two hexadecimal digits for each of at most 255 bytes\n",
+    },
+    Row {
+        text: "source = \"0g\"\n",
+        told: "p.toml:13: plan: device 2: bad hex\n  device 2 \"hub\", line 8: `source` is \"0g\"\n  allowed: two hexadecimal digits for each of at most 65535 bytes\n",
+    },
+    Row {
+        text: "ports = 8\n",
+        told: "p.toml:13: plan: device 2: bad value\n  device 2 \"hub\", line 8: `ports` is 8\n  allowed: a number from 1 to 7, at full speed, where the descriptor's fifth byte is 09\n",
+    },
+    Row {
+        text: "hub_descriptor = \"09\"\n",
+        told: "p.toml:13: plan: device 2: bad value\n  device 2 \"hub\", line 8: `hub_descriptor` is \"09\"\n  allowed: two hexadecimal digits for each of at most 255 bytes, of a hub with as many `ports`\n",
+    },
+    Row {
+        text: "ports = 2\nhub_descriptor = \"0929030100000000FF\"\n",
+        told: "p.toml:14: plan: device 2: bad value\n  device 2 \"hub\", line 8: `hub_descriptor` is \"0929030100000000FF\"\n  allowed: two hexadecimal digits for each of at most 255 bytes, of a hub with as many `ports`\n",
+    },
+    Row {
+        text: "self_powered = 1\n",
+        told: "p.toml:13: plan: device 2: bad value\n  device 2 \"hub\", line 8: `self_powered` is 1\n  allowed: true or false\n",
+    },
+    Row {
+        text: "busy = true\nsilent = \"no\"\n",
+        told: "p.toml:14: plan: device 2: bad value\n  device 2 \"hub\", line 8: `silent` is \"no\"\n  allowed: true or false\n",
+    },
+    Row {
+        text: "naks = 201\n",
+        told: "p.toml:13: plan: device 2: bad value\n  device 2 \"hub\", line 8: `naks` is 201\n  allowed: a number from 0 to 200\n",
+    },
+    Row {
+        text: "stalls = [\"hub\", \"adress\"]\n",
+        told: "p.toml:13: plan: device 2: bad value\n  device 2 \"hub\", line 8: `stalls` is [\"hub\", \"adress\"]\n  allowed: an array of \"device\", \"address\", \"config\", \"set_config\", \"status\", \"hub\", \"string\"\n  did you mean \"address\"?\n",
+    },
+    Row {
+        text: "halt_after = 0\n",
+        told: "p.toml:13: plan: device 2: bad value\n  device 2 \"hub\", line 8: `halt_after` is 0\n  allowed: a number from 1 to 65535\n",
+    },
+    Row {
+        text: "strings = \"a\\u0001\\u007Fb\\u0085\"\n",
+        told: "p.toml:13: plan: device 2: bad value\n  device 2 \"hub\", line 8: `strings` is \"a\\u0001\\u007Fb\\u0085\"\n  allowed: at most 256 texts, each of two hexadecimal digits for each of at most 255 bytes\n",
+    },
+    Row {
+        text: "strings = \"0123456789012345678901234567890123456789012345678901234567890\"\n",
+        told: "p.toml:13: plan: device 2: bad value\n  device 2 \"hub\", line 8: `strings` is \"01234567890123456789012345678901234567890123456789012345678...\n  allowed: at most 256 texts, each of two hexadecimal digits for each of at most 255 bytes\n",
+    },
+];
+
+#[test]
+fn a_device_of_a_bad_value(rt: HostRuntime) -> Result<(), AllocError> {
+    let mut before = String::from_str(rt.alloc(), FUNCTION)?;
+    before.push_str(HUB)?;
+    check_rows(&rt, rt.alloc(), before.as_str(), &VALUES)
+}
+
+const PARTS: [Row; 5] = [
+    Row {
+        text: "[[device]]\nname = \"k\"\nspeed = \"fulll\"\ndescriptor = \"\"\nconfigs = []\n",
+        told: "p.toml:10: plan: device 2: bad value\n  device 2 \"k\", line 8: `speed` is \"fulll\"\n  allowed: \"full\" or \"low\"\n  did you mean \"full\"?\n",
+    },
+    Row {
+        text: "[[device]]\nname = \"k\"\nspeed = \"low\"\ndescriptor = \"0102030409\"\nconfigs = []\nports = 1\n",
+        told: "p.toml:13: plan: device 2: bad value\n  device 2 \"k\", line 8: `ports` is 1\n  allowed: a number from 1 to 7, at full speed, where the descriptor's fifth byte is 09\n",
+    },
+    Row {
+        text: "[[device]]\nname = \"k\"\nspeed = \"full\"\ndescriptor = \"0102030408\"\nconfigs = []\nports = 1\n",
+        told: "p.toml:13: plan: device 2: bad value\n  device 2 \"k\", line 8: `ports` is 1\n  allowed: a number from 1 to 7, at full speed, where the descriptor's fifth byte is 09\n",
+    },
+    Row {
+        text: "[[device]]\nname = \"k\"\nspeed = \"full\"\ndescriptor = \"1\"\nconfigs = []\n",
+        told: "p.toml:11: plan: device 2: bad hex\n  device 2 \"k\", line 8: `descriptor` is \"1\"\n  allowed: two hexadecimal digits for each of at most 255 bytes\n",
+    },
+    Row {
+        text: "[[device]]\nname = \"k\"\nspeed = \"full\"\ndescriptor = \"\"\nconfigs = [\"\", \"\", \"\", \"\", \"\", \"\", \"\", \"\", \"\"]\n",
+        told: "p.toml:12: plan: device 2: bad value\n  device 2 \"k\", line 8: `configs` is [\"\", \"\", \"\", \"\", \"\", \"\", \"\", \"\", \"\"]\n  allowed: at most 8 texts, each of two hexadecimal digits for each of at most 65535 bytes\n",
+    },
+];
+
+#[test]
+fn a_device_of_bad_parts(rt: HostRuntime) -> Result<(), AllocError> {
+    check_rows(&rt, rt.alloc(), FUNCTION, &PARTS)
+}

@@ -1,0 +1,54 @@
+//! Entries that no head begins, and entries too many.
+use super::{Row, check_rows};
+use std::alloc::AllocError;
+use usb_diagnosis::check_text;
+
+const INLINE: [Row; 2] = [
+    Row {
+        text: "limit = 1\nroots = 1\nevent = [{ do = \"show\" }, { do = \"shw\" }]\n",
+        told: "p.toml:3: plan: event 2: bad value\n  event 2, line 3: `do` is \"shw\"\n  allowed: \"plug\", \"unplug\", \"show\", \"send\", \"receive\" or \"clear\"\n  did you mean \"show\"?\n",
+    },
+    Row {
+        text: "limit = 1\nroots = 1\n\"event\" = [\n  { do = 'show', after = '''\n[[event]]\n''' },\n]\n",
+        told: "p.toml:3: plan: event 1: bad value\n  event 1, line 3: `after` is \"\"\"\\u000A[[event]]\\u000A\"\"\"\n  allowed: a number from 0 to 1000000000\n",
+    },
+];
+
+#[test]
+fn entries_in_one_array(rt: HostRuntime) -> Result<(), AllocError> {
+    check_rows(&rt, rt.alloc(), "", &INLINE)
+}
+
+/// Heads in comments and texts begin no entry, and a value may go over several lines.
+const LAYOUTS: [Row; 2] = [
+    Row {
+        text: "\u{FEFF}limit = 1 # [[event]]\r\nroots = 1\r\n[[event]]\r\ndo = 'show'\r\n\r\n[[event]] # [[event]]\r\n  \"after\" = 0\r\n\tdo = \"\"\"\\\n  sh[ow\"\"\" # x\r\n",
+        told: "p.toml:8: plan: event 2: bad value\n  event 2, line 6: `do` is \"sh[ow\"\n  allowed: \"plug\", \"unplug\", \"show\", \"send\", \"receive\" or \"clear\"\n  did you mean \"show\"?\n",
+    },
+    Row {
+        text: "limit = 1\nroots = 1\n[[damage]]\nattempt = 1\npacket = 1\nhow = '''\n[[damage]]\n'''\n[[damage]]\nattempt = 'x'\n",
+        told: "p.toml:6: plan: damage 1: bad value\n  damage 1, line 3: `how` is \"\"\"\\u000A[[damage]]\\u000A\"\"\"\n  allowed: \"lose\", \"pre\" or \"flip\"\n",
+    },
+];
+
+#[test]
+fn lines_of_entries_and_keys(rt: HostRuntime) -> Result<(), AllocError> {
+    check_rows(&rt, rt.alloc(), "", &LAYOUTS)
+}
+
+#[test]
+fn a_device_too_many(rt: HostRuntime) -> Result<(), AllocError> {
+    let alloc = rt.alloc();
+    let mut text = String::from_str(alloc, "limit = 1\nroots = 1\n")?;
+    for number in 0..128u32 {
+        let head = format!(in alloc; "[[device]]\nname = \"d{number}\"\n")?;
+        text.push_str(head.as_str())?;
+        text.push_str("speed = \"full\"\ndescriptor = \"\"\nconfigs = []\n")?;
+    }
+    let checked = check_text(alloc, "p.toml", text.as_bytes())?;
+    assert_eq!(rt;
+        checked.lines.as_str(),
+        "p.toml:638: plan: device 128: bad value\n  device 128 \"d127\", line 638: one too many\n  allowed: at most 127 devices\n"
+    );
+    Ok(())
+}

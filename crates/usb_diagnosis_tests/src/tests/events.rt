@@ -1,0 +1,109 @@
+//! Faults of events and damages.
+use super::{FUNCTION, Row, check_rows};
+use std::alloc::AllocError;
+
+/// An event that begins on line 8.
+const EVENTS: [Row; 15] = [
+    Row {
+        text: "[[event]]\npath = \"1\"\n",
+        told: "p.toml:8: plan: event 1: missing key\n  event 1, line 8: no key `do`\n  allowed: \"plug\", \"unplug\", \"show\", \"send\", \"receive\" or \"clear\"\n  such as: do = \"plug\"\n",
+    },
+    Row {
+        text: "[[event]]\ndo = \"plgu\"\n",
+        told: "p.toml:9: plan: event 1: bad value\n  event 1, line 8: `do` is \"plgu\"\n  allowed: \"plug\", \"unplug\", \"show\", \"send\", \"receive\" or \"clear\"\n  did you mean \"plug\"?\n",
+    },
+    Row {
+        text: "[[event]]\ndo = \"plug\"\ndevice = \"fn\"\n",
+        told: "p.toml:8: plan: event 1: missing key\n  event 1, line 8: no key `path`\n  allowed: the numbers of ports from a root port on, joined by dots\n  such as: path = \"1\"\n",
+    },
+    Row {
+        text: "[[event]]\ndo = \"plug\"\npath = \"1\"\n",
+        told: "p.toml:8: plan: event 1: missing key\n  event 1, line 8: no key `device`\n  allowed: the name of a device of the plan\n  such as: device = \"keyboard\"\n",
+    },
+    Row {
+        text: "[[event]]\ndo = \"plug\"\npath = \"1\"\ndevice = \"gn\"\n",
+        told: "p.toml:11: plan: event 1: unknown device\n  event 1, line 8: `device` is \"gn\"\n  allowed: the name of a device of the plan\n  did you mean \"fn\"?\n",
+    },
+    Row {
+        text: "[[event]]\ndo = \"plug\"\npath = \"1\"\ndevice = \"keyboard\"\n",
+        told: "p.toml:11: plan: event 1: unknown device\n  event 1, line 8: `device` is \"keyboard\"\n  allowed: the name of a device of the plan\n",
+    },
+    Row {
+        text: "[[event]]\ndo = \"plug\"\npath = \"2\"\ndevice = \"fn\"\n",
+        told: "p.toml:10: plan: event 1: bad path\n  event 1, line 8: `path` is \"2\"\n  allowed: the numbers of ports from a root port on, joined by dots\n",
+    },
+    Row {
+        text: "[[event]]\ndo = \"plug\"\npath = \"1\"\ndevice = \"fn\"\n[[event]]\ndo = \"plug\"\npath = \"1\"\ndevice = \"fn\"\n",
+        told: "p.toml:14: plan: event 2: port taken\n  event 2, line 12: `path` is \"1\"\n  allowed: a port where nothing is plugged\n",
+    },
+    Row {
+        text: "[[event]]\ndo = \"unplug\"\npath = \"1\"\n",
+        told: "p.toml:10: plan: event 1: port empty\n  event 1, line 8: `path` is \"1\"\n  allowed: a port where something is plugged\n",
+    },
+    Row {
+        text: "[[event]]\ndo = \"send\"\npath = \"1\"\nbyte = \"00\"\n",
+        told: "p.toml:8: plan: event 1: missing key\n  event 1, line 8: no key `bytes`\n  allowed: two hexadecimal digits for each byte\n  such as: bytes = \"0102\"\n  unknown key `byte`: did you mean `bytes`?\n",
+    },
+    Row {
+        text: "[[event]]\ndo = \"send\"\npath = \"1\"\nbytes = \"0\"\n",
+        told: "p.toml:11: plan: event 1: bad hex\n  event 1, line 8: `bytes` is \"0\"\n  allowed: two hexadecimal digits for each byte\n",
+    },
+    Row {
+        text: "[[event]]\ndo = \"receive\"\npath = \"1\"\npackets = 1001\n",
+        told: "p.toml:11: plan: event 1: bad value\n  event 1, line 8: `packets` is 1001\n  allowed: a number from 0 to 1000\n",
+    },
+    Row {
+        text: "[[event]]\ndo = \"show\"\nafter = 1.5\n",
+        told: "p.toml:10: plan: event 1: bad value\n  event 1, line 8: `after` is 1.5\n  allowed: a number from 0 to 1000000000\n",
+    },
+    Row {
+        text: "[[event]]\ndo = \"clear\"\npath = \"1\"\nbytes = \"00\"\n",
+        told: "p.toml:11: plan: event 1: bad value\n  event 1, line 8: unknown key `bytes`\n  allowed: `do`, `after`, `path`\n",
+    },
+    Row {
+        text: "[[event]]\ndo = \"plug\"\npath = 1\ndevice = \"fn\"\n",
+        told: "p.toml:10: plan: event 1: bad value\n  event 1, line 8: `path` is 1\n  allowed: the numbers of ports from a root port on, joined by dots\n",
+    },
+];
+
+#[test]
+fn a_fault_of_an_event(rt: HostRuntime) -> Result<(), AllocError> {
+    check_rows(&rt, rt.alloc(), FUNCTION, &EVENTS)
+}
+
+/// A damage that begins on line 8.
+const DAMAGES: [Row; 7] = [
+    Row {
+        text: "[[damage]]\npacket = 1\nhow = \"lose\"\n",
+        told: "p.toml:8: plan: damage 1: missing key\n  damage 1, line 8: no key `attempt`\n  allowed: a number above 0 and above that of the damage before it\n  such as: attempt = 1\n",
+    },
+    Row {
+        text: "[[damage]]\nattempt = 1\npacket = 1\nhow = \"flip\"\n",
+        told: "p.toml:8: plan: damage 1: missing key\n  damage 1, line 8: no key `bit`\n  allowed: a number from 0 to 535, beside how = \"flip\" alone\n  such as: bit = 0\n",
+    },
+    Row {
+        text: "[[damage]]\nattempt = 1\npacket = 4\nhow = \"lose\"\n",
+        told: "p.toml:10: plan: damage 1: bad value\n  damage 1, line 8: `packet` is 4\n  allowed: 1, 2 or 3\n",
+    },
+    Row {
+        text: "[[damage]]\nattempt = 1\npacket = 1\nhow = \"loose\"\n",
+        told: "p.toml:11: plan: damage 1: bad value\n  damage 1, line 8: `how` is \"loose\"\n  allowed: \"lose\", \"pre\" or \"flip\"\n  did you mean \"lose\"?\n",
+    },
+    Row {
+        text: "[[damage]]\nattempt = 1\npacket = 1\nhow = \"pre\"\nbit = 3\n",
+        told: "p.toml:12: plan: damage 1: bad value\n  damage 1, line 8: `bit` is 3\n  allowed: a number from 0 to 535, beside how = \"flip\" alone\n",
+    },
+    Row {
+        text: "[[damage]]\nattempt = 1\npacket = 1\nhow = \"flip\"\nbit = 536\n",
+        told: "p.toml:12: plan: damage 1: bad value\n  damage 1, line 8: `bit` is 536\n  allowed: a number from 0 to 535, beside how = \"flip\" alone\n",
+    },
+    Row {
+        text: "[[damage]]\nattempt = 9\npacket = 1\nhow = \"lose\"\n[[damage]]\nattempt = 9\npacket = 2\nhow = \"lose\"\n",
+        told: "p.toml:13: plan: damage 2: bad value\n  damage 2, line 12: `attempt` is 9\n  allowed: a number above 0 and above that of the damage before it\n",
+    },
+];
+
+#[test]
+fn a_fault_of_a_damage(rt: HostRuntime) -> Result<(), AllocError> {
+    check_rows(&rt, rt.alloc(), FUNCTION, &DAMAGES)
+}

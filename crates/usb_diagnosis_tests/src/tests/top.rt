@@ -1,0 +1,47 @@
+//! Faults at the top.
+use super::{Row, check_rows};
+use std::alloc::AllocError;
+
+const ROWS: [Row; 9] = [
+    Row {
+        text: "",
+        told: "p.toml: plan: top: missing key\n  top: no key `limit`\n  allowed: a number from 0 to 100000000000000\n  such as: limit = 10000\n",
+    },
+    Row {
+        text: "limit = 1\nroot = 1\n",
+        told: "p.toml: plan: top: missing key\n  top: no key `roots`\n  allowed: a number from 1 to 7\n  such as: roots = 1\n  unknown key `root`: did you mean `roots`?\n",
+    },
+    Row {
+        text: "limit = -1\nroots = 1\n",
+        told: "p.toml:1: plan: top: bad value\n  top: `limit` is -1\n  allowed: a number from 0 to 100000000000000\n",
+    },
+    Row {
+        text: "limit = 1\n\n# eight\nroots = 8\n",
+        told: "p.toml:4: plan: top: bad value\n  top: `roots` is 8\n  allowed: a number from 1 to 7\n",
+    },
+    Row {
+        text: "limit = 1\nroots = 1\ndevice = 3\n",
+        told: "p.toml:3: plan: top: bad value\n  top: `device` is 3\n  allowed: tables, each headed [[device]]\n",
+    },
+    Row {
+        text: "limit = 1\nroots = 1\n[event]\ndo = \"show\"\n",
+        told: "p.toml:3: plan: top: bad value\n  top: `event` is { do = \"show\" }\n  allowed: tables, each headed [[event]]\n",
+    },
+    Row {
+        text: "limit = 1\nroots = 1\n[[devices]]\nname = \"a\"\n",
+        told: "p.toml:3: plan: top: bad value\n  top: unknown key `devices`\n  allowed: `limit`, `roots`, `device`, `event`, `damage`\n  did you mean `device`?\n",
+    },
+    Row {
+        text: "limit = 1\nroots = 1\nspeed.all = \"full\"\n",
+        told: "p.toml:3: plan: top: bad value\n  top: unknown key `speed`\n  allowed: `limit`, `roots`, `device`, `event`, `damage`\n",
+    },
+    Row {
+        text: "limit = 1\nroots = 1\n\"a\\tb\" = 2\n",
+        told: "p.toml:3: plan: top: bad value\n  top: unknown key `a\\u0009b`\n  allowed: `limit`, `roots`, `device`, `event`, `damage`\n",
+    },
+];
+
+#[test]
+fn a_fault_at_the_top(rt: HostRuntime) -> Result<(), AllocError> {
+    check_rows(&rt, rt.alloc(), "", &ROWS)
+}
