@@ -1,18 +1,16 @@
 -- What was left to do pays for the handling of a port.
-use Rattle.std.proofs.Common.{◌≡◌, ◌≤◌, ◌⊎◌, ◌∙◌, inl, inr, refl, sym, ap, subst, arith, ℕ, ◌+◌, ◌*◌, true, false, List, [], ◌∷◌, ◌++◌, Option, None, Some, Result, Ok, Err}
-use Rattle.std.specs.Prelude.{IsErr, IsSome, IsSomeAnd, OnOk, IfErr, IfOk, is_some, length}
+use Rattle.std.proofs.Common.{◌≡◌, ◌≤◌, ◌⊎◌, ◌∙◌, inl, inr, refl, sym, ap, subst, arith, ℕ, ◌+◌, ◌*◌, false, List, [], ◌∷◌, ◌++◌, Option, None, Some, Result, Ok, Err}
+use Rattle.std.specs.Prelude.{IsSome, IsSomeAnd, OnOk, IfErr, IfOk, is_some, length}
 use Rattle.std.proofs.Math.Nat.{mul-le-mul_left}
 use Rattle.usb_port.specs.Order.{parent_of, port_on_hub}
 use Rattle.usb_port.specs.Path.{IsPath}
 use Rattle.usb_world.specs.Paths.{is_way}
 use Rattle.usb_world.specs.PlanCourses.{AtPorts}
 use Rattle.usb_world.specs.PlanData.{PlanData}
-use Rattle.usb_world.specs.World.{World}
 use Rattle.usb_world.proofs.Interface.{way_shorter}
 use Rattle.usb_backlog.specs.Marks.{KeepsAll, KeepsBy, unmarked}
 use Rattle.usb_backlog.specs.Units.{KeepsPlain, PaysBare, PaysLook}
 use Rattle.usb_backlog.proofs.Interface.{few-none}
-use Rattle.usb_enum.specs.Bounds.{read_bound}
 use Rattle.usb_enum.specs.Stop.{FaultAt}
 use Rattle.usb_enum.specs.declared.fault.EnumFault.{EnumFault}
 use Rattle.usb_enum.specs.declared.fault.EnumFault.TheVariants.{ParentLost, Bus, Memory}
@@ -23,15 +21,14 @@ use Rattle.usb_table.specs.KnownPorts.{is_below_hub, known_port, port_below}
 use Rattle.usb_table.specs.Listing.{finding_at, hub_facts_at, hub_facts_in}
 use Rattle.usb_table.proofs.Interface.{FoundPort, port_found-some}
 use Rattle.usb_enum.specs.declared.finding.Finding.{Finding}
-use Rattle.usb_host.specs.Backlog.{FindsNone, PaysAtServe, ServePaid, ServePays, hubs, found, bare, tidied, calm}
+use Rattle.usb_host.specs.Backlog.{FindsNone, ServePaid, hubs, found, bare, tidied, calm}
 use Rattle.usb_host.specs.Bounds.{deciding_bound, drop_bound, serving_bound}
-use Rattle.usb_host.specs.Budget.{NumberPaid, Pays, PaysPart, PortPaid, StopsWithin, Weights, WorksOn, handling_most, hub_weight, paid, idle}
+use Rattle.usb_host.specs.Budget.{NumberPaid, Pays, PaysPart, PortPaid, Weights, WorksOn, handling_most, hub_weight, paid, idle}
 use Rattle.usb_host.specs.Hosting.{Hosting}
-use Rattle.usb_host.specs.Ownership.{IsOwned}
-use Rattle.usb_host.specs.PortHandling.{DropsLost, PortSound, ServesSound}
-use Rattle.usb_host.specs.Ports.{Broke, EndsAs, StandsAt}
+use Rattle.usb_host.specs.PortHandling.{ServesSound}
+use Rattle.usb_host.specs.Ports.{EndsAs, StandsAt}
 use Rattle.usb_host.specs.Progress.{HostWent}
-use Rattle.usb_host.specs.Service.{EndsAt, FinishesAt, HasHub, ServedOrLost, ServesPort, StaysOrForgets}
+use Rattle.usb_host.specs.Service.{FinishesAt, HasHub, ServesPort, StaysOrForgets}
 use Rattle.usb_host.specs.declared.fault.HostFault.{HostFault}
 use Rattle.usb_host.specs.declared.host.Round.TheVariants.{Worked, Quiet}
 use Rattle.usb_host.proofs.Climbs.{parent_length}

@@ -1,14 +1,12 @@
 -- What was left to do pays for the polls of hubs.
-use Rattle.std.proofs.Common.{◌≡◌, ◌≤◌, ◌<◌, ◌⊎◌, ◌∙◌, inl, inr, refl, sym, ap, subst, arith, ℕ, zero, suc, ◌+◌, ◌*◌, Bool, true, false, cond, List, [], ◌∷◌, ◌++◌, Option, None, Some, is_some, length, take, ltb, Result, Ok, Err}
-use Rattle.std.specs.Prelude.{Any, IfOk, IfSome, IsErr, IsOk, IsSome}
+use Rattle.std.proofs.Common.{◌≡◌, ◌≤◌, ◌<◌, ◌⊎◌, ◌∙◌, inl, inr, refl, sym, ap, subst, arith, ℕ, zero, suc, ◌+◌, ◌*◌, Bool, true, false, cond, List, [], ◌∷◌, Option, None, Some, is_some, length, take, ltb, Result, Ok}
+use Rattle.std.specs.Prelude.{Any, IfSome, IsErr, IsOk, IsSome}
 use Rattle.std.specs.List.{count_by}
 use Rattle.std.proofs.lemmas.Bool.{le-ltb, lt-ltb, ltb-true}
 use Rattle.std.proofs.lemmas.List.Sums.{count_by-le-length, sum_by-cons}
-use Rattle.std.proofs.Math.Nat.{mul-le-mul_left}
 use Rattle.arrayvec.specs.ArrayVec.{ArrayVec}
 use Rattle.usb_port.specs.Path.{IsPath}
 use Rattle.usb_port.specs.Order.{rank_of}
-use Rattle.usb_device.specs.View.{state_there}
 use Rattle.usb_world.specs.declared.event.Action.{Action}
 use Rattle.usb_world.specs.declared.event.Action.TheVariants.{Plug, Unplug, Show, Send, Receive, Clear}
 use Rattle.usb_world.specs.declared.event.Event.{Event}
@@ -43,7 +41,7 @@ use Rattle.usb_host.specs.declared.host.Round.{Round}
 use Rattle.usb_host.specs.declared.host.Round.TheVariants.{Worked, Quiet}
 use Rattle.usb_host.proofs.HubServices.{hub_tells}
 use Rattle.usb_host.proofs.Parts.{hub_listed}
-use Rattle.usb_host.proofs.Payments.{costs_more, costs_none, costs_pays, costs_then, few_stop, on_err, pays_costs, pays_less, pays_none, pays_then, plain_costs, plain_pays, ports_after, ports_left, stops_after, stops_more, works_on}
+use Rattle.usb_host.proofs.Payments.{costs_more, costs_none, costs_pays, few_stop, on_err, pays_costs, plain_costs, plain_pays, ports_after, ports_left, stops_after, works_on}
 use Rattle.usb_host.proofs.Polls.{hub_there}
 use Rattle.usb_host.proofs.ToldBits.{poll_shows}
 use Rattle.usb_host.proofs.Plugs.{any_cases, any_none, plugged_there}

@@ -15,7 +15,7 @@ use Rattle.usb_backlog.specs.Marks.{looks_by, strays_by, unmarked}
 use Rattle.usb_enum.specs.TextLengths.{HasPlanWithin}
 use Rattle.usb_enum.proofs.Interface.{went_course}
 use Rattle.usb_host.specs.Backlog.{hubs}
-use Rattle.usb_host.specs.Budget.{Costs, Pays, PaysPart, StopsWithin, Weights, WorksOn, debt, event_weight, hub_weight, look_weight, stray_weight}
+use Rattle.usb_host.specs.Budget.{Costs, Pays, PaysPart, StopsWithin, Weights, WorksOn, event_weight, hub_weight, look_weight, stray_weight}
 use Rattle.usb_host.specs.Hosting.{Hosting}
 use Rattle.usb_host.specs.Progress.{HostWent}
 use Rattle.usb_host.specs.Soundness.{IsSound}

@@ -1,12 +1,12 @@
 -- What was left to do pays for a round.
-use Rattle.std.proofs.Common.{◌≡◌, ◌≤◌, ◌∙◌, refl, sym, ap, subst, arith, ℕ, ◌+◌, ◌*◌, Bool, List, None, Some, Result, Ok, Err}
+use Rattle.std.proofs.Common.{◌≡◌, refl, sym, subst, arith, ℕ, Bool, List, None, Some, Result, Ok, Err}
 use Rattle.std.specs.Prelude.{IfOk, IsErr, OnOk}
 use Rattle.usb_world.specs.PlanData.{PlanData}
 use Rattle.usb_enum.specs.declared.cause.Cause.TheVariants.{NoAddress}
 use Rattle.usb_enum.specs.declared.finding.Finding.TheVariants.{Refused}
 use Rattle.usb_enum.proofs.Interface.{went_sound}
 use Rattle.usb_table.specs.Listing.{finding_at}
-use Rattle.usb_host.specs.Budget.{Affords, Costs, PaysPart, PaysRound, RootsPaid, RoundPaid, Stops, StopsWithin, Weights, WorksOn, event_weight, handling_most, hubs_most}
+use Rattle.usb_host.specs.Budget.{Affords, Costs, PaysPart, PaysRound, RootsPaid, RoundPaid, Stops, StopsWithin, Weights, event_weight, handling_most, hubs_most}
 use Rattle.usb_host.specs.Hosting.{Hosting}
 use Rattle.usb_host.specs.Plugs.{HasPlugs}
 use Rattle.usb_host.specs.Ports.{Waits}
@@ -17,7 +17,7 @@ use Rattle.usb_host.specs.declared.host.Round.{Round}
 use Rattle.usb_host.specs.declared.host.Round.TheVariants.{Worked, Quiet}
 use Rattle.usb_host.proofs.RestingRounds.{done}
 use Rattle.usb_host.proofs.Roots.{on_failed}
-use Rattle.usb_host.proofs.Payments.{costs_more, costs_none, costs_pays, costs_then, few_stop, on_err, pays_costs, pays_less, pays_none, pays_then, stops_after, stops_more, works_on}
+use Rattle.usb_host.proofs.Payments.{costs_none, few_stop, on_err, pays_costs, pays_none, pays_then, stops_after, stops_more, works_on}
 
 pub affords_on : (n : ℕ) (c : Weights) (plan : PlanData) (a b : Hosting) → HostWent n a b → PartStays a b → Affords c plan a → b.world.fault ≡ None
     → Affords c plan b

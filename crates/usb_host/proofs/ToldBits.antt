@@ -1,6 +1,6 @@
 -- The ports of which a hub told are known, and show their changes.
 use Rattle.std.proofs.Common.{◌≡◌, ◌≢◌, ◌≤◌, ◌<◌, ◌⊎◌, ◌∙◌, ◌==◌, ◌/◌, ◌%◌, ◌^◌, ◌||◌, ◌&&◌, not, inl, inr, refl, sym, ap, subst, arith, if◌then◌else◌, ℕ, zero, suc, ◌+◌, ◌*◌, Bool, true, false, List, [], ◌∷◌, ◌++◌, length, length-append, take, Option, None, Some, is_some, Result, Ok, Err, is_ok, slice_get}
-use Rattle.std.specs.Prelude.{All, IsSome, IsSomeAnd, nat_le}
+use Rattle.std.specs.Prelude.{IsSome}
 use Rattle.std.proofs.lemmas.Bool.{cases_lt, eq-eqb, eqb-true, le-leb}
 use Rattle.std.proofs.lemmas.List.Elements.{All-append, All-cons, All-nil}
 use Rattle.std.proofs.lemmas.Option.{same_Some, slice_get_within}
@@ -12,15 +12,14 @@ use Rattle.usb_port.proofs.Interface.{parent, rejoined}
 use Rattle.usb_device.specs.Bulk.{change_bits, changed_bit}
 use Rattle.usb_device.specs.Rows.{State}
 use Rattle.usb_device.specs.Spec.{Spec}
-use Rattle.usb_device.specs.Tree.{Ports, Place, full, place, port_of, reach, row_of}
+use Rattle.usb_device.specs.Tree.{Ports, full, place, reach, row_of}
 use Rattle.usb_device.specs.View.{port_there, state_there}
 use Rattle.usb_world.specs.Paths.{is_way}
 use Rattle.usb_world.specs.PluggedDevices.{hub_ports}
 use Rattle.usb_world.specs.PortRequests.{row_reached}
-use Rattle.usb_world.specs.SanePorts.{HasItsPorts, IsSane}
+use Rattle.usb_world.specs.SanePorts.{IsSane}
 use Rattle.usb_world.specs.Steps.{ready}
-use Rattle.usb_world.specs.World.{World}
-use Rattle.usb_world.proofs.Interface.{or_right, ports_counted, stands, way_parent}
+use Rattle.usb_world.proofs.Interface.{ports_counted, stands, way_parent}
 use Rattle.usb_world.proofs.Ways.{reach_on_way}
 use Rattle.usb_hub.proofs.Interface.{port_of_place, sane_there, state_of_place}
 use Rattle.usb_descriptor.specs.Device.{device_head_of, configuration_count}
@@ -28,7 +27,6 @@ use Rattle.usb_enum.specs.declared.cause.Cause.{Cause}
 use Rattle.usb_enum.specs.declared.cause.Cause.TheVariants.{Silent, Busy, Stalled, BadDevice, TooDeep}
 use Rattle.usb_enum.specs.declared.cause.Request.TheVariants as request
 use Rattle.usb_enum.specs.Device.{is_device, is_hub_device}
-use Rattle.usb_enum.specs.PresentDevices.{IsOrderly}
 use Rattle.usb_enum.specs.Verdicts.{facts_of, first_fault, read_verdict, verdict}
 use Rattle.usb_enum.specs.declared.finding.Accepted.{Accepted}
 use Rattle.usb_enum.specs.declared.finding.Finding.{Finding}
@@ -39,7 +37,7 @@ use Rattle.usb_table.specs.Findings.{accepted_device_of}
 use Rattle.usb_table.specs.declared.known.KnownPort.{KnownPort}
 use Rattle.usb_table.specs.KnownPorts.{is_below_hub, known_port, port_below, port_found}
 use Rattle.usb_table.specs.Levels.{BitsOf}
-use Rattle.usb_table.specs.Listing.{finding_at, hub_facts_at, tier_of}
+use Rattle.usb_table.specs.Listing.{finding_at, tier_of}
 use Rattle.usb_table.proofs.Interface.{FoundPort, port_found-some}
 use Rattle.usb_host.specs.Agreement.{Agrees}
 use Rattle.usb_host.specs.Budget.{ShowsChange, ShowsTold}
@@ -48,7 +46,7 @@ use Rattle.usb_host.specs.Soundness.{IsSound, IsTruthOf, known_supply}
 use Rattle.usb_host.proofs.Backlogs.{full_of, place_of, steady_place}
 use Rattle.usb_host.proofs.CalmPorts.{course_taken, ready_none, ready_taken}
 use Rattle.usb_host.proofs.Climbs.{parent_length}
-use Rattle.usb_host.proofs.Polls.{HubThere, facts_ports, hub_there}
+use Rattle.usb_host.proofs.Polls.{HubThere, facts_ports}
 use Rattle.usb_host.proofs.SettledListings.{reached_there}
 use Rattle.usb_host.proofs.Services.{same_last}
 use Rattle.usb_host.proofs.Silences.{port_of_row}

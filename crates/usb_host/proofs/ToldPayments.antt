@@ -1,9 +1,7 @@
 -- What was left to do pays for the ports that had changed.
-use Rattle.std.proofs.Common.{◌≡◌, ◌≤◌, ◌<◌, ◌⊎◌, ◌∙◌, inl, inr, refl, sym, ap, subst, arith, ℕ, zero, suc, below_more, ◌+◌, ◌-◌, ◌*◌, true, false, List, [], ◌∷◌, ◌++◌, Option, None, Some, length, Result, Ok, Err}
-use Rattle.std.specs.Prelude.{IfOk, IsErr, slice_index_or}
-use Rattle.std.proofs.Math.Nat.{mul-le-mul_left}
+use Rattle.std.proofs.Common.{◌≡◌, ◌≤◌, ◌<◌, ◌⊎◌, ◌∙◌, inl, inr, refl, sym, ap, subst, arith, ℕ, zero, suc, below_more, ◌+◌, ◌-◌, ◌*◌, true, false, List, [], ◌∷◌, ◌++◌, Option, None, Some, Result, Ok}
+use Rattle.std.specs.Prelude.{IsErr, slice_index_or}
 use Rattle.std.proofs.lemmas.Option.{same_Some, slice_get-get_or}
-use Rattle.usb_port.specs.Path.{IsPath}
 use Rattle.usb_port.specs.PortState.{PortState, off}
 use Rattle.usb_port.specs.Status.{has_bit, seen}
 use Rattle.usb_port.specs.declared.status.PortStatus.{PortStatus}
@@ -16,11 +14,10 @@ use Rattle.usb_hub.specs.Moments.{PortTold}
 use Rattle.usb_hub.specs.Requests.{AllRest}
 use Rattle.usb_hub.proofs.Interface.{row_port}
 use Rattle.usb_enum.proofs.Interface.{went_sound}
-use Rattle.usb_table.specs.KnownPorts.{known_port}
 use Rattle.usb_host.specs.Budget.{Costs, NumberPaid, Pays, PaysPart, PortPaid, RootsPaid, ShowsChange, ShowsTold, StopsWithin, ToldPaid, Weights, WorksOn, debt, event_weight, handling_most, told_most, paid, idle}
 use Rattle.usb_host.specs.Hosting.{Hosting}
 use Rattle.usb_host.specs.Progress.{HostWent}
-use Rattle.usb_host.specs.Soundness.{IsSound, PartStays}
+use Rattle.usb_host.specs.Soundness.{PartStays}
 use Rattle.usb_host.specs.declared.fault.HostFault.{HostFault}
 use Rattle.usb_host.specs.declared.host.Round.{Round}
 use Rattle.usb_host.specs.declared.host.Round.TheVariants.{Worked, Quiet}
