@@ -1,10 +1,9 @@
 -- A plan of at most 127 plugs whose limit is its bound never comes to its limit.
-use Rattle.std.proofs.Common.{◌≡◌, ◌≢◌, ◌≤◌, ◌∙◌, ℕ, zero, suc, ◌+◌, refl, sym, subst, arith, inl, inr, List, length, Bool, false, Option, Result, Ok, Err}
+use Rattle.std.proofs.Common.{◌≡◌, ◌≢◌, ◌≤◌, ℕ, zero, suc, ◌+◌, refl, subst, arith, inl, inr, List, length, false, Option, Result, Err}
 use Rattle.std.proofs.Math.Nat.{le_trans}
-use Rattle.std.specs.Prelude.{◌⊎◌, IfErr}
+use Rattle.std.specs.Prelude.{IfErr}
 use Rattle.std.specs.List.{sum_by}
 use Rattle.usb_world.specs.PlanData.{PlanData}
-use Rattle.usb_world.specs.World.{World}
 use Rattle.usb_host.specs.Budget.{Weights, event_weight}
 use Rattle.usb_host.specs.Plugs.{plug_events}
 use Rattle.usb_host.specs.Hosting.{Hosting}

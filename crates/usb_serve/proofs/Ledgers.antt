@@ -1,6 +1,5 @@
 -- What was left to do and the events pay for the attempts of a run, as each round pays for its own.
-use Rattle.std.proofs.Common.{◌≡◌, ◌≢◌, ◌≤◌, ◌<◌, ◌∙◌, ℕ, zero, suc, ◌+◌, ◌*◌, refl, sym, ap, subst, arith, List, [], ◌∷◌, length, take, get_or, Bool, true, false, Option, None, Some, Result, Ok, Err}
-use Rattle.std.specs.Prelude.{All}
+use Rattle.std.proofs.Common.{◌≡◌, ◌≢◌, ◌≤◌, ◌∙◌, ℕ, ◌+◌, ◌*◌, refl, sym, ap, subst, arith, List, [], ◌∷◌, length, Option, None, Some, Result, Ok, Err}
 use Rattle.std.specs.List.{sum_by}
 use Rattle.std.proofs.lemmas.List.Sums.{sum_by-cons}
 use Rattle.usb_world.specs.declared.event.Action.{Action}
@@ -11,10 +10,10 @@ use Rattle.usb_world.specs.declared.event.Event.{Event}
 use Rattle.usb_world.specs.declared.types.BusFault.{BusFault}
 use Rattle.usb_world.specs.PlanData.{PlanData, IsPlan}
 use Rattle.usb_world.specs.PlanCourses.{AtPorts}
-use Rattle.usb_world.specs.Steps.{AnyStep, Course, after, due_of, event, event_taken, opening, root_call, took, took_first}
+use Rattle.usb_world.specs.Steps.{AnyStep, Course, after, due_of, event, event_taken, opening, took, took_first}
 use Rattle.usb_world.specs.World.{World, to_come}
 use Rattle.usb_world.proofs.Interface.{course_joined}
-use Rattle.usb_backlog.specs.Marks.{KeepsAll, KeepsBy, looks_by, strays_by, unmarked}
+use Rattle.usb_backlog.specs.Marks.{KeepsBy, looks_by, strays_by, unmarked}
 use Rattle.usb_backlog.proofs.Interface.{few-none, keeps-event}
 use Rattle.usb_bus.specs.Lines.{next_due}
 use Rattle.usb_bus.specs.Traces.{Traced, still, attempted, called}
@@ -32,7 +31,7 @@ use Rattle.usb_host.proofs.Interface.{plugs_opening, plugs_same}
 use Rattle.usb_plan.specs.Attempts.{moved, moved_in}
 use Rattle.usb_serve.specs.declared.runs.Item.{Item}
 use Rattle.usb_serve.specs.declared.runs.RunFault.{RunFault}
-use Rattle.usb_serve.specs.RunSegments.{Comes, EndsSettling, RoundTells}
+use Rattle.usb_serve.specs.RunSegments.{Comes, RoundTells}
 use Rattle.usb_serve.specs.ServedRuns.{Opens}
 use Rattle.usb_serve.specs.Transfers.{IsItemOf, StopsAt, TransferTells}
 use Rattle.usb_serve.proofs.EventsLeft.{moved_left, ports_left}

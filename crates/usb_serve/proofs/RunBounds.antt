@@ -1,5 +1,5 @@
 -- A number that bounds the attempts of each part of a run bounds those of the whole.
-use Rattle.std.proofs.Common.{◌≡◌, ◌≤◌, ℕ, refl, sym, ap, subst, List, Bool, true, false, Option, None, Some, Result, Ok, Err}
+use Rattle.std.proofs.Common.{◌≡◌, ◌≤◌, ℕ, refl, sym, subst, List, Bool, false, Option, None, Some, Result, Ok, Err}
 use Rattle.usb_world.specs.declared.event.Due.{Due}
 use Rattle.usb_world.specs.declared.event.Due.TheVariants.{Changed}
 use Rattle.usb_world.specs.declared.types.BusFault.{BusFault}

@@ -1,13 +1,12 @@
 -- A plan without events: no attempt is made, where rounds do nothing as long as there is nothing to do.
-use Rattle.std.proofs.Common.{◌≡◌, ◌≤◌, ℕ, ◌+◌, refl, sym, ap, subst, arith, List, [], Option, None, Some, Result, Ok, Err}
+use Rattle.std.proofs.Common.{◌≡◌, ◌≤◌, ℕ, refl, sym, subst, arith, List, [], Option, Some, Result, Ok, Err}
 use Rattle.std.specs.Prelude.{length}
 use Rattle.usb_world.specs.declared.event.Due.{Due}
 use Rattle.usb_world.specs.PlanData.{PlanData}
-use Rattle.usb_world.specs.Steps.{opening}
-use Rattle.usb_world.specs.World.{World, changes, root_row, to_come}
+use Rattle.usb_world.specs.World.{changes, root_row, to_come}
 use Rattle.usb_host.specs.declared.fault.HostFault.{HostFault}
 use Rattle.usb_host.specs.declared.host.Round.{Round}
-use Rattle.usb_host.specs.Hosting.{Hosting, opening_host as host_opening}
+use Rattle.usb_host.specs.Hosting.{Hosting}
 use Rattle.usb_serve.specs.RunSegments.{Comes, RoundTells}
 use Rattle.usb_serve.specs.ServedRuns.{Opens}
 use Rattle.usb_serve.proofs.PlanWeights.{changes-opening}
