@@ -25,11 +25,11 @@ abbrev pub plain_app : App
 plain_app = let app = new_app (codes "usbplan") in record app { top = record app.top { no_binary_name = true; has_version = true } }
 
 -- the program with its first three commands
-abbrev pub half_app : App
-half_app = with_subcommand (with_subcommand (with_subcommand plain_app (text_app (codes "packet")).top) (text_app (codes "check")).top) (text_app (codes "tree")).top
+abbrev pub first_app : App
+first_app = with_subcommand (with_subcommand (with_subcommand plain_app (text_app (codes "packet")).top) (text_app (codes "check")).top) (text_app (codes "tree")).top
 
 abbrev pub program_app : App
-program_app = with_subcommand (with_subcommand (with_subcommand half_app draw_app.top) (text_app (codes "run")).top) (text_app (codes "pcap")).top
+program_app = with_subcommand (with_subcommand (with_subcommand first_app draw_app.top) (text_app (codes "run")).top) (text_app (codes "pcap")).top
 
 -- clap reads this subcommand from the words, with this text
 pub record HasSubcommand (words : List Text) (name text : List ℕ) : Type 0 where

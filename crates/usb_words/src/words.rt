@@ -2,7 +2,7 @@
 ghost use Rattle.std.specs.Prelude.{◌≡◌, IfOk, map, true, false};
 ghost use Rattle.clap.specs.Simple.{app_of, subcommand_of, subcommand_rows_of, with_subcommand};
 ghost use Rattle.clap.specs.Walk.{rule_of};
-ghost use Rattle.usb_words.specs.CommandLine.{ReadsWords, draw_app, plain_app, program_app, text_app, text_rule};
+ghost use Rattle.usb_words.specs.CommandLine.{ReadsWords, draw_app, first_app, plain_app, program_app, text_app, text_rule};
 
 use clap::error::ErrorKind;
 use clap::{Arg, ArgAction, ArgMatches, Command, Error};
@@ -105,43 +105,51 @@ fn matches_of<'a>(alloc: Global, words: &'a [&'a str]) -> Result<ArgMatches<'a>,
 fn program<'a>(alloc: Global) -> Result<Command<'a>, AllocError>
     ensures { IfOk result (λ c. app_of c ≡ program_app) }
 {
-    let packet = command(
-        alloc,
-        "packet",
-        "Prints the packet that bytes spell, and the bytes",
-        text(alloc, "HEX", "The bytes, in hexadecimal digits"),
-    )?;
-    let check = command(
-        alloc,
-        "check",
-        "Tells what a plan holds, or what is wrong with it and where",
-        plan_file(alloc),
-    )?;
-    let tree = command(
-        alloc,
-        "tree",
-        "Runs a plan, and prints the devices that the host found",
-        plan_file(alloc),
-    )?;
+    let first = first_commands(alloc)?;
     let draw = draw_command(alloc)?;
-    let run = command(
+    let with_draw = with_command(first, draw)?;
+    let with_run = with_text_command(
         alloc,
+        with_draw,
         "run",
         "Runs a plan, and prints each plug, each attempt and the devices that the host found",
         plan_file(alloc),
     )?;
-    let pcap = command(
+    with_text_command(
         alloc,
+        with_run,
         "pcap",
         "Writes the packets of a run as a pcap file, for Wireshark",
         text(alloc, "FILE", "What `run` wrote; `-` is standard input"),
+    )
+}
+
+/// The program with its first three commands.
+fn first_commands<'a>(alloc: Global) -> Result<Command<'a>, AllocError>
+    ensures { IfOk result (λ c. app_of c ≡ first_app) }
+{
+    let plain = plain_program(alloc)?;
+    let with_packet = with_text_command(
+        alloc,
+        plain,
+        "packet",
+        "Prints the packet that bytes spell, and the bytes",
+        text(alloc, "HEX", "The bytes, in hexadecimal digits"),
     )?;
-    let with_packet = with_command(plain_program(alloc)?, packet)?;
-    let with_check = with_command(with_packet, check)?;
-    let with_tree = with_command(with_check, tree)?;
-    let with_draw = with_command(with_tree, draw)?;
-    let with_run = with_command(with_draw, run)?;
-    with_command(with_run, pcap)
+    let with_check = with_text_command(
+        alloc,
+        with_packet,
+        "check",
+        "Tells what a plan holds, or what is wrong with it and where",
+        plan_file(alloc),
+    )?;
+    with_text_command(
+        alloc,
+        with_check,
+        "tree",
+        "Runs a plan, and prints the devices that the host found",
+        plan_file(alloc),
+    )
 }
 
 /// The program before its commands.
@@ -171,6 +179,23 @@ fn with_command<'a>(program: Command<'a>, command: Command<'a>) -> Result<Comman
 {
     let whole = program.subcommand(command)?;
     Ok(whole)
+}
+
+/// The program with one more command, that wants one text.
+fn with_text_command<'a>(
+    alloc: Global,
+    program: Command<'a>,
+    name: &'a str,
+    purpose: &'a str,
+    text: Arg<'a>,
+) -> Result<Command<'a>, AllocError>
+    requires local { text.global ≡ false }
+    requires rule { rule_of text ≡ text_rule }
+    ensures { IfOk result (λ c. app_of c
+        ≡ with_subcommand (app_of program.entry) (text_app name.entry.now).top) }
+{
+    let command = command(alloc, name, purpose, text)?;
+    with_command(program, command)
 }
 
 /// A command that wants one text.
