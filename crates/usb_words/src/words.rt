@@ -2,7 +2,7 @@
 ghost use Rattle.std.specs.Prelude.{◌≡◌, IfOk, map, true, false};
 ghost use Rattle.clap.specs.Simple.{app_of, subcommand_of, subcommand_rows_of, with_subcommand};
 ghost use Rattle.clap.specs.Walk.{rule_of};
-ghost use Rattle.usb_words.specs.CommandLine.{ReadsWords, plain_app, program_app, text_app, text_rule};
+ghost use Rattle.usb_words.specs.CommandLine.{ReadsWords, draw_app, first_app, plain_app, program_app, text_app, text_rule};
 
 use clap::error::ErrorKind;
 use clap::{Arg, ArgAction, ArgMatches, Command, Error};
@@ -18,8 +18,12 @@ pub enum Words<'a> {
     Stdin,
     /// A packet, by its digits.
     Packet(&'a str),
+    /// What a plan holds, or what is wrong with it, by the plan's file.
+    Check(&'a str),
     /// The tree that a plan's run ends in, by the plan's file.
     Tree(&'a str),
+    /// The same as a drawing: whether it is of ASCII alone, and the plan's file.
+    Draw(bool, &'a str),
     /// A plan's run, by the plan's file.
     Run(&'a str),
     /// The packets of a run, by the file of its text.
@@ -37,7 +41,8 @@ pub enum WordFault {
     Memory,
 }
 
-/// Reads the words after the program's name: `packet HEX`, `tree FILE`, `run FILE`, `pcap FILE` or none.
+/// Reads the words after the program's name: `packet HEX`, `check FILE`, `tree FILE`, `draw [--ascii] FILE`, `run FILE`,
+/// `pcap FILE` or none.
 ///
 /// # Errors
 /// Refused where `clap` reads no such command, or is asked for the help or the version.
@@ -55,8 +60,16 @@ pub fn read_words<'a>(alloc: Global, words: &'a [&'a str]) -> Result<Words<'a>, 
             Some(text) => Ok(Words::Packet(text)),
             None => Err(no_command(alloc)),
         },
+        Some(("check", found)) => match found.get_str("text") {
+            Some(text) => Ok(Words::Check(text)),
+            None => Err(no_command(alloc)),
+        },
         Some(("tree", found)) => match found.get_str("text") {
             Some(text) => Ok(Words::Tree(text)),
+            None => Err(no_command(alloc)),
+        },
+        Some(("draw", found)) => match found.get_str("text") {
+            Some(text) => Ok(Words::Draw(found.get_flag("ascii"), text)),
             None => Err(no_command(alloc)),
         },
         Some(("run", found)) => match found.get_str("text") {
@@ -92,34 +105,51 @@ fn matches_of<'a>(alloc: Global, words: &'a [&'a str]) -> Result<ArgMatches<'a>,
 fn program<'a>(alloc: Global) -> Result<Command<'a>, AllocError>
     ensures { IfOk result (λ c. app_of c ≡ program_app) }
 {
-    let packet = command(
+    let first = first_commands(alloc)?;
+    let draw = draw_command(alloc)?;
+    let with_draw = with_command(first, draw)?;
+    let with_run = with_text_command(
         alloc,
-        "packet",
-        "Prints the packet that bytes spell, and the bytes",
-        text(alloc, "HEX", "The bytes, in hexadecimal digits"),
-    )?;
-    let tree = command(
-        alloc,
-        "tree",
-        "Runs a plan, and prints the devices that the host found",
-        plan_file(alloc),
-    )?;
-    let run = command(
-        alloc,
+        with_draw,
         "run",
         "Runs a plan, and prints each plug, each attempt and the devices that the host found",
         plan_file(alloc),
     )?;
-    let pcap = command(
+    with_text_command(
         alloc,
+        with_run,
         "pcap",
         "Writes the packets of a run as a pcap file, for Wireshark",
         text(alloc, "FILE", "What `run` wrote; `-` is standard input"),
+    )
+}
+
+/// The program with its first three commands.
+fn first_commands<'a>(alloc: Global) -> Result<Command<'a>, AllocError>
+    ensures { IfOk result (λ c. app_of c ≡ first_app) }
+{
+    let plain = plain_program(alloc)?;
+    let with_packet = with_text_command(
+        alloc,
+        plain,
+        "packet",
+        "Prints the packet that bytes spell, and the bytes",
+        text(alloc, "HEX", "The bytes, in hexadecimal digits"),
     )?;
-    let with_packet = with_command(plain_program(alloc)?, packet)?;
-    let with_tree = with_command(with_packet, tree)?;
-    let with_run = with_command(with_tree, run)?;
-    with_command(with_run, pcap)
+    let with_check = with_text_command(
+        alloc,
+        with_packet,
+        "check",
+        "Tells what a plan holds, or what is wrong with it and where",
+        plan_file(alloc),
+    )?;
+    with_text_command(
+        alloc,
+        with_check,
+        "tree",
+        "Runs a plan, and prints the devices that the host found",
+        plan_file(alloc),
+    )
 }
 
 /// The program before its commands.
@@ -134,6 +164,8 @@ fn plain_program<'a>(alloc: Global) -> Result<Command<'a>, AllocError>
             .about("Runs a USB host on a simulated bus, as a plan says, or prints one packet")
             .after_help(
                 "With no command it does what `packet` does, with the digits on standard input.\n\n\
+                 What is wrong with a plan: usbplan check plan.toml\n\
+                 Devices as trees, in plain letters: usbplan draw --ascii plan.toml\n\
                  Packets for Wireshark: usbplan run plan.toml | usbplan pcap - > plan.pcap",
             ),
     )
@@ -147,6 +179,23 @@ fn with_command<'a>(program: Command<'a>, command: Command<'a>) -> Result<Comman
 {
     let whole = program.subcommand(command)?;
     Ok(whole)
+}
+
+/// The program with one more command, that wants one text.
+fn with_text_command<'a>(
+    alloc: Global,
+    program: Command<'a>,
+    name: &'a str,
+    purpose: &'a str,
+    text: Arg<'a>,
+) -> Result<Command<'a>, AllocError>
+    requires local { text.global ≡ false }
+    requires rule { rule_of text ≡ text_rule }
+    ensures { IfOk result (λ c. app_of c
+        ≡ with_subcommand (app_of program.entry) (text_app name.entry.now).top) }
+{
+    let command = command(alloc, name, purpose, text)?;
+    with_command(program, command)
 }
 
 /// A command that wants one text.
@@ -163,7 +212,24 @@ fn command<'a>(
     Command::new(alloc, name).about(purpose).arg(text)
 }
 
-/// The file of a command that runs a plan.
+/// The command that draws, with its flag.
+fn draw_command<'a>(alloc: Global) -> Result<Command<'a>, AllocError>
+    ensures { IfOk result (λ c. app_of c ≡ draw_app) }
+{
+    let plain = command(
+        alloc,
+        "draw",
+        "Runs a plan, and draws the devices that the host found as trees",
+        plan_file(alloc),
+    )?;
+    let ascii = Arg::new(alloc, "ascii")
+        .long("ascii")
+        .action(ArgAction::SetTrue)
+        .help("Draws in plain letters, of ASCII alone, in place of lines");
+    plain.arg(ascii)
+}
+
+/// The file of a command that reads a plan.
 fn plan_file<'a>(alloc: Global) -> Arg<'a>
     ensures local { result.global ≡ false }
     ensures rule { rule_of result ≡ text_rule }

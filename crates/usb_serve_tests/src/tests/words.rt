@@ -10,7 +10,9 @@ Usage: usbplan [COMMAND]
 
 Commands:
   packet  Prints the packet that bytes spell, and the bytes
+  check   Tells what a plan holds, or what is wrong with it and where
   tree    Runs a plan, and prints the devices that the host found
+  draw    Runs a plan, and draws the devices that the host found as trees
   run     Runs a plan, and prints each plug, each attempt and the devices that the host found
   pcap    Writes the packets of a run as a pcap file, for Wireshark
   help    Print this message or the help of the given subcommand(s)
@@ -21,6 +23,8 @@ Options:
 
 With no command it does what `packet` does, with the digits on standard input.
 
+What is wrong with a plan: usbplan check plan.toml
+Devices as trees, in plain letters: usbplan draw --ascii plan.toml
 Packets for Wireshark: usbplan run plan.toml | usbplan pcap - > plan.pcap
 ";
 
@@ -46,6 +50,19 @@ Arguments:
 
 Options:
   -h, --help  Print help
+";
+
+const DRAW_HELP: &str = "\
+Runs a plan, and draws the devices that the host found as trees
+
+Usage: usbplan draw [OPTIONS] <FILE>
+
+Arguments:
+  <FILE>  The plan's file; `-` is standard input
+
+Options:
+      --ascii  Draws in plain letters, of ASCII alone, in place of lines
+  -h, --help   Print help
 ";
 
 const NO_SUCH_COMMAND: &str = "\
@@ -76,16 +93,23 @@ For more information, try '--help'.
 ";
 
 /// Words, and what they ask for, or the text that is shown in its place.
-const WORDS: [(&[&str], &str); 11] = [
+const WORDS: [(&[&str], &str); 18] = [
     (&["packet", "2D0010"], "Packet(\"2D0010\")"),
     (&[], "Stdin"),
     (&["tree", "plan.toml"], "Tree(\"plan.toml\")"),
     (&["run", "-"], "Run(\"-\")"),
+    (&["pcap", "-"], "Pcap(\"-\")"),
+    (&["check", "plan.toml"], "Check(\"plan.toml\")"),
+    (&["draw", "plan.toml"], "Draw(false, \"plan.toml\")"),
+    (&["draw", "--ascii", "-"], "Draw(true, \"-\")"),
+    (&["draw", "-", "--ascii"], "Draw(true, \"-\")"),
+    (&["draw", "--", "--ascii"], "Draw(false, \"--ascii\")"),
     (&["list", "plan.toml"], NO_SUCH_COMMAND),
     (&["tree", "--all"], NO_SUCH_OPTION),
     (&["run"], NO_FILE),
     (&["packet", "--help"], PACKET_HELP),
     (&["tree", "--help"], TREE_HELP),
+    (&["draw", "--help"], DRAW_HELP),
     (&["--help"], HELP),
     (&["--version"], "usbplan 0.1.0\n"),
 ];

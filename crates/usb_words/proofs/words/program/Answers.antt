@@ -1,11 +1,11 @@
-use Rattle.std.proofs.Common.{◌≡◌, ◌∙◌, ap₂, subst, IfOk}
+use Rattle.std.proofs.Common.{◌≡◌, ◌∙◌, ap, ap₂, codes, subst, IfOk}
 use Rattle.clap.specs.Simple.{app_of, with_subcommand}
+use Rattle.usb_words.specs.CommandLine.{text_app}
 use Rattle.usb_words.proofs.words.program.Goals as goal
 
 pub returns : goal.returns
 returns c =
-    let first = c.in_ok-with_packet.ensures ∙ ap₂ (λ p q. with_subcommand p q.top) c.in_ok-plain_program.ensures c.in_ok-packet.ensures in
-    let second = c.in_ok-with_tree.ensures ∙ ap₂ (λ p q. with_subcommand p q.top) first c.in_ok-tree.ensures in
-    let third = c.in_ok-with_run.ensures ∙ ap₂ (λ p q. with_subcommand p q.top) second c.in_ok-run.ensures in
-    subst (λ a. IfOk c.with_command-4.result (λ whole. app_of whole ≡ a))
-    (ap₂ (λ p q. with_subcommand p q.top) third c.in_ok-pcap.ensures) c.with_command-4.ensures
+    let fourth = c.in_ok-with_draw.ensures ∙ ap₂ (λ p q. with_subcommand p q.top) c.in_ok-first.ensures c.in_ok-draw.ensures in
+    let fifth = c.in_ok-with_run.ensures ∙ ap (λ p. with_subcommand p (text_app (codes "run")).top) fourth in
+    subst (λ p. IfOk c.with_text_command-2.result (λ whole. app_of whole ≡ with_subcommand p (text_app (codes "pcap")).top))
+    fifth c.with_text_command-2.ensures
