@@ -24,12 +24,16 @@ draw_app = with_rule (text_app (codes "draw")) ascii_rule
 abbrev pub plain_app : App
 plain_app = let app = new_app (codes "usbplan") in record app { top = record app.top { no_binary_name = true; has_version = true } }
 
+-- one more command that wants one text
+abbrev pub with_text : App → List ℕ → App
+with_text app name = with_subcommand app (text_app name).top
+
 -- the program with its first three commands
 abbrev pub first_app : App
-first_app = with_subcommand (with_subcommand (with_subcommand plain_app (text_app (codes "packet")).top) (text_app (codes "check")).top) (text_app (codes "tree")).top
+first_app = with_text (with_text (with_text plain_app (codes "packet")) (codes "check")) (codes "tree")
 
 abbrev pub program_app : App
-program_app = with_subcommand (with_subcommand (with_subcommand first_app draw_app.top) (text_app (codes "run")).top) (text_app (codes "pcap")).top
+program_app = with_text (with_text (with_subcommand first_app draw_app.top) (codes "run")) (codes "pcap")
 
 -- clap reads this subcommand from the words, with this text
 pub record HasSubcommand (words : List Text) (name text : List ℕ) : Type 0 where

@@ -2,7 +2,7 @@
 ghost use Rattle.std.specs.Prelude.{◌≡◌, IfOk, map, true, false};
 ghost use Rattle.clap.specs.Simple.{app_of, subcommand_of, subcommand_rows_of, with_subcommand};
 ghost use Rattle.clap.specs.Walk.{rule_of};
-ghost use Rattle.usb_words.specs.CommandLine.{ReadsWords, draw_app, first_app, plain_app, program_app, text_app, text_rule};
+ghost use Rattle.usb_words.specs.CommandLine.{ReadsWords, draw_app, first_app, plain_app, program_app, text_app, text_rule, with_text};
 
 use clap::error::ErrorKind;
 use clap::{Arg, ArgAction, ArgMatches, Command, Error};
@@ -41,8 +41,8 @@ pub enum WordFault {
     Memory,
 }
 
-/// Reads the words after the program's name: `packet HEX`, `check FILE`, `tree FILE`, `draw [--ascii] FILE`, `run FILE`,
-/// `pcap FILE` or none.
+/// Reads the words after the program's name: `packet HEX`, `check FILE`, `tree FILE`, `draw [--ascii] FILE`,
+/// `run FILE`, `pcap FILE` or none.
 ///
 /// # Errors
 /// Refused where `clap` reads no such command, or is asked for the help or the version.
@@ -191,8 +191,7 @@ fn with_text_command<'a>(
 ) -> Result<Command<'a>, AllocError>
     requires local { text.global ≡ false }
     requires rule { rule_of text ≡ text_rule }
-    ensures { IfOk result (λ c. app_of c
-        ≡ with_subcommand (app_of program.entry) (text_app name.entry.now).top) }
+    ensures { IfOk result (λ c. app_of c ≡ with_text (app_of program.entry) name.entry.now) }
 {
     let command = command(alloc, name, purpose, text)?;
     with_command(program, command)

@@ -1,11 +1,11 @@
 use Rattle.std.proofs.Common.{◌≡◌, ◌∙◌, ap, ap₂, codes, subst, IfOk}
 use Rattle.clap.specs.Simple.{app_of, with_subcommand}
-use Rattle.usb_words.specs.CommandLine.{text_app}
+use Rattle.usb_words.specs.CommandLine.{with_text}
 use Rattle.usb_words.proofs.words.program.Goals as goal
 
 pub returns : goal.returns
 returns c =
     let fourth = c.in_ok-with_draw.ensures ∙ ap₂ (λ p q. with_subcommand p q.top) c.in_ok-first.ensures c.in_ok-draw.ensures in
-    let fifth = c.in_ok-with_run.ensures ∙ ap (λ p. with_subcommand p (text_app (codes "run")).top) fourth in
-    subst (λ p. IfOk c.with_text_command-2.result (λ whole. app_of whole ≡ with_subcommand p (text_app (codes "pcap")).top))
+    let fifth = c.in_ok-with_run.ensures ∙ ap (λ p. with_text p (codes "run")) fourth in
+    subst (λ p. IfOk c.with_text_command-2.result (λ whole. app_of whole ≡ with_text p (codes "pcap")))
     fifth c.with_text_command-2.ensures
