@@ -47,12 +47,12 @@ pub record TellsFault (file text : List ℕ) (fault : PlanFault) (lines : List �
   pub begins : BeginsAt file text fault lines
 
 -- what a text is told to be
-abbrev pub Tells : List ℕ → List ℕ → Verdict → List ℕ → Type 0
-Tells file text Plan lines = TellsPlan text lines
-Tells file text (Refused fault) lines = TellsFault file text fault lines
+abbrev pub TellsVerdict : List ℕ → List ℕ → Verdict → List ℕ → Type 0
+TellsVerdict file text Plan lines = TellsPlan text lines
+TellsVerdict file text (Refused fault) lines = TellsFault file text fault lines
 
 -- what is told of the text is written, a front of it where the writer failed, and nothing where memory was refused
-abbrev pub Writes : List ℕ → List ℕ → Option (List ℕ) → Result Verdict CheckFault → Option (List ℕ) → Type 0
-Writes file text before (Ok verdict) now = (lines : List ℕ) × Tells file text verdict lines × Appends before now lines
-Writes file text before (Err Write) now = (verdict : Verdict) × (lines : List ℕ) × Tells file text verdict lines × AppendsFront before now lines
-Writes file text before (Err Memory) now = now ≡ before
+abbrev pub WritesVerdict : List ℕ → List ℕ → Option (List ℕ) → Result Verdict CheckFault → Option (List ℕ) → Type 0
+WritesVerdict file text before (Ok verdict) now = (lines : List ℕ) × TellsVerdict file text verdict lines × Appends before now lines
+WritesVerdict file text before (Err Write) now = (verdict : Verdict) × (lines : List ℕ) × TellsVerdict file text verdict lines × AppendsFront before now lines
+WritesVerdict file text before (Err Memory) now = now ≡ before

@@ -25,13 +25,13 @@ keys_with None = codes "do" ∷ []
 keys_with (Some verb) = verb_keys verb
 
 -- the text that a value is
-abbrev pub text_of : Option Data → Option (List ℕ)
-text_of None = None
-text_of (Some d) = as_str d
+abbrev pub value_text : Option Data → Option (List ℕ)
+value_text None = None
+value_text (Some d) = as_str d
 
 -- the keys of an entry with these members
 abbrev pub entry_keys : Place → Members → List (List ℕ)
 entry_keys Top ms = top_keys
 entry_keys (Device n) ms = device_keys
-entry_keys (Event n) ms = keys_with (text_of (get_member (codes "do") ms))
+entry_keys (Event n) ms = keys_with (value_text (get_member (codes "do") ms))
 entry_keys (Damage n) ms = damage_keys

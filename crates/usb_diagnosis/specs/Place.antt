@@ -44,10 +44,10 @@ spot_on None = spot.Unknown
 spot_on (Some line) = spot.Line line
 
 -- a colon and a number
-abbrev pub numbered : ℕ → List ℕ
-numbered n = codes ":" ++ decimal n
+abbrev pub colon_number : ℕ → List ℕ
+colon_number n = codes ":" ++ decimal n
 
 abbrev pub spot_text : Spot → List ℕ
 spot_text spot.Unknown = []
-spot_text (spot.Line line) = numbered line
-spot_text (spot.Column line column) = numbered line ++ numbered column
+spot_text (spot.Line line) = colon_number line
+spot_text (spot.Column line column) = colon_number line ++ colon_number column

@@ -34,16 +34,16 @@ place_of plan.Syntax = None
 place_of plan.Memory = None
 
 -- what is wrong there
-abbrev pub fault_word : PlanFault → List ℕ
-fault_word plan.Syntax = codes "syntax"
-fault_word (plan.MissingKey place) = codes "missing key"
-fault_word (plan.BadValue place) = codes "bad value"
-fault_word (plan.BadHex place) = codes "bad hex"
-fault_word (plan.UnknownDevice place) = codes "unknown device"
-fault_word (plan.BadPath place) = codes "bad path"
-fault_word (plan.PortTaken place) = codes "port taken"
-fault_word (plan.PortEmpty place) = codes "port empty"
-fault_word plan.Memory = codes "out of memory"
+abbrev pub fault_name : PlanFault → List ℕ
+fault_name plan.Syntax = codes "syntax"
+fault_name (plan.MissingKey place) = codes "missing key"
+fault_name (plan.BadValue place) = codes "bad value"
+fault_name (plan.BadHex place) = codes "bad hex"
+fault_name (plan.UnknownDevice place) = codes "unknown device"
+fault_name (plan.BadPath place) = codes "bad path"
+fault_name (plan.PortTaken place) = codes "port taken"
+fault_name (plan.PortEmpty place) = codes "port empty"
+fault_name plan.Memory = codes "out of memory"
 
 -- an entry with its colon
 abbrev pub place_words : Option Place → List ℕ
@@ -52,7 +52,7 @@ place_words (Some place) = place_text place ++ codes ": "
 
 -- plan: PLACE: FAULT
 unfoldable pub fault_text : PlanFault → List ℕ
-fault_text fault = codes "plan: " ++ place_words (place_of fault) ++ fault_word fault
+fault_text fault = codes "plan: " ++ place_words (place_of fault) ++ fault_name fault
 
 -- FILE:LINE:COLUMN: plan: PLACE: FAULT
 unfoldable pub first_line : List ℕ → Spot → PlanFault → List ℕ

@@ -12,5 +12,5 @@ abbrev pub dots : List ℕ → List ℕ
 dots cs = if nat_lt 60 (length cs) then codes "..." else []
 
 -- the first 60 characters, and those dots
-abbrev pub shown : List ℕ → List ℕ
-shown cs = flat_map char_shown (take 60 cs) ++ dots cs
+abbrev pub text_shown : List ℕ → List ℕ
+text_shown cs = flat_map char_shown (take 60 cs) ++ dots cs

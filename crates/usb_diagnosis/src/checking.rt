@@ -4,7 +4,7 @@ ghost use Rattle.std.specs.Prelude.{◌≡◌, ◌≢◌, ◌≤◌, Err, IfOk, 
 ghost use Rattle.std.specs.Str.{valid_up_to};
 ghost use Rattle.usb_bus.specs.Watch.{inner_of, has_failed};
 ghost use Rattle.usb_plan.specs.declared.fault.PlanFault.TheVariants as plan;
-ghost use Rattle.usb_diagnosis.specs.Checking.{BeginsAt, BeginsWith, IsLed, Tells, Writes};
+ghost use Rattle.usb_diagnosis.specs.Checking.{BeginsAt, BeginsWith, IsLed, TellsVerdict, WritesVerdict};
 ghost use Rattle.usb_diagnosis.specs.Place.{spot_behind};
 ghost use Rattle.usb_diagnosis.specs.Report.{first_line};
 
@@ -173,7 +173,7 @@ fn no_text_lines(
 fn checked_text(alloc: Global, file: &str, text: &str) -> Result<Checked, AllocError>
     requires { IsUtf8 text.now }
     ensures { IfOk result (λ checked.
-        Tells file.now text.now checked.verdict (string_bytes checked.lines)) }
+        TellsVerdict file.now text.now checked.verdict (string_bytes checked.lines)) }
 {
     match read_plan(alloc, text) {
         Ok(plan) => Ok(Checked {
@@ -196,7 +196,7 @@ fn checked_text(alloc: Global, file: &str, text: &str) -> Result<Checked, AllocE
 /// Memory was refused.
 pub fn check_text(alloc: Global, file: &str, text: &[u8]) -> Result<Checked, AllocError>
     ensures { IfOk result (λ checked.
-        Tells file.now text.now checked.verdict (string_bytes checked.lines)) }
+        TellsVerdict file.now text.now checked.verdict (string_bytes checked.lines)) }
 {
     match str::from_utf8(text) {
         Ok(text) => checked_text(alloc, file, text),
@@ -218,7 +218,7 @@ pub fn check<W: Write>(
     text: &[u8],
     writer: &mut Watched<W>,
 ) -> Result<Verdict, CheckFault>
-    ensures written { Writes file.now text.now (W.contents (inner_of writer.old)) result
+    ensures written { WritesVerdict file.now text.now (W.contents (inner_of writer.old)) result
         (W.contents (inner_of writer.new)) }
     ensures marked { IsErrOf result CheckFault.Write → has_failed writer.new ≡ true }
     ensures unmarked { (result ≢ Err CheckFault.Write)

@@ -3,7 +3,7 @@
 ghost use Rattle.std.specs.Prelude.{◌≡◌, map, option_map};
 ghost use Rattle.toml.specs.Data.{get_member};
 ghost use Rattle.toml.specs.View.{view, table_view};
-ghost use Rattle.usb_diagnosis.specs.Entry.{entry_keys, text_of};
+ghost use Rattle.usb_diagnosis.specs.Entry.{entry_keys, value_text};
 ghost use Rattle.usb_diagnosis.specs.Key.{key_name};
 
 use crate::key::{DAMAGE_KEYS, DEVICE_KEYS, PlanKey, TOP_KEYS, keys_with};
@@ -51,7 +51,8 @@ fn value_at<'a>(table: &'a Table, key: &str) -> Option<&'a Value>
 
 /// The text at a key, where it is one.
 pub(crate) fn text_at<'a>(table: &'a Table, key: &str) -> Option<&'a str>
-    ensures { option_map (λ t. t.now) result ≡ text_of (get_member key.now (table_view table.now)) }
+    ensures { option_map (λ t. t.now) result
+        ≡ value_text (get_member key.now (table_view table.now)) }
 {
     match value_at(table, key) {
         None => None,

@@ -1,7 +1,7 @@
 //! Where in a file something stands, and how that is told.
 
 ghost use Rattle.std.specs.Prelude.{◌≡◌, ◌-◌, ◌^◌, ◌<◌, ◌++◌, OnOk, string_bytes};
-ghost use Rattle.usb_diagnosis.specs.Place.{behind, behind_all, line_behind, numbered, spot_behind, spot_text};
+ghost use Rattle.usb_diagnosis.specs.Place.{behind, behind_all, colon_number, line_behind, spot_behind, spot_text};
 
 use crate::shown::push_number;
 use std::alloc::{AllocError, Global};
@@ -74,7 +74,7 @@ pub(crate) fn push_spot(alloc: Global, out: &mut String, spot: Spot) -> Result<(
 }
 
 fn push_behind_colon(alloc: Global, out: &mut String, number: usize) -> Result<(), AllocError>
-    ensures { OnOk result (string_bytes out.new ≡ string_bytes out.old ++ numbered number) }
+    ensures { OnOk result (string_bytes out.new ≡ string_bytes out.old ++ colon_number number) }
 {
     out.push_str(":")?;
     push_number(alloc, out, number as u64)

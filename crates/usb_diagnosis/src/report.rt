@@ -2,7 +2,7 @@
 
 ghost use Rattle.std.specs.Prelude.{◌≡◌, ◌++◌, IfOk, OnOk, string_bytes};
 ghost use Rattle.usb_plan.specs.Place.{place_text};
-ghost use Rattle.usb_diagnosis.specs.Report.{count_line, fault_text, fault_word, first_line, place_of, plan_lines};
+ghost use Rattle.usb_diagnosis.specs.Report.{count_line, fault_name, fault_text, first_line, place_of, plan_lines};
 
 use crate::place::{Spot, push_spot};
 use crate::shown::push_number;
@@ -42,8 +42,8 @@ fn push_place(alloc: Global, out: &mut String, place: Place) -> Result<(), Alloc
 }
 
 /// What is wrong with an entry, in the words of the fault.
-fn fault_word(fault: PlanFault) -> &'static str
-    ensures { result.now ≡ fault_word fault }
+fn fault_name(fault: PlanFault) -> &'static str
+    ensures { result.now ≡ fault_name fault }
 {
     match fault {
         PlanFault::Syntax => "syntax",
@@ -84,7 +84,7 @@ fn push_fault(alloc: Global, out: &mut String, fault: PlanFault) -> Result<(), A
         push_place(alloc, out, place)?;
         out.push_str(": ")?;
     }
-    out.push_str(fault_word(fault))
+    out.push_str(fault_name(fault))
 }
 
 /// The first line of what is told of a text that is no plan: `FILE:LINE: FAULT`.

@@ -2,7 +2,7 @@
 
 ghost use Rattle.std.specs.Prelude.{◌≡◌, ◌++◌, decimal, flat_map, IfOk, OnOk, string_bytes, take};
 ghost use Rattle.std.specs.Str.{chars};
-ghost use Rattle.usb_diagnosis.specs.Shown.{char_shown, dots, shown};
+ghost use Rattle.usb_diagnosis.specs.Shown.{char_shown, dots, text_shown};
 
 use std::alloc::{AllocError, Global};
 
@@ -62,7 +62,7 @@ fn dots(letters: &[char]) -> &'static str
 }
 
 fn push_front(alloc: Global, out: &mut String, letters: &[char]) -> Result<(), AllocError>
-    ensures { OnOk result (string_bytes out.new ≡ string_bytes out.old ++ shown letters.now) }
+    ensures { OnOk result (string_bytes out.new ≡ string_bytes out.old ++ text_shown letters.now) }
 {
     push_letters(alloc, out, front(letters))?;
     out.push_str(dots(letters))
@@ -77,7 +77,7 @@ fn letters_of(alloc: Global, text: &str) -> Result<Vec<char>, AllocError>
 /// Adds the first 60 characters of a text, and three dots where there are more.
 pub(crate) fn push_shown(alloc: Global, out: &mut String, text: &str) -> Result<(), AllocError>
     ensures { OnOk result
-        (string_bytes out.new ≡ string_bytes out.old ++ shown (chars text.now)) }
+        (string_bytes out.new ≡ string_bytes out.old ++ text_shown (chars text.now)) }
 {
     let letters = letters_of(alloc, text)?;
     push_front(alloc, out, letters.as_slice())

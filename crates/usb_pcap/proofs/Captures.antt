@@ -13,10 +13,10 @@ use Rattle.usb_pcap.specs.declared.capturing.OpenLine.{OpenLine}
 use Rattle.usb_pcap.specs.declared.capturing.PcapFault.{PcapFault}
 use Rattle.usb_pcap.specs.declared.capturing.PcapFault.TheVariants.{Read, Line as BadLine, TooLong, Write}
 use Rattle.usb_pcap.specs.declared.attempt.TracedAttempt.{TracedAttempt}
-use Rattle.usb_pcap.specs.Attempt.{IsLineOf}
+use Rattle.usb_pcap.specs.Attempt.{IsAttemptLine}
 use Rattle.usb_pcap.specs.Report.{is_report}
 use Rattle.usb_pcap.specs.Record.{AreRecords, attempt_packets, header}
-use Rattle.usb_pcap.specs.Capture.{Captures, Comes, IsCapture, LineRecords, StandsAt, WroteFront, WroteLines, next_number}
+use Rattle.usb_pcap.specs.Capture.{Captures, ComesOf, IsCapture, LineRecords, StandsBehind, WroteFront, WroteLines, next_number}
 
 few_taken : (k : ℕ) (l : List ℕ) → length (take k l) < k → length l < k
 few_taken k l h = let e = length-take k l in omega (arith, e)
@@ -49,7 +49,7 @@ taken_long k line front b e full =
     let long = length-append line (b ∷ []) in
     (e ∙ sym (take-append-le k line (b ∷ []) many), is_more k (length (line ++ b ∷ [])) (omega (arith, long)))
 
-pub stands_first : (w now : Option (List ℕ)) (s : OpenLine) → Appends w now header → s.number ≡ 1 → s.front.items ≡ [] → s.is_long ≡ false → StandsAt w now [] s
+pub stands_first : (w now : Option (List ℕ)) (s : OpenLine) → Appends w now header → s.number ≡ 1 → s.front.items ≡ [] → s.is_long ≡ false → StandsBehind w now [] s
 stands_first w now s h number front long = record {
   n = 0;
   front = [];
@@ -64,8 +64,8 @@ stands_first w now s h number front long = record {
   number = number;
 }
 
-pub stands_more : (w now : Option (List ℕ)) (text : List ℕ) (b : ℕ) (s t : OpenLine) → b ≢ 10 → StandsAt w now text s → t.number ≡ s.number
-    → length s.front.items < 700 → t.front.items ≡ s.front.items ++ b ∷ [] → t.is_long ≡ s.is_long → StandsAt w now (text ++ b ∷ []) t
+pub stands_more : (w now : Option (List ℕ)) (text : List ℕ) (b : ℕ) (s t : OpenLine) → b ≢ 10 → StandsBehind w now text s → t.number ≡ s.number
+    → length s.front.items < 700 → t.front.items ≡ s.front.items ++ b ∷ [] → t.is_long ≡ s.is_long → StandsBehind w now (text ++ b ∷ []) t
 stands_more w now text b s t other h number room front long =
     let more = taken_more 700 h.line s.front.items b h.begins room in
     record {
@@ -82,8 +82,8 @@ stands_more w now text b s t other h number room front long =
       number = number ∙ h.number;
     }
 
-pub stands_long : (w now : Option (List ℕ)) (text : List ℕ) (b : ℕ) (s t : OpenLine) → b ≢ 10 → StandsAt w now text s → t.number ≡ s.number
-    → length s.front.items ≡ 700 → t.front.items ≡ s.front.items → t.is_long ≡ true → StandsAt w now (text ++ b ∷ []) t
+pub stands_long : (w now : Option (List ℕ)) (text : List ℕ) (b : ℕ) (s t : OpenLine) → b ≢ 10 → StandsBehind w now text s → t.number ≡ s.number
+    → length s.front.items ≡ 700 → t.front.items ≡ s.front.items → t.is_long ≡ true → StandsBehind w now (text ++ b ∷ []) t
 stands_long w now text b s t other h number full front long =
     let more = taken_long 700 h.line s.front.items b h.begins full in
     record {
@@ -104,15 +104,15 @@ stands_long w now text b s t other h number full front long =
 abbrev Tells : OpenLine → List ℕ → Type 0
 Tells s records = (line : List ℕ) → s.front.items ≡ take 700 line → s.is_long ≡ nat_lt 700 (length line) → LineRecords line records
 
-closed : (w now : Option (List ℕ)) (text records : List ℕ) (s : OpenLine) (h : StandsAt w now text s) → Tells s records → IsCapture (h.n + 1) (text ++ 10 ∷ []) (h.file ++ records)
+closed : (w now : Option (List ℕ)) (text records : List ℕ) (s : OpenLine) (h : StandsBehind w now text s) → Tells s records → IsCapture (h.n + 1) (text ++ 10 ∷ []) (h.file ++ records)
 closed w now text records s h tells =
     subst (λ t. IsCapture (h.n + 1) (t ++ 10 ∷ []) (h.file ++ records)) (sym h.split) (IsCapture.line h.line records h.one (tells h.line h.begins h.long) h.captured)
 
 next_number-next : (n k m : ℕ) → k ≡ next_number n → m ≡ min (k + 1) (2 ^ 64 - 1) → m ≡ next_number (n + 1)
 next_number-next n k m e f = omega arith
 
-pub stands_closed : (w mid now : Option (List ℕ)) (text records : List ℕ) (s t : OpenLine) → StandsAt w mid text s → Tells s records → Appends mid now records
-    → t.number ≡ min (s.number + 1) (2 ^ 64 - 1) → t.front.items ≡ [] → t.is_long ≡ false → StandsAt w now (text ++ 10 ∷ []) t
+pub stands_closed : (w mid now : Option (List ℕ)) (text records : List ℕ) (s t : OpenLine) → StandsBehind w mid text s → Tells s records → Appends mid now records
+    → t.number ≡ min (s.number + 1) (2 ^ 64 - 1) → t.front.items ≡ [] → t.is_long ≡ false → StandsBehind w now (text ++ 10 ∷ []) t
 stands_closed w mid now text records s t h tells gone number front long = record {
   n = h.n + 1;
   front = text ++ 10 ∷ [];
@@ -127,7 +127,7 @@ stands_closed w mid now text records s t h tells gone number front long = record
   number = next_number-next h.n s.number t.number h.number number;
 }
 
-pub went_front : (w mid now : Option (List ℕ)) (text records : List ℕ) (s : OpenLine) → StandsAt w mid text s → Tells s records → AppendsFront mid now records
+pub went_front : (w mid now : Option (List ℕ)) (text records : List ℕ) (s : OpenLine) → StandsBehind w mid text s → Tells s records → AppendsFront mid now records
     → (n : ℕ) × WroteFront w now (text ++ 10 ∷ []) n
 went_front w mid now text records s h tells gone = (
   h.n + 1,
@@ -141,7 +141,7 @@ went_front w mid now text records s h tells gone = (
   },
 )
 
-pub went_lines : (w now : Option (List ℕ)) (text rest : List ℕ) (s : OpenLine) → StandsAt w now text s → (n : ℕ) × WroteLines w now (text ++ rest) n × (s.number ≡ next_number n)
+pub went_lines : (w now : Option (List ℕ)) (text rest : List ℕ) (s : OpenLine) → StandsBehind w now text s → (n : ℕ) × WroteLines w now (text ++ rest) n × (s.number ≡ next_number n)
 went_lines w now text rest s h = (
   h.n,
   record {
@@ -176,7 +176,7 @@ front_more w now text rest n h = record {
   gone = h.gone;
 }
 
-pub comes_more : (w now : Option (List ℕ)) (text rest : List ℕ) (f : PcapFault) (s t : OpenLine) → Comes w now text (Err f) s → Comes w now (text ++ rest) (Err f) t
+pub comes_more : (w now : Option (List ℕ)) (text rest : List ℕ) (f : PcapFault) (s t : OpenLine) → ComesOf w now text (Err f) s → ComesOf w now (text ++ rest) (Err f) t
 comes_more w now text rest (BadLine number) s t (n, h, e) = (n, lines_more w now text rest n h, e)
 comes_more w now text rest Write s t (n, h) = (n, front_more w now text rest n h)
 comes_more w now text rest Read s t h = absurd h
@@ -188,7 +188,7 @@ captures_more w now text rest Write (n, h) = (n, front_more w now text rest n h)
 captures_more w now text rest Read (n, h) = (n, lines_more w now text rest n h)
 captures_more w now text rest TooLong (n, h) = (n, lines_more w now text rest n h)
 
-pub comes_captures : (w now : Option (List ℕ)) (text : List ℕ) (f : PcapFault) (s : OpenLine) → Comes w now text (Err f) s → Captures w now text (Err f)
+pub comes_captures : (w now : Option (List ℕ)) (text : List ℕ) (f : PcapFault) (s : OpenLine) → ComesOf w now text (Err f) s → Captures w now text (Err f)
 comes_captures w now text (BadLine number) s h = h
 comes_captures w now text Write s h = h
 comes_captures w now text Read s h = absurd h
@@ -206,25 +206,25 @@ captures_all None b w now done r e end h = tt
 captures_all (Some text) None w now done r e end h = absurd e
 captures_all (Some text) (Some rest) w now done r e end h = subst (λ t. Captures w now t r) (sym (e ∙ ap (λ l. done ++ l) end ∙ append-nil done)) h
 
-pub ended_well : (w now : Option (List ℕ)) (text : List ℕ) (s : OpenLine) → s.front.items ≡ [] → StandsAt w now text s → Captures w now text (Ok tt)
+pub ended_well : (w now : Option (List ℕ)) (text : List ℕ) (s : OpenLine) → s.front.items ≡ [] → StandsBehind w now text s → Captures w now text (Ok tt)
 ended_well w now text s empty h =
     let few = few_taken 700 h.line (subst (λ l. length l < 700) (sym empty ∙ h.begins) (omega arith)) in
     let none : h.line ≡ [] = sym (take_all 700 h.line (omega arith)) ∙ sym h.begins ∙ empty in
     (h.n, h.file, subst (λ t. IsCapture h.n t h.file) (sym (h.split ∙ ap (λ l. h.front ++ l) none ∙ append-nil h.front)) h.captured, h.gone)
 
-pub ended_early : (w now : Option (List ℕ)) (text : List ℕ) (s : OpenLine) → StandsAt w now text s → Captures w now text (Err (BadLine s.number))
+pub ended_early : (w now : Option (List ℕ)) (text : List ℕ) (s : OpenLine) → StandsBehind w now text s → Captures w now text (Err (BadLine s.number))
 ended_early w now text s h = let (n, wrote, number) = went_lines w now text [] s h in (n, subst (λ t. WroteLines w now t n) (append-nil text) wrote, number)
 
 pub report_records : (front line records : List ℕ) → front ≡ take 700 line → is_report front ≡ true → records ≡ [] → LineRecords line records
 report_records front line records e report none = subst (LineRecords line) (sym none) (LineRecords.report (subst (λ l. is_report l ≡ true) e report))
 
-pub attempt_records : (front line records : List ℕ) (is_long : Bool) (a : TracedAttempt) → is_long ≡ false → IsLineOf front a → AreRecords a.number (attempt_packets a.pre a.exchange) records
+pub attempt_records : (front line records : List ℕ) (is_long : Bool) (a : TracedAttempt) → is_long ≡ false → IsAttemptLine front a → AreRecords a.number (attempt_packets a.pre a.exchange) records
     → front ≡ take 700 line → is_long ≡ nat_lt 700 (length line) → LineRecords line records
 attempt_records front line records is_long a short of made e long =
     let few : length line ≤ 700 = not_more 700 (length line) (sym long ∙ short) in
-    LineRecords.attempt a records (subst (λ l. IsLineOf l a) (e ∙ take_all 700 line few) of) made
+    LineRecords.attempt a records (subst (λ l. IsAttemptLine l a) (e ∙ take_all 700 line few) of) made
 
-pub attempt_some : (front : List ℕ) (is_long : Bool) (a : TracedAttempt) (o : Option (ArrayVec ℕ)) → is_long ≡ false → IsLineOf front a
+pub attempt_some : (front : List ℕ) (is_long : Bool) (a : TracedAttempt) (o : Option (ArrayVec ℕ)) → is_long ≡ false → IsAttemptLine front a
     → IfSome o (λ r. AreRecords a.number (attempt_packets a.pre a.exchange) r.items)
     → IfSome o (λ r. (line : List ℕ) → front ≡ take 700 line → is_long ≡ nat_lt 700 (length line) → LineRecords line r.items)
 attempt_some front is_long a None short of made = tt
@@ -235,23 +235,23 @@ torn_header None w now h = tt
 torn_header (Some text) w now h = (0, record { front = []; rest = text; file = header; split = refl; captured = IsCapture.none; gone = h })
 
 -- one byte of a piece more
-pub piece_more : (w now : Option (List ℕ)) (text piece : List ℕ) (i b : ℕ) (s : OpenLine) → i < length piece → b ≡ get_or piece i 0 → StandsAt w now ((text ++ take i piece) ++ b ∷ []) s → StandsAt w now (text ++ take (i + 1) piece) s
+pub piece_more : (w now : Option (List ℕ)) (text piece : List ℕ) (i b : ℕ) (s : OpenLine) → i < length piece → b ≡ get_or piece i 0 → StandsBehind w now ((text ++ take i piece) ++ b ∷ []) s → StandsBehind w now (text ++ take (i + 1) piece) s
 piece_more w now text piece i b s below is h =
     let more : take (i + 1) piece ≡ take i piece ++ b ∷ [] = take_more piece i 0 below ∙ ap (λ x. take i piece ++ x ∷ []) (sym is) in
-    subst (λ t. StandsAt w now t s) (append_assoc text (take i piece) (b ∷ []) ∙ ap (λ l. text ++ l) (sym more)) h
+    subst (λ t. StandsBehind w now t s) (append_assoc text (take i piece) (b ∷ []) ∙ ap (λ l. text ++ l) (sym more)) h
 
-pub piece_failed : (w now : Option (List ℕ)) (text piece : List ℕ) (i b : ℕ) (f : PcapFault) (s t : OpenLine) → i < length piece → b ≡ get_or piece i 0 → Comes w now ((text ++ take i piece) ++ b ∷ []) (Err f) s → Comes w now (text ++ piece) (Err f) t
+pub piece_failed : (w now : Option (List ℕ)) (text piece : List ℕ) (i b : ℕ) (f : PcapFault) (s t : OpenLine) → i < length piece → b ≡ get_or piece i 0 → ComesOf w now ((text ++ take i piece) ++ b ∷ []) (Err f) s → ComesOf w now (text ++ piece) (Err f) t
 piece_failed w now text piece i b f s t below is h =
     let more : take (i + 1) piece ≡ take i piece ++ b ∷ [] = take_more piece i 0 below ∙ ap (λ x. take i piece ++ x ∷ []) (sym is) in
     let whole : ((text ++ take i piece) ++ b ∷ []) ++ drop (i + 1) piece ≡ text ++ piece =
     ap (λ l. l ++ drop (i + 1) piece) (append_assoc text (take i piece) (b ∷ []) ∙ ap (λ l. text ++ l) (sym more)) ∙ append_assoc text (take (i + 1) piece) (drop (i + 1) piece) ∙ ap (λ l. text ++ l) (take-append-drop (i + 1) piece) in
-    subst (λ u. Comes w now u (Err f) t) whole (comes_more w now ((text ++ take i piece) ++ b ∷ []) (drop (i + 1) piece) f s t h)
+    subst (λ u. ComesOf w now u (Err f) t) whole (comes_more w now ((text ++ take i piece) ++ b ∷ []) (drop (i + 1) piece) f s t h)
 
 pub not_err : {A E : Type 0} {P : Type 0} (r : Result A E) → is_err r ≡ false → OnOk r P → P
 not_err (Ok x) e h = h
 not_err (Err x) e h = absurd (cc)
 
-pub stopped : (w now : Option (List ℕ)) (text : List ℕ) (s : OpenLine) → StandsAt w now text s → (n : ℕ) × WroteLines w now text n
+pub stopped : (w now : Option (List ℕ)) (text : List ℕ) (s : OpenLine) → StandsBehind w now text s → (n : ℕ) × WroteLines w now text n
 stopped w now text s h = (
   h.n,
   record {
@@ -264,7 +264,7 @@ stopped w now text s h = (
   },
 )
 
-pub never_read : {P : Type 0} (w now : Option (List ℕ)) (text : List ℕ) (f : PcapFault) (s : OpenLine) → Comes w now text (Err f) s → IsErrOf {T = Unit {0}} (Err f) Read → P
+pub never_read : {P : Type 0} (w now : Option (List ℕ)) (text : List ℕ) (f : PcapFault) (s : OpenLine) → ComesOf w now text (Err f) s → IsErrOf {T = Unit {0}} (Err f) Read → P
 never_read w now text Read s h is = absurd h
 never_read w now text TooLong s h is = absurd h
 never_read w now text (BadLine number) s h is = absurd (cc)

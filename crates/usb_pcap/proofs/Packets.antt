@@ -15,9 +15,9 @@ use Rattle.usb_packet.specs.Text.{data_name, text_of, token_name}
 use Rattle.usb_world.specs.declared.wire.Mark.{Mark}
 use Rattle.usb_world.specs.declared.wire.Mark.TheVariants.{Whole, Lost, PreLost, Flipped}
 use Rattle.usb_bus.specs.Trace.{mark_text}
-use Rattle.usb_pcap.specs.Text.{bytes_on, number_in, strip}
-use Rattle.usb_pcap.specs.Packet.{bit_in, data_in, data_of, handshake_in, mark_in, packet_in, token_in, token_of}
-use Rattle.usb_pcap.proofs.Reading.{bytes_on-some, found_some, if_some, map_some, number_in-some, strip-some}
+use Rattle.usb_pcap.specs.Text.{bytes_on, decimal_in, strip}
+use Rattle.usb_pcap.specs.Packet.{bit_in, data_in, data_of, fitting_token, handshake_in, packet_in, packet_mark_in, token_in}
+use Rattle.usb_pcap.proofs.Reading.{bytes_on-some, decimal_in-some, found_some, if_some, map_some, strip-some}
 
 -- a text is that of a packet with this behind it
 abbrev pub BeginsAs : List ℕ → Packet × List ℕ → Type 0
@@ -29,13 +29,13 @@ begins text r s h e = subst (BeginsAs text) (same_Some r s e) h
 token_in-some : (kind : TokenKind) (text : List ℕ) (r : Packet × List ℕ) → token_in kind text ≡ Some r → BeginsAs (token_name kind ++ text) r
 unfolding token_in
 token_in-some kind text r e =
-    option_and_then_some (λ addr. option_and_then (λ rest. option_and_then (token_of kind addr.0) (number_in rest)) (strip (codes ".") addr.1)) (number_in text) r e (λ addr first behind.
-    option_and_then_some (λ rest. option_and_then (token_of kind addr.0) (number_in rest)) (strip (codes ".") addr.1) r behind (λ rest dot more.
-    option_and_then_some (token_of kind addr.0) (number_in rest) r more (λ ep second fits.
+    option_and_then_some (λ addr. option_and_then (λ rest. option_and_then (fitting_token kind addr.0) (decimal_in rest)) (strip (codes ".") addr.1)) (decimal_in text) r e (λ addr first behind.
+    option_and_then_some (λ rest. option_and_then (fitting_token kind addr.0) (decimal_in rest)) (strip (codes ".") addr.1) r behind (λ rest dot more.
+    option_and_then_some (fitting_token kind addr.0) (decimal_in rest) r more (λ ep second fits.
     if_some (nat_lt addr.0 128 && nat_lt ep.0 16) (Some (Token kind addr.0 ep.0, ep.1)) r fits (λ both is.
     let tests = and_parts (nat_lt addr.0 128) (nat_lt ep.0 16) both in
-    let one = number_in-some text addr first in
-    let two = number_in-some rest ep second in
+    let one = decimal_in-some text addr first in
+    let two = decimal_in-some rest ep second in
     let spelled : token_name kind ++ text ≡ (token_name kind ++ decimal addr.0 ++ codes "." ++ decimal ep.0) ++ ep.1 =
     ap (λ l. token_name kind ++ l) (one.0 ∙ ap (λ l. decimal addr.0 ++ l) (strip-some (codes ".") addr.1 rest dot ∙ ap (λ l. codes "." ++ l) two.0)) ∙ simp append_assoc in
     begins (token_name kind ++ text) (Token kind addr.0 ep.0, ep.1) r (spelled, (ltb-true addr.0 128 tests.0, ltb-true ep.0 16 tests.1)) is))))
@@ -84,16 +84,16 @@ marked_by word text rest m r e found is = subst (MarkedAs text) (same_Some (m, r
 bit_in-some : (text : List ℕ) (r : Mark × List ℕ) → bit_in text ≡ Some r → MarkedAs (codes " [bit " ++ text) r
 unfolding bit_in
 bit_in-some text r e =
-    option_and_then_some (λ bit. if nat_lt bit.0 65536 then option_map (λ rest. (Flipped bit.0, rest)) (strip (codes "]") bit.1) else None) (number_in text) r e (λ bit number more.
+    option_and_then_some (λ bit. if nat_lt bit.0 65536 then option_map (λ rest. (Flipped bit.0, rest)) (strip (codes "]") bit.1) else None) (decimal_in text) r e (λ bit number more.
     if_some (nat_lt bit.0 65536) (option_map (λ rest. (Flipped bit.0, rest)) (strip (codes "]") bit.1)) r more (λ few end.
     map_some (λ rest. (Flipped bit.0, rest)) (strip (codes "]") bit.1) r end (λ rest found is.
     let spelled : codes " [bit " ++ text ≡ (codes " [bit " ++ decimal bit.0 ++ codes "]") ++ rest =
-    ap (λ l. codes " [bit " ++ l) ((number_in-some text bit number).0 ∙ ap (λ l. decimal bit.0 ++ l) (strip-some (codes "]") bit.1 rest found)) ∙ simp append_assoc in
+    ap (λ l. codes " [bit " ++ l) ((decimal_in-some text bit number).0 ∙ ap (λ l. decimal bit.0 ++ l) (strip-some (codes "]") bit.1 rest found)) ∙ simp append_assoc in
     subst (MarkedAs (codes " [bit " ++ text)) is spelled)))
 
-pub mark_in-some : (text : List ℕ) (r : Mark × List ℕ) → mark_in text ≡ Some r → MarkedAs text r
-unfolding mark_in
-mark_in-some text r e =
+pub packet_mark_in-some : (text : List ℕ) (r : Mark × List ℕ) → packet_mark_in text ≡ Some r → MarkedAs text r
+unfolding packet_mark_in
+packet_mark_in-some text r e =
     found_some (strip (codes " [lost]") text) (λ rest. Some (Lost, rest)) _ r e (λ rest found is. marked_by (codes " [lost]") text rest Lost r refl found is) (λ e.
     found_some (strip (codes " [pre lost]") text) (λ rest. Some (PreLost, rest)) _ r e (λ rest found is. marked_by (codes " [pre lost]") text rest PreLost r refl found is) (λ e.
     found_some (strip (codes " [bit ") text) bit_in _ r e

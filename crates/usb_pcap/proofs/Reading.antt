@@ -5,7 +5,7 @@ use Rattle.std.proofs.lemmas.Bool.{and_parts, cases_lt, eqb-true, ltb-true}
 use Rattle.std.proofs.lemmas.Bool.Decides.{nat_tests}
 use Rattle.std.specs.Char.{is_ascii_digit}
 use Rattle.hex.specs.Hex.{encode_upper, encode_with, upper_digits}
-use Rattle.usb_pcap.specs.Text.{bytes_on, if_found, is_digit, number_in, number_on, strip, value_of}
+use Rattle.usb_pcap.specs.Text.{bytes_on, decimal_in, if_found, is_digit, number_on, strip, value_of}
 
 -- a test was met, and what it led to
 pub if_some : {A P : Type 0} (b : Bool) (o : Option A) (y : A) → (if b then o else None) ≡ Some y → (b ≡ true → o ≡ Some y → P) → P
@@ -41,9 +41,9 @@ number_on-few value (c ∷ text) n few e =
     (λ below rest. number_on-few (value * 10 + (c - 48)) text n (ltb-true (value * 10 + (c - 48)) (2 ^ 64) below) rest))
     (λ other end. subst (λ m. m < 2 ^ 64) (same_Some value n end) few)
 
-pub number_in-some : (text : List ℕ) (r : ℕ × List ℕ) → number_in text ≡ Some r → (text ≡ decimal r.0 ++ r.1) × (r.0 < 2 ^ 64)
-unfolding number_in
-number_in-some text r e =
+pub decimal_in-some : (text : List ℕ) (r : ℕ × List ℕ) → decimal_in text ≡ Some r → (text ≡ decimal r.0 ++ r.1) × (r.0 < 2 ^ 64)
+unfolding decimal_in
+decimal_in-some text r e =
     option_and_then_some (λ n. option_map (λ rest. (n, rest)) (strip (decimal n) text)) (number_on 0 text) r e
     (λ n h more. map_some (λ rest. (n, rest)) (strip (decimal n) text) r more
     (λ rest found is. subst (λ (s : ℕ × List ℕ). (text ≡ decimal s.0 ++ s.1) × (s.0 < 2 ^ 64)) is (strip-some (decimal n) text rest found, number_on-few 0 text n (omega arith) h)))

@@ -6,19 +6,21 @@ use Rattle.usb_pcap.specs.declared.attempt.TracedAttempt.{TracedAttempt}
 use Rattle.usb_pcap.specs.declared.capturing.OpenLine.{OpenLine}
 use Rattle.usb_pcap.specs.declared.capturing.PcapFault.{PcapFault}
 use Rattle.usb_pcap.specs.declared.capturing.PcapFault.TheVariants.{Read, Line as BadLine, TooLong, Write}
-use Rattle.usb_pcap.specs.Attempt.{IsLineOf}
+use Rattle.usb_pcap.specs.Attempt.{IsAttemptLine}
 use Rattle.usb_pcap.specs.Report.{is_report}
 use Rattle.usb_pcap.specs.Record.{AreRecords, attempt_packets, header}
 
 -- the records of a line: of an attempt's line those of its packets, of any other line of a run none
 pub data LineRecords (line : List ℕ) : List ℕ → Type 0 where
   report : is_report (take 700 line) ≡ true → LineRecords line []
-  attempt : (a : TracedAttempt) (records : List ℕ) → IsLineOf line a → AreRecords a.number (attempt_packets a.pre a.exchange) records → LineRecords line records
+  attempt : (a : TracedAttempt) (records : List ℕ) → IsAttemptLine line a
+      → AreRecords a.number (attempt_packets a.pre a.exchange) records → LineRecords line records
 
 -- a text of n lines, and its file
 pub data IsCapture : ℕ → List ℕ → List ℕ → Type 0 where
   none : IsCapture 0 [] header
-  line : {n : ℕ} {text file : List ℕ} (line records : List ℕ) → All (λ c. c ≢ 10) line → LineRecords line records → IsCapture n text file → IsCapture (n + 1) (text ++ line ++ 10 ∷ []) (file ++ records)
+  line : {n : ℕ} {text file : List ℕ} (line records : List ℕ) → All (λ c. c ≢ 10) line → LineRecords line records
+      → IsCapture n text file → IsCapture (n + 1) (text ++ line ++ 10 ∷ []) (file ++ records)
 
 -- the number of the line behind n lines
 abbrev pub next_number : ℕ → ℕ
@@ -53,7 +55,7 @@ Captures old new text (Err TooLong) = (n : ℕ) × WroteLines old new text n
 -- ---- of the private functions
 
 -- whole lines were captured, and their file has gone out; behind them a line has begun
-pub record StandsAt (old new : Option (List ℕ)) (text : List ℕ) (state : OpenLine) : Type 0 where
+pub record StandsBehind (old new : Option (List ℕ)) (text : List ℕ) (state : OpenLine) : Type 0 where
   pub n : ℕ
   pub front : List ℕ
   pub line : List ℕ
@@ -67,9 +69,9 @@ pub record StandsAt (old new : Option (List ℕ)) (text : List ℕ) (state : Ope
   pub number : state.number ≡ next_number n
 
 -- what came of the text so far
-abbrev pub Comes : Option (List ℕ) → Option (List ℕ) → List ℕ → Result (Unit {0}) PcapFault → OpenLine → Type 0
-Comes old new text (Ok done) state = StandsAt old new text state
-Comes old new text (Err (BadLine number)) state = (n : ℕ) × WroteLines old new text n × (number ≡ next_number n)
-Comes old new text (Err Write) state = (n : ℕ) × WroteFront old new text n
-Comes old new text (Err Read) state = ⊥
-Comes old new text (Err TooLong) state = ⊥
+abbrev pub ComesOf : Option (List ℕ) → Option (List ℕ) → List ℕ → Result (Unit {0}) PcapFault → OpenLine → Type 0
+ComesOf old new text (Ok done) state = StandsBehind old new text state
+ComesOf old new text (Err (BadLine number)) state = (n : ℕ) × WroteLines old new text n × (number ≡ next_number n)
+ComesOf old new text (Err Write) state = (n : ℕ) × WroteFront old new text n
+ComesOf old new text (Err Read) state = ⊥
+ComesOf old new text (Err TooLong) state = ⊥

@@ -9,15 +9,17 @@ use Rattle.usb_packet.specs.declared.Packet.{Packet}
 use Rattle.usb_packet.specs.declared.Packet.TheVariants.{Token, Payload, Ack, Nak, Stall}
 use Rattle.usb_world.specs.declared.wire.Mark.{Mark}
 use Rattle.usb_world.specs.declared.wire.Mark.TheVariants.{Whole, Lost, PreLost, Flipped}
-use Rattle.usb_pcap.specs.Text.{bytes_on, if_found, number_in, strip}
+use Rattle.usb_pcap.specs.Text.{bytes_on, decimal_in, if_found, strip}
 
 -- an address and an endpoint, where they fit a token
-abbrev pub token_of : TokenKind → ℕ → ℕ × List ℕ → Option (Packet × List ℕ)
-token_of kind addr ep = if nat_lt addr 128 && nat_lt ep.0 16 then Some (Token kind addr ep.0, ep.1) else None
+abbrev pub fitting_token : TokenKind → ℕ → ℕ × List ℕ → Option (Packet × List ℕ)
+fitting_token kind addr ep = if nat_lt addr 128 && nat_lt ep.0 16 then Some (Token kind addr ep.0, ep.1) else None
 
 -- ADDRESS.ENDPOINT
 unfoldable pub token_in : TokenKind → List ℕ → Option (Packet × List ℕ)
-token_in kind text = option_and_then (λ addr. option_and_then (λ rest. option_and_then (token_of kind addr.0) (number_in rest)) (strip (codes ".") addr.1)) (number_in text)
+token_in kind text =
+    option_and_then (λ addr. option_and_then (λ rest. option_and_then (fitting_token kind addr.0) (decimal_in rest)) (strip (codes ".") addr.1))
+    (decimal_in text)
 
 abbrev pub data_of : Toggle → List ℕ × List ℕ → Option (Packet × List ℕ)
 data_of toggle ([], rest) = None
@@ -47,11 +49,13 @@ packet_in text =
 
 -- the number of a flipped bit
 unfoldable pub bit_in : List ℕ → Option (Mark × List ℕ)
-bit_in text = option_and_then (λ bit. if nat_lt bit.0 65536 then option_map (λ rest. (Flipped bit.0, rest)) (strip (codes "]") bit.1) else None) (number_in text)
+bit_in text =
+    option_and_then (λ bit. if nat_lt bit.0 65536 then option_map (λ rest. (Flipped bit.0, rest)) (strip (codes "]") bit.1) else None)
+    (decimal_in text)
 
 -- the mark behind a packet, none where damage did nothing to it
-unfoldable pub mark_in : List ℕ → Option (Mark × List ℕ)
-mark_in text =
+unfoldable pub packet_mark_in : List ℕ → Option (Mark × List ℕ)
+packet_mark_in text =
     if_found (strip (codes " [lost]") text) (λ rest. Some (Lost, rest))
     (if_found (strip (codes " [pre lost]") text) (λ rest. Some (PreLost, rest))
     (if_found (strip (codes " [bit ") text) bit_in (Some (Whole, text))))

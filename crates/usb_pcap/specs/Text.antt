@@ -22,8 +22,8 @@ number_on value (c ∷ text) =
     else Some value
 
 -- the number below 2 ^ 64 that a text begins with, as it is printed
-unfoldable pub number_in : List ℕ → Option (ℕ × List ℕ)
-number_in text = option_and_then (λ n. option_map (λ rest. (n, rest)) (strip (decimal n) text)) (number_on 0 text)
+unfoldable pub decimal_in : List ℕ → Option (ℕ × List ℕ)
+decimal_in text = option_and_then (λ n. option_map (λ rest. (n, rest)) (strip (decimal n) text)) (number_on 0 text)
 
 -- an upper-case hexadecimal digit, and its value
 abbrev pub is_digit : ℕ → Bool

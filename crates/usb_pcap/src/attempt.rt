@@ -1,8 +1,8 @@
 //! The line of an attempt.
 ghost use Rattle.std.specs.Prelude.{◌≡◌, IfSome, option_map};
-ghost use Rattle.usb_pcap.specs.Attempt.{IsLineOf, is_ack, is_answer, is_data, answer_in, attempt_in, host_in, next_in, payload_in, read_attempt, reply_in, sends_data};
+ghost use Rattle.usb_pcap.specs.Attempt.{IsAttemptLine, answer_in, attempt_in, data_follow, host_ack_in, host_data_in, host_in, is_ack_packet, is_answer, is_data_packet, next_in, read_attempt};
 
-use crate::packet::{mark_in, packet_in};
+use crate::packet::{packet_in, packet_mark_in};
 use crate::text::Text;
 use usb_packet::{Packet, TokenKind};
 use usb_world::{Exchange, ExchangeAnswer, Mark, Outgoing};
@@ -25,7 +25,7 @@ const NO_TIME: u64 = 4_294_967_296_000_000;
 /// host's ACK. None for any other line.
 pub fn read_attempt(line: &[u8]) -> Option<TracedAttempt>
     ensures exact { result ≡ read_attempt line.now }
-    ensures found { IfSome result (λ a. IsLineOf line.now a) }
+    ensures found { IfSome result (λ a. IsAttemptLine line.now a) }
 {
     attempt_of(line)
 }
@@ -49,8 +49,8 @@ fn attempt_in(text: &mut Text<'_>) -> Option<TracedAttempt>
     }
     let pre = text.begins_with(b"PRE ");
     let token = host_in(pre, text)?;
-    let payload = if sends_data(&token.packet)? {
-        Some(payload_in(pre, text)?)
+    let payload = if data_follow(&token.packet)? {
+        Some(host_data_in(pre, text)?)
     } else {
         None
     };
@@ -58,7 +58,7 @@ fn attempt_in(text: &mut Text<'_>) -> Option<TracedAttempt>
     let reply = if text.is_empty() {
         None
     } else {
-        Some(reply_in(pre, text)?)
+        Some(host_ack_in(pre, text)?)
     };
     Some(TracedAttempt {
         number,
@@ -76,8 +76,8 @@ fn attempt_in(text: &mut Text<'_>) -> Option<TracedAttempt>
 }
 
 /// Whether the host's data follow a token; None for any other packet.
-fn sends_data(packet: &Packet) -> Option<bool>
-    ensures { result ≡ sends_data packet.now }
+fn data_follow(packet: &Packet) -> Option<bool>
+    ensures { result ≡ data_follow packet.now }
 {
     match packet {
         Packet::Token { kind, .. } => Some(!matches!(kind, TokenKind::InTok)),
@@ -94,7 +94,7 @@ fn host_in(pre: bool, text: &mut Text<'_>) -> Option<Outgoing>
         return None;
     }
     let packet = packet_in(text)?;
-    let mark = mark_in(text)?;
+    let mark = packet_mark_in(text)?;
     if matches!(mark, Mark::PreLost) && !pre {
         return None;
     }
@@ -113,12 +113,12 @@ fn next_in(pre: bool, text: &mut Text<'_>) -> Option<Outgoing>
 }
 
 /// Reads the host's data.
-#[tactic(auto, unfolding(crate::specs::Attempt::payload_in))]
-fn payload_in(pre: bool, text: &mut Text<'_>) -> Option<Outgoing>
-    ensures { payload_in pre text.old ≡ option_map (λ s. (s, text.new)) result }
+#[tactic(auto, unfolding(crate::specs::Attempt::host_data_in))]
+fn host_data_in(pre: bool, text: &mut Text<'_>) -> Option<Outgoing>
+    ensures { host_data_in pre text.old ≡ option_map (λ s. (s, text.new)) result }
 {
     let sent = next_in(pre, text)?;
-    if is_data(&sent.packet) {
+    if is_data_packet(&sent.packet) {
         Some(sent)
     } else {
         None
@@ -126,12 +126,12 @@ fn payload_in(pre: bool, text: &mut Text<'_>) -> Option<Outgoing>
 }
 
 /// Reads the host's ACK.
-#[tactic(auto, unfolding(crate::specs::Attempt::reply_in))]
-fn reply_in(pre: bool, text: &mut Text<'_>) -> Option<Outgoing>
-    ensures { reply_in pre text.old ≡ option_map (λ s. (s, text.new)) result }
+#[tactic(auto, unfolding(crate::specs::Attempt::host_ack_in))]
+fn host_ack_in(pre: bool, text: &mut Text<'_>) -> Option<Outgoing>
+    ensures { host_ack_in pre text.old ≡ option_map (λ s. (s, text.new)) result }
 {
     let sent = next_in(pre, text)?;
-    if is_ack(&sent.packet) {
+    if is_ack_packet(&sent.packet) {
         Some(sent)
     } else {
         None
@@ -157,14 +157,14 @@ fn answer_in(text: &mut Text<'_>) -> Option<(ExchangeAnswer, Mark)>
     }
 }
 
-fn is_data(packet: &Packet) -> bool
-    ensures { result ≡ is_data packet.now }
+fn is_data_packet(packet: &Packet) -> bool
+    ensures { result ≡ is_data_packet packet.now }
 {
     matches!(packet, Packet::Payload { .. })
 }
 
-fn is_ack(packet: &Packet) -> bool
-    ensures { result ≡ is_ack packet.now }
+fn is_ack_packet(packet: &Packet) -> bool
+    ensures { result ≡ is_ack_packet packet.now }
 {
     matches!(packet, Packet::Ack)
 }

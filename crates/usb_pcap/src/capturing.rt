@@ -1,7 +1,7 @@
 //! A run's text in, a pcap file out.
 ghost use Rattle.std.specs.Prelude.{◌≡◌, ◌≢◌, ℕ, List, Option, [], ◌∷◌, ◌++◌, length, nat_lt, take, true, false, Err, IfSome, IsErrOf};
 ghost use Rattle.usb_bus.specs.Watch.{inner_of, has_failed};
-ghost use Rattle.usb_pcap.specs.Capture.{Captures, Comes, LineRecords, StandsAt};
+ghost use Rattle.usb_pcap.specs.Capture.{Captures, ComesOf, LineRecords, StandsBehind};
 
 use crate::attempt::read_attempt;
 use crate::record::{HEADER, Records, records_of};
@@ -88,7 +88,7 @@ impl OpenLine {
     /// The text ends: no line may have begun.
     fn end(&self) -> Result<(), PcapFault>
         ensures captures { (w now : Option (List ℕ)) (text : List ℕ)
-            → StandsAt w now text self.now → Captures w now text result }
+            → StandsBehind w now text self.now → Captures w now text result }
         ensures line { (result ≢ Err PcapFault.Read) × (result ≢ Err PcapFault.Write) }
     {
         if self.front.is_empty() {
@@ -105,8 +105,8 @@ impl OpenLine {
         writer: &mut Watched<W>,
     ) -> Result<(), PcapFault>
         ensures comes { (w : Option (List ℕ)) (text : List ℕ)
-            → StandsAt w (W.contents (inner_of writer.old)) text self.old
-            → Comes w (W.contents (inner_of writer.new)) (text ++ piece.now) result self.new }
+            → StandsBehind w (W.contents (inner_of writer.old)) text self.old
+            → ComesOf w (W.contents (inner_of writer.new)) (text ++ piece.now) result self.new }
         ensures write { IsErrOf result PcapFault.Write → has_failed writer.new ≡ true }
     {
         'bytes: for byte in piece {
@@ -120,8 +120,8 @@ impl OpenLine {
     /// Takes a byte.
     fn take<W: Write>(&mut self, byte: u8, writer: &mut Watched<W>) -> Result<(), PcapFault>
         ensures comes { (w : Option (List ℕ)) (text : List ℕ)
-            → StandsAt w (W.contents (inner_of writer.old)) text self.old
-            → Comes w (W.contents (inner_of writer.new)) (text ++ byte ∷ []) result self.new }
+            → StandsBehind w (W.contents (inner_of writer.old)) text self.old
+            → ComesOf w (W.contents (inner_of writer.new)) (text ++ byte ∷ []) result self.new }
         ensures write { IsErrOf result PcapFault.Write → has_failed writer.new ≡ true }
     {
         if byte == b'\n' {
@@ -138,8 +138,8 @@ impl OpenLine {
     /// Writes the records of the line, which has ended, and goes on to the next one.
     fn close<W: Write>(&mut self, writer: &mut Watched<W>) -> Result<(), PcapFault>
         ensures comes { (w : Option (List ℕ)) (text : List ℕ)
-            → StandsAt w (W.contents (inner_of writer.old)) text self.old
-            → Comes w (W.contents (inner_of writer.new)) (text ++ 10 ∷ []) result self.new }
+            → StandsBehind w (W.contents (inner_of writer.old)) text self.old
+            → ComesOf w (W.contents (inner_of writer.new)) (text ++ 10 ∷ []) result self.new }
         ensures write { IsErrOf result PcapFault.Write → has_failed writer.new ≡ true }
     {
         let Some(records) = line_records(self.front.as_slice(), self.is_long) else {

@@ -1,6 +1,6 @@
 //! Packets and marks as a trace prints them.
 ghost use Rattle.std.specs.Prelude.{◌≡◌, option_map};
-ghost use Rattle.usb_pcap.specs.Packet.{bit_in, data_in, handshake_in, mark_in, packet_in, token_in};
+ghost use Rattle.usb_pcap.specs.Packet.{bit_in, data_in, handshake_in, packet_in, packet_mark_in, token_in};
 
 use crate::text::Text;
 use arrayvec::ArrayVec;
@@ -87,9 +87,9 @@ fn data_in(toggle: Toggle, text: &mut Text<'_>) -> Option<Packet>
 }
 
 /// Reads the mark behind a packet.
-#[tactic(auto, unfolding(crate::specs::Packet::mark_in))]
-pub(crate) fn mark_in(text: &mut Text<'_>) -> Option<Mark>
-    ensures { mark_in text.old ≡ option_map (λ m. (m, text.new)) result }
+#[tactic(auto, unfolding(crate::specs::Packet::packet_mark_in))]
+pub(crate) fn packet_mark_in(text: &mut Text<'_>) -> Option<Mark>
+    ensures { packet_mark_in text.old ≡ option_map (λ m. (m, text.new)) result }
 {
     if text.skip(b" [lost]") {
         return Some(Mark::Lost);

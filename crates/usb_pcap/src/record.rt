@@ -2,7 +2,7 @@
 ghost use Rattle.std.specs.Prelude.{◌≡◌, ◌+◌, ◌*◌, ◌^◌, ◌<◌, ◌≤◌, ◌↔◌, ◌++◌, ◌∷◌, [], length, IfSome, IsSome, OnSome};
 ghost use Rattle.std.specs.Int.{to_le_bytes, w32};
 ghost use Rattle.usb_packet.specs.Spelling.{HasFields, flipped};
-ghost use Rattle.usb_pcap.specs.Attempt.{IsAnswered, IsTraced};
+ghost use Rattle.usb_pcap.specs.Attempt.{IsMarkedAnswer, IsTraced};
 ghost use Rattle.usb_pcap.specs.Record.{AppendsRecords, AreRecords, HasBit, answer_packets, attempt_packets, damaged, host_packets, next_packets, own_mark, pre_mark, pre_packets, record_head};
 
 use crate::attempt::TracedAttempt;
@@ -114,7 +114,7 @@ fn push_answer(
 ) -> Option<()>
     requires room { length records.old.items ≤ 498 }
     requires timed { number < 2 ^ 32 * 1000000 }
-    requires fields { IsAnswered answer.now mark }
+    requires fields { IsMarkedAnswer answer.now mark }
     ensures written { OnSome result (AppendsRecords number (answer_packets answer.now mark)
         records.old.items records.new.items) }
     ensures few { length records.new.items ≤ length records.old.items + 83 }

@@ -22,7 +22,7 @@ impl<'a> Model for Text<'a> {
 
 impl<'a> Text<'a> {
     ghost use Rattle.std.specs.Prelude.{◌≡◌, ◌==◌, [], false, Some, None, if◌then◌else◌, is_some, length, option_map};
-    ghost use Rattle.usb_pcap.specs.Text.{bytes_on, strip, number_in};
+    ghost use Rattle.usb_pcap.specs.Text.{bytes_on, decimal_in, strip};
 
     /// A whole line.
     pub(crate) fn new(line: &'a [u8]) -> Self
@@ -60,9 +60,9 @@ impl<'a> Text<'a> {
     }
 
     /// Reads a number below 2 ^ 64, of digits with no zero before them.
-    #[tactic(auto, unfolding(crate::specs::Text::number_in))]
+    #[tactic(auto, unfolding(crate::specs::Text::decimal_in))]
     pub(crate) fn number(&mut self) -> Option<u64>
-        ensures { number_in self.old ≡ option_map (λ n. (n, self.new)) result }
+        ensures { decimal_in self.old ≡ option_map (λ n. (n, self.new)) result }
     {
         let number = number_on(0, self.rest)?;
         let mut digits = ArrayString::new();
