@@ -7,7 +7,7 @@ use Rattle.usb_device.specs.Rows.{State}
 use Rattle.usb_pipe.specs.declared.condition.Condition.{Condition}
 use Rattle.usb_pipe.specs.declared.condition.Condition.TheVariants.{Ready, Halted, Broken}
 use Rattle.usb_pipe.specs.Bulk.{Bulk}
-use Rattle.usb_streams.specs.Stretches.{Told}
+use Rattle.usb_streams.specs.Stretches.{ToldItem}
 use Rattle.usb_streams.specs.Streams.{IsAtWork, IsFailedFront, Joins, TookSent, bytes_for, is_done, sent_to}
 
 -- the next bytes, and the next ones behind them
@@ -67,10 +67,10 @@ unfolding sent_to IsFailedFront
 took_none path left s = record { front = []; failed = refl; sink = sym (append-nil s.sink); works = λ works. refl }
 
 -- the pipe stays
-pub took_stay : (path : List ℕ) (told : List Told) (pipe left : Option Bulk) (s u v : State) → left ≡ pipe → v.sink ≡ u.sink → TookSent path told pipe s u → TookSent path told left s v
+pub took_stay : (path : List ℕ) (told : List ToldItem) (pipe left : Option Bulk) (s u v : State) → left ≡ pipe → v.sink ≡ u.sink → TookSent path told pipe s u → TookSent path told left s v
 took_stay path told pipe left s u v kept same x = record { front = x.front; failed = x.failed; sink = same ∙ x.sink; works = λ works. x.works (subst IsAtWork kept works) }
 
-pub took_then : (path : List ℕ) (t : Told) (told : List Told) (pipe left : Option Bulk) (s u v : State) → TookSent path told pipe s u → SinkStep (is_done t.item) (bytes_for path t.due) pipe left u v
+pub took_then : (path : List ℕ) (t : ToldItem) (told : List ToldItem) (pipe left : Option Bulk) (s u v : State) → TookSent path told pipe s u → SinkStep (is_done t.item) (bytes_for path t.due) pipe left u v
     → TookSent path (t ∷ told) left s v
 unfolding sent_to IsFailedFront
 took_then path t told pipe left s u v x y = by_work (works_or_not pipe)

@@ -13,7 +13,7 @@ use Rattle.usb_table.specs.Transfers.{SameSettings}
 use Rattle.usb_table.proofs.Interface.{still_source}
 use Rattle.usb_host.specs.BulkPipes.{SameBulk}
 use Rattle.usb_host.specs.Hosting.{Hosting}
-use Rattle.usb_streams.specs.Stretches.{Told}
+use Rattle.usb_streams.specs.Stretches.{ToldItem}
 use Rattle.usb_streams.specs.Streams.{AreTaken, ClearsNoIn, ClearsNoOut, GaveNextBy, Joins, Streams, StreamsAt, bytes_for, bytes_from, is_done, received_from}
 use Rattle.usb_streams.proofs.Bytes.{SinkStep, joins_behind, next_joined, took_none, took_stay, took_then}
 
@@ -52,7 +52,7 @@ pub record Stays (pipes left : Pipes) (s v : State) : Type 0 where
   pub spec : v.spec ≡ s.spec
 
 -- an item moves the bytes that it tells
-pub record Moves (path : List ℕ) (t : Told) (pipes left : Pipes) (s v : State) : Type 0 where
+pub record Moves (path : List ℕ) (t : ToldItem) (pipes left : Pipes) (s v : State) : Type 0 where
   pub sink : Joins (is_done t.item) (bytes_for path t.due) s.sink v.sink
   pub took : ClearsNoOut path t → SinkStep (is_done t.item) (bytes_for path t.due) (pipe_out pipes) (pipe_out left) s v
   pub gave : ClearsNoIn path t → GaveNextBy (bytes_from path t.item) (pipe_in pipes) (pipe_in left) s v
@@ -80,7 +80,7 @@ streams_none path pipes x s had = record {
   spec = refl;
 }
 
-pub streams_stay : (path : List ℕ) (told : List Told) (p q r : Pipes) (s u v : State) → Streams path told p q s u → Stays q r u v → Streams path told p r s v
+pub streams_stay : (path : List ℕ) (told : List ToldItem) (p q r : Pipes) (s u v : State) → Streams path told p q s u → Stays q r u v → Streams path told p r s v
 streams_stay path told p q r s u v x y = record {
   took = λ all. took_stay path told (pipe_out q) (pipe_out r) s u v y.out y.sink (x.took all);
   sink = (x.sink.0, x.sink.1, y.sink ∙ x.sink.2);
@@ -91,7 +91,7 @@ streams_stay path told p q r s u v x y = record {
   spec = y.spec ∙ x.spec;
 }
 
-pub streams_move : (path : List ℕ) (t : Told) (told : List Told) (p q r : Pipes) (s u v : State) → Streams path told p q s u → Moves path t q r u v → Streams path (t ∷ told) p r s v
+pub streams_move : (path : List ℕ) (t : ToldItem) (told : List ToldItem) (p q r : Pipes) (s u v : State) → Streams path told p q s u → Moves path t q r u v → Streams path (t ∷ told) p r s v
 unfolding AreTaken received_from
 streams_move path t told p q r s u v x y =
     let went = joins_behind (is_done t.item) (bytes_for path t.due) s.sink x.sink.0 u.sink v.sink x.sink.2 y.sink in

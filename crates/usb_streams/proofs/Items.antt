@@ -47,7 +47,7 @@ use Rattle.usb_serve.specs.declared.transfer.TransferFault.{TransferFault}
 use Rattle.usb_serve.specs.RunSegments.{Knows}
 use Rattle.usb_serve.specs.Transfers.{ClearTells, IsItemOf, ReceiveTells, SendTells, Transfers, failed, sent_count, transfer_ended}
 use Rattle.usb_serve.proofs.Interface.{count_done, told_cleared, told_received, told_sent}
-use Rattle.usb_streams.specs.Stretches.{Told}
+use Rattle.usb_streams.specs.Stretches.{ToldItem}
 use Rattle.usb_streams.specs.Streams.{ClearsNoIn, ClearsNoOut, GaveNextBy, IsAtWork, Joins, StreamsAt, bytes_for, bytes_from, is_done}
 use Rattle.usb_streams.proofs.Bytes.{SinkStep, joins_none, step_none}
 use Rattle.usb_streams.proofs.Devices.{Moves, gave_none}
@@ -209,7 +209,7 @@ module _ (bytes : List ℕ) (old new : World) (x : Spot) (s v : State) (on : rea
   by_pipes Absent left result other single fits x joins = untried (is_ok result) None (pipe_out left) (ap is_ok x.0) refl x.2
 
 -- what an item moves, by the bytes that it has for the path
-module _ (path : List ℕ) (t : Told) (pipes left : Pipes) (s v : State) where
+module _ (path : List ℕ) (t : ToldItem) (pipes left : Pipes) (s v : State) where
   moved : (to from : List ℕ) → bytes_for path t.due ≡ to → bytes_from path t.item ≡ from → Joins (is_done t.item) to s.sink v.sink → (ClearsNoOut path t → SinkStep (is_done t.item) to (pipe_out pipes) (pipe_out left) s v)
       → (ClearsNoIn path t → GaveNextBy from (pipe_in pipes) (pipe_in left) s v) → v.spec ≡ s.spec → Moves path t pipes left s v
   moved to from e f sink took gave spec = record {

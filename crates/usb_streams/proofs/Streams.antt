@@ -26,7 +26,7 @@ use Rattle.usb_serve.specs.RunSegments.{Comes, Knows, RoundTells, Settled}
 use Rattle.usb_serve.specs.Transcript.{AppendsText}
 use Rattle.usb_serve.specs.Transfers.{IsItemOf}
 use Rattle.usb_serve.proofs.Interface.{came_running, came_still, comes_onward}
-use Rattle.usb_streams.specs.Stretches.{LiesBetween, round, changed, last, wrote, Stretch, begun, further, more, Told}
+use Rattle.usb_streams.specs.Stretches.{LiesBetween, round, changed, last, wrote, Stretch, begun, further, more, ToldItem}
 use Rattle.usb_streams.specs.Streams.{StartsAt, StoodAt, StoodOrFound, Streams, StreamsAt}
 use Rattle.usb_streams.proofs.Devices.{Moves, Stays, at_then, spares_stays, streams_move, streams_none, streams_stay}
 use Rattle.usb_streams.proofs.Items.{MovesAt, item_moves}
@@ -61,7 +61,7 @@ renewed_starts path device a b renewed knows still at x s pipe is on stands e =
     begun_place pipe fits.0 s new.0 new.1 (renewed.endpoints x s is on stands).1 fits.1
 
 -- what lies between two items leaves it, with its bulk endpoints
-stayed_stands : (path : List ℕ) (device : Accepted) (told : List Told) (a b c : Hosting) → StoodAt path device told a b → StayedAt path device b c → StoodAt path device told a c
+stayed_stands : (path : List ℕ) (device : Accepted) (told : List ToldItem) (a b c : Hosting) → StoodAt path device told a b → StayedAt path device b c → StoodAt path device told a c
 stayed_stands path device told a b c stood stayed = record {
   listed = stood.listed;
   streams = at_then path (Streams path told (pipes_at path (table_in a)) (pipes_at path (table_in b))) (Stays (pipes_at path (table_in b)) (pipes_at path (table_in c)))
@@ -75,10 +75,10 @@ stayed_stands path device told a b c stood stayed = record {
         record { before = was.before; on = was.on; stands = was.stands; so = spares_stays (pipes_at path (table_in b)) (pipes_at path (table_in c)) x was.before v stayed.pipes was.so }
 
 -- so does an item, by the bytes that it tells
-moved_stands : (path : List ℕ) (device : Accepted) (told : List Told) (due : Due) (item : Item) (a b c : Hosting) → StoodAt path device told a b → MovesAt path device due item b c
+moved_stands : (path : List ℕ) (device : Accepted) (told : List ToldItem) (due : Due) (item : Item) (a b c : Hosting) → StoodAt path device told a b → MovesAt path device due item b c
     → StoodAt path device (record { due = due; asked = b; item = item } ∷ told) a c
 moved_stands path device told due item a b c stood moves =
-    let t : Told = record { due = due; asked = b; item = item } in
+    let t : ToldItem = record { due = due; asked = b; item = item } in
     record {
       listed = stood.listed;
       streams = at_then path (Streams path told (pipes_at path (table_in a)) (pipes_at path (table_in b))) (Moves path t (pipes_at path (table_in b)) (pipes_at path (table_in c)))
@@ -122,7 +122,7 @@ between_bulk {a} {b} (wrote text puts) knows still path device at = inl (wrote_s
 -- A stretch
 
 module _ (path : List ℕ) (device : Accepted) where
-  stood_on : {old h new : Hosting} {told : List Told} → Stretch old told h → LiesBetween h new → Knows h → new.world.fault ≡ None → accepted_device_at path new.entries ≡ Some device
+  stood_on : {old h new : Hosting} {told : List ToldItem} → Stretch old told h → LiesBetween h new → Knows h → new.world.fault ≡ None → accepted_device_at path new.entries ≡ Some device
       → (accepted_device_at path h.entries ≡ Some device → StoodOrFound path device told old h) → StoodOrFound path device told old new
   stood_on {old} {h} {new} {told} before between knows still at earlier = pick (between_bulk between knows still path device at)
     where
@@ -160,7 +160,7 @@ module _ (path : List ℕ) (device : Accepted) where
         all = refl;
       })
 
-  stood_more : {old h mid new : Hosting} {told : List Told} (due : Due) (item : Item) → Settled h → Comes h (Ok (Some due)) mid → IsItemOf due (Some item) mid new → accepted_device_at path new.entries ≡ Some device
+  stood_more : {old h mid new : Hosting} {told : List ToldItem} (due : Due) (item : Item) → Settled h → Comes h (Ok (Some due)) mid → IsItemOf due (Some item) mid new → accepted_device_at path new.entries ≡ Some device
       → (accepted_device_at path h.entries ≡ Some device → StoodOrFound path device told old h) → StoodOrFound path device (record { due = due; asked = mid; item = item } ∷ told) old new
   stood_more {old} {h} {mid} {new} {told} due item settled comes is at earlier = later (earlier stayed.listed)
     where
@@ -170,7 +170,7 @@ module _ (path : List ℕ) (device : Accepted) where
       stayed : StayedAt path device h mid
       stayed = came_stays (Some due) h mid comes path device moves.listed
 
-      on_to : (since : List Told) (from : Hosting) → StoodAt path device since from h → StoodAt path device (record { due = due; asked = mid; item = item } ∷ since) from new
+      on_to : (since : List ToldItem) (from : Hosting) → StoodAt path device since from h → StoodAt path device (record { due = due; asked = mid; item = item } ∷ since) from new
       on_to since from stood = moved_stands path device since due item from mid new (stayed_stands path device since from h mid stood stayed) moves
 
       later : StoodOrFound path device told old h → StoodOrFound path device (record { due = due; asked = mid; item = item } ∷ told) old new
@@ -190,7 +190,7 @@ module _ (path : List ℕ) (device : Accepted) where
         all = ap (λ l. record { due = due; asked = mid; item = item } ∷ l) f.all;
       })
 
-  stood : {old new : Hosting} {told : List Told} → Stretch old told new → Knows old → new.world.fault ≡ None → accepted_device_at path new.entries ≡ Some device → StoodOrFound path device told old new
+  stood : {old new : Hosting} {told : List ToldItem} → Stretch old told new → Knows old → new.world.fault ≡ None → accepted_device_at path new.entries ≡ Some device → StoodOrFound path device told old new
   stood {old} begun knows still at = inl (stood_none path device old knows still at)
   stood (further {h = h} {new = new} before between) knows still at =
       stood_on before between (stretch_knows before knows) still at (stood before knows ((between_onward between) still).sound)
@@ -198,6 +198,6 @@ module _ (path : List ℕ) (device : Accepted) where
       let mid_still = (item_onward due (Some item) mid new is still).sound in
       stood_more due item settled comes is at (stood before knows (comes_onward comes mid_still).sound)
 
-pub stood_or_found : (old new : Hosting) (told : List Told) → Stretch old told new → Knows old → new.world.fault ≡ None → (path : List ℕ) (device : Accepted) → accepted_device_at path new.entries ≡ Some device
+pub stood_or_found : (old new : Hosting) (told : List ToldItem) → Stretch old told new → Knows old → new.world.fault ≡ None → (path : List ℕ) (device : Accepted) → accepted_device_at path new.entries ≡ Some device
     → StoodOrFound path device told old new
 stood_or_found old new told t knows still path device at = stood path device t knows still at

@@ -16,7 +16,7 @@ use Rattle.usb_serve.specs.RunSegments.{Comes, Knows, Ran, idle, changed as ran_
 use Rattle.usb_serve.specs.Transcript.{AppendsText, Makes, asked, last as run_last, Transcript, begun as run_begun, told as run_told, shown}
 use Rattle.usb_serve.specs.Transfers.{IsItemOf, TransferTells}
 use Rattle.usb_serve.proofs.Interface.{Onward, called_onward, comes_onward, item_called, knows_then, puts_knows, puts_onward, round_called}
-use Rattle.usb_streams.specs.Stretches.{IsStretch, LiesBetween, round, changed, last, wrote, Stretch, begun, further, more, Told}
+use Rattle.usb_streams.specs.Stretches.{IsStretch, LiesBetween, round, changed, last, wrote, Stretch, begun, further, more, ToldItem}
 
 -- A part
 
@@ -59,7 +59,7 @@ item_onward due item a b is = called_onward (item_called due item a b is)
 
 -- A stretch
 
-pub stretch_knows : {old new : Hosting} {told : List Told} → Stretch old told new → Knows old → Knows new
+pub stretch_knows : {old new : Hosting} {told : List ToldItem} → Stretch old told new → Knows old → Knows new
 stretch_knows begun s = s
 stretch_knows (further before between) s = between_knows between (stretch_knows before s)
 stretch_knows (more {h = h} {mid = mid} {new = new} due item before settled comes is) s =
@@ -67,14 +67,14 @@ stretch_knows (more {h = h} {mid = mid} {new = new} due item before settled come
 
 -- A run
 
-with_rounds : {old a b : Hosting} {told : List Told} → Stretch old told a → Rounds a b → Stretch old told b
+with_rounds : {old a b : Hosting} {told : List ToldItem} → Stretch old told a → Rounds a b → Stretch old told b
 with_rounds t none = t
 with_rounds t (one_more {h} {k} done before tells goes) = further (with_rounds t before) (round done tells)
 
-with_settling : {old a b : Hosting} {told : List Told} → Stretch old told a → Settles a b → Stretch old told b
+with_settling : {old a b : Hosting} {told : List ToldItem} → Stretch old told a → Settles a b → Stretch old told b
 with_settling t settles = further (with_rounds t settles.rounds) (round settles.round settles.last)
 
-with_ran : {old a b : Hosting} {told : List Told} → Stretch old told a → Ran a b → Stretch old told b
+with_ran : {old a b : Hosting} {told : List ToldItem} → Stretch old told a → Ran a b → Stretch old told b
 with_ran t idle = t
 with_ran t (ran_changed {h} {k} before arrives) = further (with_settling (with_ran t before) arrives.settles) (changed arrives.comes)
 

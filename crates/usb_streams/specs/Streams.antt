@@ -24,7 +24,7 @@ use Rattle.usb_host.specs.Transfers.{table_in}
 use Rattle.usb_serve.specs.declared.runs.Item.{Item}
 use Rattle.usb_serve.specs.declared.runs.Item.TheVariants.{Listing, Sent, Received, Cleared}
 use Rattle.usb_serve.specs.RunSegments.{RoundTells}
-use Rattle.usb_streams.specs.Stretches.{Told, Stretch}
+use Rattle.usb_streams.specs.Stretches.{ToldItem, Stretch}
 
 -- Bytes
 
@@ -51,12 +51,12 @@ is_done (Received from told) = is_ok told
 is_done (Cleared at told) = is_ok told
 
 -- the bytes of the sends to a path that are told done, end to end
-unfoldable pub sent_to : List ℕ → List Told → List ℕ
+unfoldable pub sent_to : List ℕ → List ToldItem → List ℕ
 sent_to path [] = []
 sent_to path (t ∷ told) = sent_to path told ++ (if is_done t.item then bytes_for path t.due else [])
 
 -- the bytes of the receives from it, end to end; those of one that failed are none
-unfoldable pub received_from : List ℕ → List Told → List ℕ
+unfoldable pub received_from : List ℕ → List ToldItem → List ℕ
 received_from path [] = []
 received_from path (t ∷ told) = received_from path told ++ bytes_from path t.item
 
@@ -73,21 +73,21 @@ Joins true bytes before after = after ≡ before ++ bytes
 Joins false bytes before after = (front : List ℕ) × (rest : List ℕ) × (bytes ≡ front ++ rest) × (after ≡ before ++ front)
 
 -- these bytes of the sends to a path were taken, end to end: all bytes of each that is told done, and a front of those of each that failed
-unfoldable pub AreTaken : List ℕ → List Told → List ℕ → Type 0
+unfoldable pub AreTaken : List ℕ → List ToldItem → List ℕ → Type 0
 AreTaken path [] taken = taken ≡ []
 AreTaken path (t ∷ told) taken = (before : List ℕ) × AreTaken path told before × Joins (is_done t.item) (bytes_for path t.due) before taken
 
 -- none, or a front of the bytes of a send to the path that failed
-unfoldable pub IsFailedFront : List ℕ → List Told → List ℕ → Type 0
+unfoldable pub IsFailedFront : List ℕ → List ToldItem → List ℕ → Type 0
 IsFailedFront path [] front = front ≡ []
 IsFailedFront path (t ∷ told) front = ((is_done t.item ≡ false) × ((rest : List ℕ) × (bytes_for path t.due ≡ front ++ rest))) ⊎ IsFailedFront path told front
 
 -- a clear of the path found its OUT pipe at work, if there was one, and left it alone
-abbrev pub ClearsNoOut : List ℕ → Told → Type 0
+abbrev pub ClearsNoOut : List ℕ → ToldItem → Type 0
 ClearsNoOut path t = t.due ≡ Clear path → IsAtWork (pipe_out (pipes_at path (table_in t.asked)))
 
 -- the sends that are told done are, end to end, what the sink got, with at most a front of a failed one behind them, and none where the pipe works still
-pub record TookSent (path : List ℕ) (told : List Told) (left : Option Bulk) (s v : State) : Type 0 where
+pub record TookSent (path : List ℕ) (told : List ToldItem) (left : Option Bulk) (s v : State) : Type 0 where
   pub front : List ℕ
   pub failed : IsFailedFront path told front
   pub sink : v.sink ≡ s.sink ++ (sent_to path told ++ front)
@@ -96,7 +96,7 @@ pub record TookSent (path : List ℕ) (told : List Told) (left : Option Bulk) (s
 -- Receives
 
 -- a clear of the path found its IN pipe at work, if there was one, and left it alone
-abbrev pub ClearsNoIn : List ℕ → Told → Type 0
+abbrev pub ClearsNoIn : List ℕ → ToldItem → Type 0
 ClearsNoIn path t = t.due ≡ Clear path → IsAtWork (pipe_in (pipes_at path (table_in t.asked)))
 
 -- through a pipe that had got some number of bytes of the device's source these came, which are the next ones; the pipe has got so many more
@@ -114,7 +114,7 @@ GaveNextBy bytes (Some pipe) (Some left) s v = GaveNext bytes pipe left s v
 
 -- the device at a path took what was sent and gave the next bytes of its source, as long as no halt of the endpoint is cleared; over clears too each send
 -- that is told done was taken whole, and of each that failed a front; its IN pipe had got some number of bytes, and its description stays
-pub record Streams (path : List ℕ) (told : List Told) (pipes left : Pipes) (s v : State) : Type 0 where
+pub record Streams (path : List ℕ) (told : List ToldItem) (pipes left : Pipes) (s v : State) : Type 0 where
   pub took : AllByRecursion (ClearsNoOut path) told → TookSent path told (pipe_out left) s v
   pub sink : (taken : List ℕ) × AreTaken path told taken × (v.sink ≡ s.sink ++ taken)
   pub had : FitsIn (pipe_in pipes) s
@@ -127,7 +127,7 @@ StreamsAt path So old new = (x : Spot) (v : State) → path ≡ path_to x → re
     → Was (λ y s v. So s v) old.world x v
 
 -- the accepted device at a path stood there from the beginning of a stretch
-pub record StoodAt (path : List ℕ) (device : Accepted) (told : List Told) (old new : Hosting) : Type 0 where
+pub record StoodAt (path : List ℕ) (device : Accepted) (told : List ToldItem) (old new : Hosting) : Type 0 where
   pub listed : accepted_device_at path old.entries ≡ Some device
   pub streams : StreamsAt path (Streams path told (pipes_at path (table_in old)) (pipes_at path (table_in new))) old new
 
@@ -137,8 +137,8 @@ StartsAt path h = (x : Spot) (s : State) (pipe : Bulk) → path ≡ path_to x �
     → pipe_in (pipes_at path (table_in h)) ≡ Some pipe → FitsSource pipe s.place s
 
 -- it was found anew in a round of the stretch, and stood there since
-pub record FoundAt (path : List ℕ) (device : Accepted) (told : List Told) (old new : Hosting) : Type 0 where
-  pub earlier : List Told
+pub record FoundSince (path : List ℕ) (device : Accepted) (told : List ToldItem) (old new : Hosting) : Type 0 where
+  pub earlier : List ToldItem
   pub before : Hosting
   pub up_to : Stretch old earlier before
   pub done : Round
@@ -146,10 +146,10 @@ pub record FoundAt (path : List ℕ) (device : Accepted) (told : List Told) (old
   pub round : RoundTells before (Ok done) found
   pub renewed : RenewedAt path device before found
   pub starts : StartsAt path found
-  pub since : List Told
+  pub since : List ToldItem
   pub behind : Stretch found since new
   pub stood : StoodAt path device since found new
   pub all : since ++ earlier ≡ told
 
-abbrev pub StoodOrFound : List ℕ → Accepted → List Told → Hosting → Hosting → Type 0
-StoodOrFound path device told old new = StoodAt path device told old new ⊎ FoundAt path device told old new
+abbrev pub StoodOrFound : List ℕ → Accepted → List ToldItem → Hosting → Hosting → Type 0
+StoodOrFound path device told old new = StoodAt path device told old new ⊎ FoundSince path device told old new

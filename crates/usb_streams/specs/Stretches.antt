@@ -10,7 +10,7 @@ use Rattle.usb_serve.specs.Transcript.{AppendsText}
 use Rattle.usb_serve.specs.Transfers.{IsItemOf}
 
 -- an event that asked for an item, the host that it asked, and the item
-pub record Told : Type 0 where
+pub record ToldItem : Type 0 where
   pub due : Due
   pub asked : Hosting
   pub item : Item
@@ -24,10 +24,10 @@ pub data LiesBetween (old : Hosting) : Hosting → Type 0 where
 
 -- a stretch of a run, from one of its hosts to a later one, with what was told in it, the newest first: to a host that had settled an event comes, and it
 -- makes the item that the event asks for
-pub data Stretch (old : Hosting) : List Told → Hosting → Type 0 where
+pub data Stretch (old : Hosting) : List ToldItem → Hosting → Type 0 where
   begun : Stretch old [] old
-  further : {told : List Told} {h new : Hosting} → Stretch old told h → LiesBetween h new → Stretch old told new
-  more : {told : List Told} {h mid new : Hosting} (due : Due) (item : Item) → Stretch old told h → Settled h → Comes h (Ok (Some due)) mid
+  further : {told : List ToldItem} {h new : Hosting} → Stretch old told h → LiesBetween h new → Stretch old told new
+  more : {told : List ToldItem} {h mid new : Hosting} (due : Due) (item : Item) → Stretch old told h → Settled h → Comes h (Ok (Some due)) mid
       → IsItemOf due (Some item) mid new → Stretch old (record { due = due; asked = mid; item = item } ∷ told) new
 
 -- the items that events asked for, and behind them the last listing where the run is over
@@ -37,6 +37,6 @@ AreMade true asked items = (listing : Item) × (items ≡ listing ∷ asked)
 
 -- a run in which these items were made is a stretch
 pub record IsStretch (items : List Item) (over : Bool) (old new : Hosting) : Type 0 where
-  pub told : List Told
+  pub told : List ToldItem
   pub stretch : Stretch old told new
-  pub made : AreMade over (map (λ (t : Told). t.item) told) items
+  pub made : AreMade over (map (λ (t : ToldItem). t.item) told) items

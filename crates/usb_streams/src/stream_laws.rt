@@ -10,7 +10,7 @@ ghost use Rattle.usb_serve.specs.declared.serving.Mode.{Mode};
 ghost use Rattle.usb_serve.specs.RunSegments.{Knows};
 ghost use Rattle.usb_serve.specs.Transcript.{Transcript};
 ghost use Rattle.usb_streams.specs.Streams.{StoodOrFound};
-ghost use Rattle.usb_streams.specs.Stretches.{IsStretch, Stretch, Told};
+ghost use Rattle.usb_streams.specs.Stretches.{IsStretch, Stretch, ToldItem};
 
 /// Over any stretch of a run up to a host whose bus is at work, a device that is listed in the end stood at its path
 /// from the beginning, or since a round that found it anew. From there on its sink got, end to end, the bytes of the
@@ -18,7 +18,7 @@ ghost use Rattle.usb_streams.specs.Stretches.{IsStretch, Stretch, Told};
 /// told done handed back, end to end, the next bytes of its source, none twice and none left out: each as long as no
 /// halt of the endpoint is cleared.
 pub fn transfers_join()
-    ensures { (old new : Hosting) (told : List Told) → Stretch old told new → Knows old
+    ensures { (old new : Hosting) (told : List ToldItem) → Stretch old told new → Knows old
         → new.world.fault ≡ None
         → (path : List ℕ) (device : Accepted) → accepted_device_at path new.entries ≡ Some device
         → StoodOrFound path device told old new }
