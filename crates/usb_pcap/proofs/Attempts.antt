@@ -54,7 +54,8 @@ kept_where-some : (fits : Packet → Bool) (s r : Outgoing × List ℕ) → kept
 kept_where-some fits s r e =
     if_some (fits s.0.packet) (Some s) r e (λ h is. let same = same_Some s r is in (same, subst (λ (q : Outgoing × List ℕ). fits q.0.packet ≡ true) same h))
 
-host_data_in-some : (pre : Bool) (text : List ℕ) (r : Outgoing × List ℕ) → host_data_in pre text ≡ Some r → NextAs pre text r × (is_data_packet r.0.packet ≡ true)
+host_data_in-some : (pre : Bool) (text : List ℕ) (r : Outgoing × List ℕ) → host_data_in pre text ≡ Some r
+    → NextAs pre text r × (is_data_packet r.0.packet ≡ true)
 unfolding host_data_in
 host_data_in-some pre text r e =
     option_and_then_some (kept_where is_data_packet) (next_in pre text) r e (λ s first e.
@@ -125,7 +126,8 @@ attempt_begun-some number text r few e =
 attempt_in-some : (text : List ℕ) (r : TracedAttempt × List ℕ) → attempt_in text ≡ Some r → TracedAs text r
 unfolding attempt_in
 attempt_in-some text r e =
-    option_and_then_some (λ n. if nat_lt n.0 no_time then option_and_then (attempt_begun n.0) (strip (codes " ") n.1) else None) (decimal_in text) r e (λ n first e.
+    option_and_then_some (λ n. if nat_lt n.0 no_time then option_and_then (attempt_begun n.0) (strip (codes " ") n.1) else None)
+    (decimal_in text) r e (λ n first e.
     if_some (nat_lt n.0 no_time) (option_and_then (attempt_begun n.0) (strip (codes " ") n.1)) r e (λ few e.
     option_and_then_some (attempt_begun n.0) (strip (codes " ") n.1) r e (λ rest blank e.
     let front : text ≡ decimal n.0 ++ codes " " ++ rest = (decimal_in-some text n first).0 ∙ ap (λ l. decimal n.0 ++ l) (strip-some (codes " ") n.1 rest blank) ∙ simp append_assoc in
@@ -138,4 +140,5 @@ whole_line-some line (b, c ∷ text) a h e = absurd (cc)
 pub read_attempt-some : (line : List ℕ) (o : Option TracedAttempt) → o ≡ read_attempt line → IfSome o (λ a. IsAttemptLine line a)
 unfolding read_attempt
 read_attempt-some line None e = tt
-read_attempt-some line (Some a) e = option_and_then_some whole_line (attempt_in line) a (sym e) (λ r first e. whole_line-some line r a (attempt_in-some line r first) e)
+read_attempt-some line (Some a) e =
+    option_and_then_some whole_line (attempt_in line) a (sym e) (λ r first e. whole_line-some line r a (attempt_in-some line r first) e)

@@ -49,7 +49,8 @@ taken_long k line front b e full =
     let long = length-append line (b ∷ []) in
     (e ∙ sym (take-append-le k line (b ∷ []) many), is_more k (length (line ++ b ∷ [])) (omega (arith, long)))
 
-pub stands_first : (w now : Option (List ℕ)) (s : OpenLine) → Appends w now header → s.number ≡ 1 → s.front.items ≡ [] → s.is_long ≡ false → StandsBehind w now [] s
+pub stands_first : (w now : Option (List ℕ)) (s : OpenLine) → Appends w now header → s.number ≡ 1 → s.front.items ≡ [] → s.is_long ≡ false
+    → StandsBehind w now [] s
 stands_first w now s h number front long = record {
   n = 0;
   front = [];
@@ -111,8 +112,8 @@ closed w now text records s h tells =
 next_number-next : (n k m : ℕ) → k ≡ next_number n → m ≡ min (k + 1) (2 ^ 64 - 1) → m ≡ next_number (n + 1)
 next_number-next n k m e f = omega arith
 
-pub stands_closed : (w mid now : Option (List ℕ)) (text records : List ℕ) (s t : OpenLine) → StandsBehind w mid text s → Tells s records → Appends mid now records
-    → t.number ≡ min (s.number + 1) (2 ^ 64 - 1) → t.front.items ≡ [] → t.is_long ≡ false → StandsBehind w now (text ++ 10 ∷ []) t
+pub stands_closed : (w mid now : Option (List ℕ)) (text records : List ℕ) (s t : OpenLine) → StandsBehind w mid text s → Tells s records
+    → Appends mid now records → t.number ≡ min (s.number + 1) (2 ^ 64 - 1) → t.front.items ≡ [] → t.is_long ≡ false → StandsBehind w now (text ++ 10 ∷ []) t
 stands_closed w mid now text records s t h tells gone number front long = record {
   n = h.n + 1;
   front = text ++ 10 ∷ [];
@@ -127,8 +128,8 @@ stands_closed w mid now text records s t h tells gone number front long = record
   number = next_number-next h.n s.number t.number h.number number;
 }
 
-pub went_front : (w mid now : Option (List ℕ)) (text records : List ℕ) (s : OpenLine) → StandsBehind w mid text s → Tells s records → AppendsFront mid now records
-    → (n : ℕ) × WroteFront w now (text ++ 10 ∷ []) n
+pub went_front : (w mid now : Option (List ℕ)) (text records : List ℕ) (s : OpenLine) → StandsBehind w mid text s → Tells s records
+    → AppendsFront mid now records → (n : ℕ) × WroteFront w now (text ++ 10 ∷ []) n
 went_front w mid now text records s h tells gone = (
   h.n + 1,
   record {
