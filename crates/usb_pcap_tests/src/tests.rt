@@ -143,7 +143,7 @@ fn long_lines(rt: HostRuntime) -> Result<(), Fail> {
 
 #[test]
 fn one_attempt(rt: HostRuntime) {
-    let attempt = read_attempt(b"5 PRE IN 2.0 / NAK").unwrap();
+    let attempt = read_attempt(b"5 PRE IN 2.0 / NAK").expect(&rt, "an attempt");
     assert_eq!(rt; attempt.number, 5);
     assert!(rt; attempt.pre);
 }
