@@ -111,7 +111,7 @@ const WORDS: [(&[&str], &str); 18] = [
     (&["tree", "--help"], TREE_HELP),
     (&["draw", "--help"], DRAW_HELP),
     (&["--help"], HELP),
-    (&["--version"], "usbplan 0.1.0\n"),
+    (&["--version"], "usbplan 0.2.0\n"),
 ];
 
 /// What the words ask for, or the text that is shown in its place.
