@@ -1,6 +1,7 @@
 pub mod Spec
 pub mod SaidLengths
 pub mod Bulk
+pub mod ServedBulk
 pub mod Request
 pub mod Transfer
 pub mod Rows
@@ -13,6 +14,8 @@ pub mod Delivery
 pub mod Marks
 pub mod Code
 pub mod ReceivedBytes
+pub mod AnswerPids
+pub mod Hearings
 pub mod Attempt
 pub mod PacketFrames
 pub mod View

@@ -77,6 +77,10 @@ with_endpoints d (unhalts endpoint) = with_endpoint_state d endpoint rested
 with_endpoints d (tells_port i) = d
 with_endpoints d (calls_port c i) = d
 
+-- the configuration is taken
+abbrev pub configured : State → ℕ → State
+configured d c = record d { registers = record d.registers { configuration = c } }
+
 -- a request begins a transfer, and ends the one before
 abbrev pub begun : State → List PortState → ℕ → Outcome → State
 begun d row wanted o = record (with_endpoints d o) { registers = registers_at_setup d.registers o; naks = d.spec.naks; stage = first_stage row wanted o }

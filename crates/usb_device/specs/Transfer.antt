@@ -1,5 +1,6 @@
 -- Where a control transfer stands, and the packets of an answer (8.5.3).
-use Rattle.std.specs.Prelude.{ℕ, zero, suc, ◌+◌, ◌*◌, ◌/◌, ◌%◌, ◌==◌, nat_lt, if◌then◌else◌, ◌&&◌, ◌||◌, not, List, [], ◌++◌, length, take, drop, slice_get, Option, None, Some, unwrap_or}
+use Rattle.std.specs.Prelude.{ℕ, zero, suc, ◌+◌, ◌*◌, ◌/◌, ◌%◌, ◌==◌, nat_lt, if◌then◌else◌, ◌&&◌, ◌||◌, not, Bool, true, false, List, [], ◌++◌, length, take, drop, slice_get, Option, None, Some, unwrap_or}
+use Rattle.arrayvec.specs.ArrayVec.{ArrayVec}
 use Rattle.usb_packet.specs.declared.Toggle.{Toggle}
 use Rattle.usb_packet.specs.declared.Toggle.TheVariants.{Zero, One}
 use Rattle.usb_descriptor.specs.Device.{max_packet_0}
@@ -50,6 +51,11 @@ abbrev pub packet_at : ℕ → ℕ → List ℕ → ℕ → Option (List ℕ)
 packet_at max wanted answer k =
     let bytes = take wanted answer in
     if nat_lt k (packet_count max wanted (length bytes)) then Some (take max (drop (k * max) bytes)) else None
+
+-- what is in the room, where a packet was put there
+abbrev pub put_if : Bool → ArrayVec ℕ → Option (List ℕ)
+put_if true room = Some room.items
+put_if false room = None
 
 -- the first k packets of an answer, end to end
 abbrev pub packets_joined : ℕ → ℕ → List ℕ → ℕ → List ℕ

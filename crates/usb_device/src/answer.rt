@@ -1,6 +1,7 @@
 //! What a device answers.
 ghost use Rattle.std.specs.Prelude.{◌≡◌};
 ghost use Rattle.usb_device.specs.ReceivedBytes.{Answers, packet_of};
+ghost use Rattle.usb_device.specs.AnswerPids.{answer_of, answer_with};
 
 use arrayvec::ArrayVec;
 use usb_packet::{Packet, Toggle, encode};
@@ -31,9 +32,44 @@ impl Answer {
     }
 }
 
+/// The packet identifier of an answer (8.3.1). The bytes of data stand in a room beside it.
+#[derive(Clone, Copy, Debug)]
+pub enum AnswerPid {
+    Ack,
+    Nak,
+    Stall,
+    Data(Toggle),
+}
+
+impl AnswerPid {
+    /// The answer, which has these bytes where it is data.
+    pub fn with_bytes(self, bytes: ArrayVec<u8, 64>) -> Answer
+        ensures { result ≡ answer_of self bytes }
+    {
+        match self {
+            AnswerPid::Ack => Answer::Ack,
+            AnswerPid::Nak => Answer::Nak,
+            AnswerPid::Stall => Answer::Stall,
+            AnswerPid::Data(toggle) => Answer::Data { toggle, bytes },
+        }
+    }
+
+    /// The packet itself, which has these bytes where it is data.
+    pub fn into_packet(self, bytes: ArrayVec<u8, 64>) -> Packet
+        ensures { result ≡ packet_of (answer_of self bytes) }
+    {
+        match self {
+            AnswerPid::Ack => Packet::Ack,
+            AnswerPid::Nak => Packet::Nak,
+            AnswerPid::Stall => Packet::Stall,
+            AnswerPid::Data(toggle) => Packet::Payload { toggle, bytes },
+        }
+    }
+}
+
 /// The bytes of an answer.
-pub fn spelled(answer: Option<Answer>) -> Option<ArrayVec<u8, 67>>
-    ensures { Answers result answer }
+pub fn spelled(pid: Option<AnswerPid>, bytes: ArrayVec<u8, 64>) -> Option<ArrayVec<u8, 67>>
+    ensures { Answers result (answer_with pid bytes) }
 {
-    Some(encode(&answer?.into_packet()))
+    Some(encode(&pid?.into_packet(bytes)))
 }

@@ -1,14 +1,14 @@
 //! The endpoints of a device besides endpoint 0 (5.8, 11.12): which ones there are, their toggles
 //! and their halts.
-ghost use Rattle.std.specs.Prelude.{◌≡◌, ◌≤◌, length};
+ghost use Rattle.std.specs.Prelude.{◌≡◌, ◌≤◌};
 ghost use Rattle.std.specs.Option.{IfSome};
 ghost use Rattle.usb_descriptor.specs.Choice.{IsUsable};
 ghost use Rattle.usb_device.specs.Bulk.{turned, halted, count_down, is_last, text_with, total_of, bulk_in, bulk_at, is_end, served, advanced, tells_changes};
+ghost use Rattle.usb_device.specs.ServedBulk.{AreServed};
 
 use crate::lists::Bytes;
 use crate::request::{Registers, has_value};
 use crate::spec::DeviceSpec;
-use arrayvec::ArrayVec;
 use usb_descriptor::read_config;
 use usb_packet::Toggle;
 use usb_request::endpoint_address::{DIRECTION_IN, STATUS_ENDPOINT};
@@ -38,6 +38,19 @@ pub enum ServedEndpoint {
     /// IN 1 of a hub.
     Changes,
 }
+
+/// The bulk endpoints that a device serves: of each its number and its maximum packet (9.6.6).
+#[derive(Clone, Copy, Debug)]
+pub struct BulkEndpoints {
+    pub bulk_out: Option<(u8, u8)>,
+    pub bulk_in: Option<(u8, u8)>,
+}
+
+/// Those of a device that is not configured: none.
+pub const NO_BULK: BulkEndpoints = BulkEndpoints {
+    bulk_out: None,
+    bulk_in: None,
+};
 
 /// The endpoint after a packet that moved.
 pub fn turned(state: EndpointState) -> EndpointState
@@ -121,7 +134,7 @@ fn bulk_in(is_in: bool, text: &[u8]) -> Option<(u8, u8)>
 }
 
 /// The bulk endpoint of a direction that is served: its number and its maximum packet.
-pub fn bulk_at(spec: &DeviceSpec, registers: Registers, is_in: bool) -> Option<(u8, u8)>
+fn bulk_at(spec: &DeviceSpec, registers: Registers, is_in: bool) -> Option<(u8, u8)>
     ensures value { result ≡ bulk_at spec.now registers is_in }
     ensures usable { IfSome result IsUsable }
 {
@@ -131,6 +144,16 @@ pub fn bulk_at(spec: &DeviceSpec, registers: Registers, is_in: bool) -> Option<(
     let text = text_with(u16::from(registers.configuration), spec.configs());
     let total = total_of(text).min(text.len());
     bulk_in(is_in, &text[..total])
+}
+
+/// Both bulk endpoints that are served.
+pub fn bulk_endpoints(spec: &DeviceSpec, registers: Registers) -> BulkEndpoints
+    ensures { AreServed spec.now registers result }
+{
+    BulkEndpoints {
+        bulk_out: bulk_at(spec, registers, false),
+        bulk_in: bulk_at(spec, registers, true),
+    }
 }
 
 fn is_end(index: u16, offset: u16, end: Option<(u8, u8)>) -> bool
@@ -174,14 +197,4 @@ pub fn advanced(place: usize, max: u8, len: usize) -> usize
     ensures { result ≡ advanced place max len }
 {
     place + len.saturating_sub(place).min(usize::from(max))
-}
-
-/// The bytes of a packet.
-pub fn carried(bytes: &[u8]) -> ArrayVec<u8, 64>
-    requires { length bytes.now ≤ 64 }
-    ensures { result.items ≡ bytes.now }
-{
-    let mut packet = ArrayVec::new();
-    let _ = packet.try_extend_from_slice(bytes);
-    packet
 }

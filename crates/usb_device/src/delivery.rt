@@ -3,14 +3,18 @@ ghost use Rattle.std.specs.Prelude.{◌≡◌, false, true, IfOk, OnOk, OnErr};
 ghost use Rattle.std.specs.Option.{option_copied};
 ghost use Rattle.usb_device.specs.LentPackets.{content_of};
 ghost use Rattle.usb_device.specs.Tree.{row_of};
+ghost use Rattle.usb_device.specs.Rows.{sink_grows};
+ghost use Rattle.usb_device.specs.ReceivedBytes.{received_by};
 ghost use Rattle.usb_device.specs.Places.{ports_kept, stood};
 ghost use Rattle.usb_device.specs.StoppedPackets.{Stopped, StoppedDevice, StoppedPlace, IsRefused, IsRefusedContent};
-ghost use Rattle.usb_device.specs.Delivery.{Carries, is_heard, heard_from, both, heard_joined, with_answer, delivered, taken_content, taken_sent, delivered_device, delivered_place, figure, figure_in, figure_of};
+ghost use Rattle.usb_device.specs.Delivery.{Carries, is_heard, heard_joined, with_answer, delivered, taken_content, taken_sent, delivered_device, delivered_place, figure, figure_in, figure_of};
 
 use crate::answer::Answer;
 use crate::device::Device;
+use crate::hearing::{HeardPid, Hearing};
 use crate::lent_packet::LentPacket;
 use crate::ports::{Place, Ports};
+use arrayvec::ArrayVec;
 use std::alloc::AllocError;
 use usb_packet::{Packet, decode};
 
@@ -57,18 +61,6 @@ pub enum Heard {
     Collision,
 }
 
-/// An answer joins what was heard before it.
-fn join(heard: &mut Heard, answer: Option<Answer>)
-    ensures { heard.new ≡ both heard.old (heard_from answer) }
-{
-    if let Some(answer) = answer {
-        match heard {
-            Heard::NoAnswer => *heard = Heard::One(answer),
-            Heard::One(_) | Heard::Collision => *heard = Heard::Collision,
-        }
-    }
-}
-
 /// Whether a device of a speed hears a packet, which is `deep` where it stands on a port of a hub:
 /// there it hears low-speed packets only with PRE.
 pub(crate) fn is_heard(sent: &LentPacket<'_>, deep: bool, low: bool) -> bool
@@ -97,9 +89,9 @@ impl Ports {
         ensures row { OnErr result (row_of self.new ≡ row_of self.old) }
         ensures stopped { OnErr result (Stopped sent.now false self.old self.new) }
     {
-        let mut heard = Heard::NoAnswer;
+        let mut heard = Hearing::nothing();
         self.deliver_after(&LentPacket::of(sent), &mut heard)?;
-        Ok(heard)
+        Ok(heard.into_heard())
     }
 
     /// The same behind another packet, of which something may have been heard: what is heard of
@@ -107,7 +99,7 @@ impl Ports {
     pub fn deliver_after(
         &mut self,
         sent: &LentPacket<'_>,
-        heard: &mut Heard,
+        heard: &mut Hearing,
     ) -> Result<(), AllocError>
         ensures ok { OnOk result ((heard.new, self.new)
             ≡ heard_joined heard.old (delivered sent.now false self.old)) }
@@ -124,7 +116,7 @@ impl Ports {
         &mut self,
         sent: &LentPacket<'_>,
         deep: bool,
-        heard: &mut Heard,
+        heard: &mut Hearing,
     ) -> Result<(), AllocError>
         ensures ok { OnOk result ((heard.new, self.new)
             ≡ heard_joined heard.old (delivered sent.now deep self.old)) }
@@ -145,7 +137,7 @@ fn deliver_all(
     places: &mut [Place],
     sent: &LentPacket<'_>,
     deep: bool,
-    heard: &mut Heard,
+    heard: &mut Hearing,
 ) -> Result<(), AllocError>
     ensures ok { OnOk result ((heard.new, ports_kept places.new)
         ≡ heard_joined heard.old (delivered sent.now deep (ports_kept places.old))) }
@@ -169,7 +161,7 @@ impl Place {
         &mut self,
         sent: &LentPacket<'_>,
         deep: bool,
-        heard: &mut Heard,
+        heard: &mut Hearing,
     ) -> Result<(), AllocError>
         ensures ok { OnOk result ((heard.new, stood self.new)
             ≡ heard_joined heard.old (delivered_place sent.now deep (stood self.old))) }
@@ -194,7 +186,7 @@ impl Device {
         &mut self,
         sent: &LentPacket<'_>,
         deep: bool,
-        heard: &mut Heard,
+        heard: &mut Hearing,
     ) -> Result<(), AllocError>
         ensures ok { OnOk result ((heard.new, self.new)
             ≡ heard_joined heard.old (delivered_device sent.now deep self.old)) }
@@ -210,7 +202,7 @@ impl Device {
         &mut self,
         sent: &LentPacket<'_>,
         deep: bool,
-        heard: &mut Heard,
+        heard: &mut Hearing,
     ) -> Result<(), AllocError>
         ensures ok { OnOk result ((heard.new, self.new)
             ≡ with_answer heard.old (taken_sent sent.now deep self.old)) }
@@ -227,7 +219,7 @@ impl Device {
     /// A packet that is for another device, and one that cannot be read, only end what the device
     /// remembers.
     #[tactic(auto, using(crate::proofs::Deliveries::strays))]
-    fn take_read(&mut self, packet: Option<&Packet>, heard: &mut Heard) -> Result<(), AllocError>
+    fn take_read(&mut self, packet: Option<&Packet>, heard: &mut Hearing) -> Result<(), AllocError>
         ensures ok { OnOk result ((heard.new, self.new) ≡ with_answer heard.old
             (taken_content (content_of (option_copied packet.entry)) self.old)) }
         ensures err { OnErr result (self.new ≡ self.old) }
@@ -235,12 +227,34 @@ impl Device {
             (IsRefusedContent (content_of (option_copied packet.entry)) self.old.own) }
     {
         match packet {
-            Some(packet) if self.own.is_for(packet) => {
-                let mut answer = None;
-                self.take(packet, &mut answer)?;
-                join(heard, answer);
+            Some(packet) if self.own.is_for(packet) => self.join(packet, heard),
+            _ => {
+                self.own.unread();
+                Ok(())
             }
-            _ => self.own.unread(),
+        }
+    }
+
+    /// A packet at the device itself, whose answer joins what was heard before it. The bytes of a
+    /// second answer, which nobody reads, are put aside.
+    fn join(&mut self, packet: &Packet, heard: &mut Hearing) -> Result<(), AllocError>
+        ensures ok { OnOk result ((heard.new, self.new)
+            ≡ with_answer heard.old (received_by self.old packet.now)) }
+        ensures err { OnErr result (self.new ≡ self.old) }
+        ensures grows { OnErr result (sink_grows self.old.own packet.now ≡ true) }
+    {
+        match heard.pid {
+            HeardPid::Nothing => {
+                if let Some(pid) = self.take(packet, &mut heard.room)? {
+                    heard.pid = HeardPid::One(pid);
+                }
+            }
+            HeardPid::One(_) | HeardPid::Collision => {
+                let mut aside = ArrayVec::new();
+                if self.take(packet, &mut aside)?.is_some() {
+                    heard.pid = HeardPid::Collision;
+                }
+            }
         }
         Ok(())
     }

@@ -1,12 +1,13 @@
 //! A plugged device with all that is plugged below it.
-ghost use Rattle.std.specs.Prelude.{◌≡◌, ◌≤◌, length, None, IfOk, OnOk, OnErr, true, is_some, option_map};
+ghost use Rattle.std.specs.Prelude.{◌≡◌, ◌≤◌, length, None, IfOk, OnErr, true, is_some, option_map};
 ghost use Rattle.std.specs.Option.{option_copied};
 ghost use Rattle.usb_port.specs.PortState.{status_of};
 ghost use Rattle.usb_device.specs.Rows.{sink_grows, awaits_address};
 ghost use Rattle.usb_device.specs.Tree.{new_device, first_ports, reset_whole, row_of, numbered, acted, child_of, with_child, without_child};
+ghost use Rattle.usb_device.specs.AnswerPids.{answer_with};
 ghost use Rattle.usb_device.specs.ReceivedBytes.{AnswersPacket, GrowsBy, received_by};
 
-use crate::answer::{Answer, spelled};
+use crate::answer::{AnswerPid, spelled};
 use crate::effect::Effect;
 use crate::own::Own;
 use crate::ports::Ports;
@@ -126,9 +127,9 @@ impl Device {
     {
         match decode(bytes) {
             Ok(packet) => {
-                let mut answer = None;
-                self.take(&packet, &mut answer)?;
-                Ok(spelled(answer))
+                let mut room = ArrayVec::new();
+                let pid = self.take(&packet, &mut room)?;
+                Ok(spelled(pid, room))
             }
             Err(_) => {
                 self.own.unread();
@@ -137,20 +138,21 @@ impl Device {
         }
     }
 
-    /// A packet at the device itself; what it answers is put into `answer`.
+    /// A packet at the device itself; the bytes of its answer are put into `room`.
     pub(crate) fn take(
         &mut self,
         packet: &Packet,
-        answer: &mut Option<Answer>,
-    ) -> Result<(), AllocError>
-        ensures answer { OnOk result ((answer.new, self.new) ≡ received_by self.old packet.now) }
+        room: &mut ArrayVec<u8, 64>,
+    ) -> Result<Option<AnswerPid>, AllocError>
+        ensures answer { IfOk result (λ pid.
+            (answer_with pid room.new, self.new) ≡ received_by self.old packet.now) }
         ensures refused { OnErr result (self.new ≡ self.old) }
         ensures grows { OnErr result (sink_grows self.old.own packet.now ≡ true) }
     {
-        let effect = self.own.asks(packet);
-        self.own.received(&self.ports, packet, answer)?;
+        let mut effect = Effect::Leaves;
+        let pid = self.own.received(&self.ports, packet, room, &mut effect)?;
         self.act(effect);
-        Ok(())
+        Ok(pid)
     }
 
     fn act(&mut self, effect: Effect)

@@ -10,6 +10,7 @@ mod delivery;
 mod device;
 mod devices;
 mod effect;
+mod hearing;
 mod hub_spec;
 mod laws;
 mod lent_packet;
@@ -22,12 +23,13 @@ mod shared;
 mod spec;
 mod transfer;
 
-pub use answer::Answer;
+pub use answer::{Answer, AnswerPid};
 pub use children::Parent;
 pub use delivery::{Content, Heard, Sent};
 pub use device::Device;
 pub use devices::Devices;
 pub use effect::Effect;
+pub use hearing::{HeardPid, Hearing};
 pub use hub_spec::{HubSpec, has_hub_class};
 pub use laws::{
     answer_laws, attempt_laws, control_read_goes_on, sink_goes_on, source_goes_on, stray_laws,

@@ -1,22 +1,28 @@
 //! A device without its ports: its transfers, packet by packet (8.5).
-ghost use Rattle.std.specs.Prelude.{◌≡◌, ◌≤◌, ◌==◌, None, if◌then◌else◌, is_some, length, option_map};
+ghost use Rattle.std.specs.Prelude.{◌≡◌, ◌≤◌, ◌==◌, None, if◌then◌else◌, is_some, length};
+ghost use Rattle.std.specs.Option.{IfSome};
+ghost use Rattle.usb_descriptor.specs.Choice.{IsUsable};
 ghost use Rattle.usb_device.specs.Spec.{Spec};
 ghost use Rattle.usb_device.specs.Code.{source_bytes, hub_text, text_at, meaning_of, stage_of};
-ghost use Rattle.usb_device.specs.Transfer.{max_packet, packet_at, reads, first_stage};
+ghost use Rattle.usb_device.specs.Transfer.{max_packet, packet_at, put_if, reads, first_stage};
 ghost use Rattle.usb_device.specs.StrayPackets.{awaits_data, awaits_ack};
 ghost use Rattle.usb_device.specs.Tree.{row_of};
+ghost use Rattle.usb_device.specs.Effect.{effect_of_request};
+ghost use Rattle.usb_device.specs.AnswerPids.{Room, answer_with};
 
-use crate::answer::Answer;
+use crate::answer::AnswerPid;
 use crate::bulk::{
-    EndpointState, RESTED, ServedEndpoint, advanced, bulk_at, carried, counted_down, halted,
-    is_last, tells_changes, turned,
+    BulkEndpoints, EndpointState, NO_BULK, RESTED, ServedEndpoint, advanced, bulk_endpoints,
+    counted_down, halted, is_last, tells_changes, turned,
 };
 use crate::effect::Effect;
 use crate::lists::Bytes;
 use crate::ports::Ports;
 use crate::request::{AT_RESET, Reaction, Registers, Source, react};
 use crate::spec::DeviceSpec;
-use crate::transfer::{InEndpoint, Progress, RememberedPacket, has_packet, packet_at, toggle_at};
+use crate::transfer::{
+    InEndpoint, Progress, RememberedPacket, fill, has_packet, put_packet, toggle_at,
+};
 use arrayvec::ArrayVec;
 use std::alloc::{AllocError, Global};
 use std::marker::Model;
@@ -30,6 +36,8 @@ use usb_request::Setup;
 pub struct Own {
     spec: DeviceSpec,
     registers: Registers,
+    /// The bulk endpoints of the configuration.
+    served: BulkEndpoints,
     /// What the packet before left.
     memory: RememberedPacket,
     /// How many NAKs are still to be given in this transfer.
@@ -53,6 +61,7 @@ pub struct Own {
 impl Model for Own {
     ghost use Rattle.usb_device.specs.Rows.{State};
     ghost use Rattle.usb_device.specs.Code.{stage_of};
+    ghost use Rattle.usb_device.specs.ServedBulk.{AreServed};
 
     ghost Value = { State };
 
@@ -70,6 +79,8 @@ impl Model for Own {
       until_halt = d.until_halt;
       place = d.place;
     } };
+
+    ghost invariant = { λ d. AreServed d.spec d.registers d.served };
 }
 
 fn hub_text(spec: &DeviceSpec) -> &[u8]
@@ -124,6 +135,17 @@ fn first_progress(ports: &Ports, wanted: u16, reaction: Reaction) -> Progress
     }
 }
 
+/// What a request asks of the ports.
+fn effect_of(reaction: Reaction) -> Effect
+    ensures { (s : Spec) → result ≡ effect_of_request (meaning_of s reaction) }
+{
+    match reaction {
+        Reaction::CallPort(call, port) => Effect::Calls(call, port),
+        Reaction::TakeConfiguration(_) => Effect::PortsOff,
+        _ => Effect::Leaves,
+    }
+}
+
 fn awaits_data(memory: RememberedPacket) -> bool
     ensures { result ≡ awaits_data memory }
 {
@@ -145,10 +167,10 @@ fn awaits_ack(memory: RememberedPacket) -> bool
 
 impl Own {
     ghost use Rattle.usb_device.specs.StrayPackets.{is_for};
-    ghost use Rattle.std.specs.Prelude.{IfOk, OnOk, OnErr, true, false, [], ◌∷◌};
+    ghost use Rattle.std.specs.Prelude.{IfOk, OnErr, true, false, [], ◌∷◌};
     ghost use Rattle.usb_device.specs.declared.transfer.InEndpoint.TheVariants as by;
     ghost use Rattle.usb_device.specs.Effect.{asks, asked_by_data, asked_by_setup};
-    ghost use Rattle.usb_device.specs.Rows.{State, received, unread, forgotten, awaits_address, fresh, reset_state, accepted, begun, is_busy, nak_row, gives, in_row, status_row, out_row, ack_row, token_row, setup_row, payload_row, answered, unless_busy, endpoint_state, with_endpoint_state, bulk_of, rest_of, source_row, bulk_ack_row, acknowledged, sink_row, sinks, in_bulk_row, out_bulk_row, bulk_sinks, data_row, payload_sinks, sink_grows, is_other_out, after_memory, with_endpoints, in_other_row, changes_row, new_changes_row};
+    ghost use Rattle.usb_device.specs.Rows.{State, received, unread, forgotten, awaits_address, fresh, reset_state, accepted, configured, begun, is_busy, nak_row, gives, in_row, status_row, out_row, ack_row, token_row, setup_row, payload_row, answered, unless_busy, endpoint_state, with_endpoint_state, bulk_of, rest_of, source_row, bulk_ack_row, acknowledged, sink_row, sinks, in_bulk_row, out_bulk_row, bulk_sinks, data_row, payload_sinks, sink_grows, is_other_out, after_memory, with_endpoints, in_other_row, changes_row, new_changes_row};
 
     /// A device that was just plugged, with a copy of its description.
     ///
@@ -162,6 +184,7 @@ impl Own {
         Ok(Own {
             spec: spec.try_clone(alloc)?,
             registers: AT_RESET,
+            served: NO_BULK,
             memory: RememberedPacket::Nothing,
             naks: 0,
             progress: Progress::Idle,
@@ -227,6 +250,7 @@ impl Own {
     {
         self.attempt_over();
         self.registers = AT_RESET;
+        self.served = NO_BULK;
         self.naks = 0;
         self.progress = Progress::Idle;
         self.held = None;
@@ -269,44 +293,59 @@ impl Own {
         }
     }
 
-    /// A packet at the device, by what its ports tell; what it answers is put into `answer`.
+    /// A packet at the device, by what its ports tell. The bytes of its answer are put into `room`,
+    /// and what it asks of the ports into `effect`.
     ///
     /// # Errors
     ///
     /// Memory was refused for a packet that joins the sink, and the device is as it was.
-    #[tactic(auto, unfolding(crate::specs::Rows::received))]
+    #[tactic(auto, unfolding(crate::specs::Rows::received, crate::specs::Effect::asks))]
     pub fn received(
         &mut self,
         ports: &Ports,
         packet: &Packet,
-        answer: &mut Option<Answer>,
-    ) -> Result<(), AllocError>
-        ensures answer { OnOk result ((answer.new, self.new)
+        room: &mut ArrayVec<u8, 64>,
+        effect: &mut Effect,
+    ) -> Result<Option<AnswerPid>, AllocError>
+        ensures answer { IfOk result (λ pid. (answer_with pid room.new, self.new)
             ≡ received self.old (row_of ports.now) packet.now) }
+        ensures asked { effect.new ≡ asks self.old packet.now }
         ensures refused { OnErr result (self.new ≡ self.old) }
         ensures grows { OnErr result (sink_grows self.old packet.now ≡ true) }
     {
-        *answer = None;
+        *effect = Effect::Leaves;
         if self.spec.is_silent() {
-            return Ok(());
+            return Ok(None);
         }
         match packet {
             Packet::Payload { toggle, bytes } => {
-                *answer = self.payload(ports, *toggle, bytes.as_slice())?;
+                Ok(self.payload(ports, *toggle, bytes.as_slice(), effect)?)
             }
             Packet::Token { kind, addr, ep } => {
                 self.attempt_over();
-                *answer = self.token(ports, *kind, *addr, *ep);
+                Ok(self.token(ports, *kind, *addr, *ep, room))
             }
-            Packet::Ack => self.acknowledged(),
-            Packet::Sof(_) | Packet::Nak | Packet::Stall | Packet::Pre => self.attempt_over(),
+            Packet::Ack => {
+                self.acknowledged();
+                Ok(None)
+            }
+            Packet::Sof(_) | Packet::Nak | Packet::Stall | Packet::Pre => {
+                self.attempt_over();
+                Ok(None)
+            }
         }
-        Ok(())
     }
 
     /// A token, which is for this device where it has its address.
-    fn token(&mut self, ports: &Ports, kind: TokenKind, addr: u8, ep: u8) -> Option<Answer>
-        ensures { (result, self.new) ≡ (if addr == self.old.registers.address
+    fn token(
+        &mut self,
+        ports: &Ports,
+        kind: TokenKind,
+        addr: u8,
+        ep: u8,
+        room: &mut ArrayVec<u8, 64>,
+    ) -> Option<AnswerPid>
+        ensures { (answer_with result room.new, self.new) ≡ (if addr == self.old.registers.address
             then token_row self.old (row_of ports.now) kind ep else (None, self.old)) }
     {
         if addr != self.registers.address {
@@ -323,21 +362,24 @@ impl Own {
                 self.memory = RememberedPacket::OutSeen(ep);
                 None
             }
-            TokenKind::InTok if ep == 0 => self.give_unless_busy(),
-            TokenKind::InTok => self.give_other(ports, ep),
+            TokenKind::InTok if ep == 0 => self.give_unless_busy(room),
+            TokenKind::InTok => self.give_other(ports, ep, room),
         }
     }
 
-    /// Data, by what the packet before left.
+    /// Data, by what the packet before left; of the ports something is asked by setup data alone.
     fn payload(
         &mut self,
         ports: &Ports,
         toggle: Toggle,
         bytes: &[u8],
-    ) -> Result<Option<Answer>, AllocError>
-        ensures answer { IfOk result (λ answer. (answer, self.new)
+        effect: &mut Effect,
+    ) -> Result<Option<AnswerPid>, AllocError>
+        requires { effect.old ≡ Effect.Leaves }
+        ensures answer { IfOk result (λ pid. (room : Room) → (answer_with pid room, self.new)
             ≡ payload_row (forgotten self.old) (row_of ports.now) self.old.memory toggle
             bytes.now) }
+        ensures asked { effect.new ≡ asked_by_data self.old self.old.memory toggle bytes.now }
         ensures refused { OnErr result (self.new ≡ self.old) }
         ensures grows { OnErr result
             (payload_sinks self.old self.old.memory toggle bytes.now ≡ true) }
@@ -346,7 +388,7 @@ impl Own {
             RememberedPacket::OutSeen(ep) if ep != 0 => self.take_bulk(ep, toggle, bytes),
             memory => {
                 self.attempt_over();
-                Ok(self.control_payload(ports, memory, toggle, bytes))
+                Ok(self.control_payload(ports, memory, toggle, bytes, effect))
             }
         }
     }
@@ -358,25 +400,32 @@ impl Own {
         memory: RememberedPacket,
         toggle: Toggle,
         bytes: &[u8],
-    ) -> Option<Answer>
-        requires { is_other_out memory ≡ false }
-        ensures { (result, self.new)
+        effect: &mut Effect,
+    ) -> Option<AnswerPid>
+        requires memory { is_other_out memory ≡ false }
+        requires effect { effect.old ≡ Effect.Leaves }
+        ensures answer { (room : Room) → (answer_with result room, self.new)
             ≡ payload_row self.old (row_of ports.now) memory toggle bytes.now }
+        ensures asked { effect.new ≡ asked_by_data self.old memory toggle bytes.now }
     {
         match (memory, toggle) {
-            (RememberedPacket::SetupSeen, Toggle::Zero) => self.take_setup(ports, bytes),
+            (RememberedPacket::SetupSeen, Toggle::Zero) => self.take_setup(ports, bytes, effect),
             (RememberedPacket::OutSeen(_), toggle) => self.take_unless_busy(toggle, bytes),
             _ => None,
         }
     }
 
     /// Setup data.
-    fn take_setup(&mut self, ports: &Ports, bytes: &[u8]) -> Option<Answer>
-        ensures { (result, self.new) ≡ setup_row self.old (row_of ports.now) bytes.now }
+    fn take_setup(&mut self, ports: &Ports, bytes: &[u8], effect: &mut Effect) -> Option<AnswerPid>
+        requires { effect.old ≡ Effect.Leaves }
+        ensures answer { (room : Room) → (answer_with result room, self.new)
+            ≡ setup_row self.old (row_of ports.now) bytes.now }
+        ensures asked { effect.new ≡ asked_by_data self.old RememberedPacket.SetupSeen Toggle.Zero
+            bytes.now }
     {
         let setup = Setup::from_bytes(bytes.try_into().ok()?);
-        self.accept(ports, &setup);
-        Some(Answer::Ack)
+        *effect = self.accept(ports, &setup);
+        Some(AnswerPid::Ack)
     }
 
     /// The host's ACK.
@@ -400,18 +449,19 @@ impl Own {
         }
     }
 
-    fn give_unless_busy(&mut self) -> Option<Answer>
-        ensures { (result, self.new) ≡ unless_busy self.old (in_row self.old self.old.stage) }
+    fn give_unless_busy(&mut self, room: &mut ArrayVec<u8, 64>) -> Option<AnswerPid>
+        ensures { (answer_with result room.new, self.new)
+            ≡ unless_busy self.old (in_row self.old self.old.stage) }
     {
         if self.is_busy() {
             self.nak()
         } else {
-            self.give()
+            self.give(room)
         }
     }
 
-    fn take_unless_busy(&mut self, toggle: Toggle, bytes: &[u8]) -> Option<Answer>
-        ensures { (result, self.new)
+    fn take_unless_busy(&mut self, toggle: Toggle, bytes: &[u8]) -> Option<AnswerPid>
+        ensures { (room : Room) → (answer_with result room, self.new)
             ≡ unless_busy self.old (out_row self.old self.old.stage toggle bytes.now) }
     {
         if self.is_busy() {
@@ -427,18 +477,21 @@ impl Own {
         self.spec.is_busy() || self.naks > 0
     }
 
-    fn nak(&mut self) -> Option<Answer>
-        ensures { (result, self.new) ≡ nak_row self.old }
+    fn nak(&mut self) -> Option<AnswerPid>
+        ensures { (room : Room) → (answer_with result room, self.new) ≡ nak_row self.old }
     {
         self.naks = self.naks.saturating_sub(1);
-        Some(Answer::Nak)
+        Some(AnswerPid::Nak)
     }
 
-    fn accept(&mut self, ports: &Ports, setup: &Setup)
-        ensures { self.new ≡ accepted self.old (row_of ports.now) setup.now }
+    /// A request is accepted; what it asks of the ports is handed back.
+    fn accept(&mut self, ports: &Ports, setup: &Setup) -> Effect
+        ensures begun { self.new ≡ accepted self.old (row_of ports.now) setup.now }
+        ensures asked { result ≡ asked_by_setup self.old setup.now }
     {
         let reaction = react(&self.spec, self.registers, setup);
         self.begin(ports, setup.length, reaction);
+        effect_of(reaction)
     }
 
     /// A request begins a transfer.
@@ -448,10 +501,18 @@ impl Own {
     {
         self.set_endpoints(reaction);
         if let Reaction::TakeConfiguration(value) = reaction {
-            self.registers.configuration = value;
+            self.configure(value);
         }
         self.naks = self.spec.naks();
         self.progress = first_progress(ports, wanted, reaction);
+    }
+
+    /// A configuration is taken, and its bulk endpoints are served from here on (9.4.7).
+    fn configure(&mut self, value: u8)
+        ensures { self.new ≡ configured self.old value }
+    {
+        self.registers.configuration = value;
+        self.served = bulk_endpoints(&self.spec, self.registers);
     }
 
     /// What a request makes of the endpoints.
@@ -506,32 +567,30 @@ impl Own {
     fn asks_by_setup(&self, setup: &Setup) -> Effect
         ensures { result ≡ asked_by_setup self.now setup.now }
     {
-        match react(&self.spec, self.registers, setup) {
-            Reaction::CallPort(call, port) => Effect::Calls(call, port),
-            Reaction::TakeConfiguration(_) => Effect::PortsOff,
-            _ => Effect::Leaves,
-        }
+        effect_of(react(&self.spec, self.registers, setup))
     }
 
-    /// A packet of the answer that the host reads.
-    fn packet_at(&self, source: Source, wanted: u16, k: u32) -> Option<ArrayVec<u8, 64>>
-        ensures { option_map (λ v. v.items) result
+    /// Puts a packet of the answer that the host reads into the room, and tells whether there is
+    /// one.
+    fn put_packet(&self, source: Source, wanted: u16, k: u32, room: &mut ArrayVec<u8, 64>) -> bool
+        ensures { put_if result room.new
             ≡ packet_at (max_packet self.now.spec) wanted (source_bytes self.now.spec source) k }
     {
         let max = usize::from(self.spec.max_packet());
         match source {
-            Source::Descriptor => packet_at(max, wanted, self.spec.descriptor(), k),
-            Source::Config(i) => packet_at(max, wanted, text_at(self.spec.configs(), i), k),
-            Source::Text(i) => packet_at(max, wanted, text_at(self.spec.strings(), i), k),
-            Source::Hub => packet_at(max, wanted, hub_text(&self.spec), k),
-            Source::Status => packet_at(
+            Source::Descriptor => put_packet(max, wanted, self.spec.descriptor(), k, room),
+            Source::Config(i) => put_packet(max, wanted, text_at(self.spec.configs(), i), k, room),
+            Source::Text(i) => put_packet(max, wanted, text_at(self.spec.strings(), i), k, room),
+            Source::Hub => put_packet(max, wanted, hub_text(&self.spec), k, room),
+            Source::Status => put_packet(
                 max,
                 wanted,
                 &[u8::from(self.spec.is_self_powered()), 0],
                 k,
+                room,
             ),
-            Source::Configuration(value) => packet_at(max, wanted, &[value], k),
-            Source::Port(bytes) => packet_at(max, wanted, &bytes, k),
+            Source::Configuration(value) => put_packet(max, wanted, &[value], k, room),
+            Source::Port(bytes) => put_packet(max, wanted, &bytes, k, room),
         }
     }
 
@@ -560,63 +619,63 @@ impl Own {
     }
 
     /// Data from the device, of which an ACK is awaited.
-    fn give_data(
-        &mut self,
-        endpoint: InEndpoint,
-        toggle: Toggle,
-        bytes: ArrayVec<u8, 64>,
-    ) -> Option<Answer>
-        ensures { (result, self.new) ≡ gives self.old endpoint toggle bytes.items }
+    fn give_data(&mut self, endpoint: InEndpoint, toggle: Toggle) -> Option<AnswerPid>
+        ensures { (room : Room) → (answer_with result room, self.new)
+            ≡ gives self.old endpoint toggle room.items }
     {
         self.memory = RememberedPacket::AckAwaited(endpoint);
-        Some(Answer::Data { toggle, bytes })
+        Some(AnswerPid::Data(toggle))
     }
 
     /// IN 0 of a device that is not busy.
-    fn give(&mut self) -> Option<Answer>
-        ensures { (result, self.new) ≡ in_row self.old self.old.stage }
+    fn give(&mut self, room: &mut ArrayVec<u8, 64>) -> Option<AnswerPid>
+        ensures { (answer_with result room.new, self.new) ≡ in_row self.old self.old.stage }
     {
         match self.progress {
             Progress::Idle | Progress::Read => None,
-            Progress::Refused => Some(Answer::Stall),
+            Progress::Refused => Some(AnswerPid::Stall),
             Progress::Reading {
                 source,
                 wanted,
                 given,
             } => {
-                let bytes = self.packet_at(source, wanted, given)?;
-                self.give_data(InEndpoint::Control, toggle_at(given), bytes)
+                if self.put_packet(source, wanted, given, room) {
+                    self.give_data(InEndpoint::Control, toggle_at(given))
+                } else {
+                    None
+                }
             }
-            Progress::Ending(_) => self.give_data(
-                InEndpoint::Control,
-                Toggle::One,
-                ArrayVec::new(),
-            ),
+            Progress::Ending(_) => {
+                fill(room, &[]);
+                self.give_data(InEndpoint::Control, Toggle::One)
+            }
         }
     }
 
     /// OUT 0 with good data, of a device that is not busy.
-    fn take(&mut self, toggle: Toggle, bytes: &[u8]) -> Option<Answer>
-        ensures { (result, self.new) ≡ out_row self.old self.old.stage toggle bytes.now }
+    fn take(&mut self, toggle: Toggle, bytes: &[u8]) -> Option<AnswerPid>
+        ensures { (room : Room) → (answer_with result room, self.new)
+            ≡ out_row self.old self.old.stage toggle bytes.now }
     {
         match self.progress {
             Progress::Idle | Progress::Ending(_) => None,
-            Progress::Refused => Some(Answer::Stall),
+            Progress::Refused => Some(AnswerPid::Stall),
             Progress::Reading { .. } | Progress::Read => self.take_status(toggle, bytes),
         }
     }
 
     /// The status stage of a control read.
-    fn take_status(&mut self, toggle: Toggle, bytes: &[u8]) -> Option<Answer>
-        ensures { (result, self.new) ≡ status_row self.old toggle bytes.now }
+    fn take_status(&mut self, toggle: Toggle, bytes: &[u8]) -> Option<AnswerPid>
+        ensures { (room : Room) → (answer_with result room, self.new)
+            ≡ status_row self.old toggle bytes.now }
     {
         match toggle {
-            Toggle::Zero => Some(Answer::Ack),
+            Toggle::Zero => Some(AnswerPid::Ack),
             Toggle::One if bytes.is_empty() => {
                 self.progress = Progress::Read;
-                Some(Answer::Ack)
+                Some(AnswerPid::Ack)
             }
-            Toggle::One => Some(Answer::Stall),
+            Toggle::One => Some(AnswerPid::Stall),
         }
     }
 
@@ -646,6 +705,22 @@ impl Own {
                 self.progress = Progress::Idle;
             }
         }
+    }
+
+    /// The bulk OUT endpoint: its number and its maximum packet.
+    fn served_out(&self) -> Option<(u8, u8)>
+        ensures value { result ≡ bulk_of self.now false }
+        ensures usable { IfSome result IsUsable }
+    {
+        self.served.bulk_out
+    }
+
+    /// The bulk IN endpoint: its number and its maximum packet.
+    fn served_in(&self) -> Option<(u8, u8)>
+        ensures value { result ≡ bulk_of self.now true }
+        ensures usable { IfSome result IsUsable }
+    {
+        self.served.bulk_in
     }
 
     fn endpoint(&self, endpoint: ServedEndpoint) -> EndpointState
@@ -681,44 +756,52 @@ impl Own {
     }
 
     /// IN of an endpoint that is not endpoint 0.
-    fn give_other(&mut self, ports: &Ports, ep: u8) -> Option<Answer>
-        ensures { (result, self.new) ≡ in_other_row self.old (row_of ports.now) ep }
+    fn give_other(
+        &mut self,
+        ports: &Ports,
+        ep: u8,
+        room: &mut ArrayVec<u8, 64>,
+    ) -> Option<AnswerPid>
+        ensures { (answer_with result room.new, self.new)
+            ≡ in_other_row self.old (row_of ports.now) ep }
     {
         if ep == 1 && tells_changes(&self.spec, self.registers) {
-            self.give_changes(ports)
+            self.give_changes(ports, room)
         } else {
-            self.give_bulk(ep)
+            self.give_bulk(ep, room)
         }
     }
 
     /// IN 1 of a configured hub.
-    fn give_changes(&mut self, ports: &Ports) -> Option<Answer>
-        ensures { (result, self.new) ≡ changes_row self.old (row_of ports.now) }
+    fn give_changes(&mut self, ports: &Ports, room: &mut ArrayVec<u8, 64>) -> Option<AnswerPid>
+        ensures { (answer_with result room.new, self.new)
+            ≡ changes_row self.old (row_of ports.now) }
     {
         if self.changes.halted {
-            return Some(Answer::Stall);
+            return Some(AnswerPid::Stall);
         }
         match self.held {
-            Some(bits) => self.give_bits(bits),
-            None => self.give_new_changes(ports.change_bits()),
+            Some(bits) => self.give_bits(bits, room),
+            None => self.give_new_changes(ports.change_bits(), room),
         }
     }
 
-    fn give_bits(&mut self, bits: u8) -> Option<Answer>
-        ensures { (result, self.new)
+    fn give_bits(&mut self, bits: u8, room: &mut ArrayVec<u8, 64>) -> Option<AnswerPid>
+        ensures { (answer_with result room.new, self.new)
             ≡ gives self.old by.Changes self.old.changes.toggle (bits ∷ []) }
     {
-        self.give_data(InEndpoint::Changes, self.changes.toggle, carried(&[bits]))
+        fill(room, &[bits]);
+        self.give_data(InEndpoint::Changes, self.changes.toggle)
     }
 
-    fn give_new_changes(&mut self, bits: u8) -> Option<Answer>
-        ensures { (result, self.new) ≡ new_changes_row self.old bits }
+    fn give_new_changes(&mut self, bits: u8, room: &mut ArrayVec<u8, 64>) -> Option<AnswerPid>
+        ensures { (answer_with result room.new, self.new) ≡ new_changes_row self.old bits }
     {
         if bits == 0 {
-            return Some(Answer::Nak);
+            return Some(AnswerPid::Nak);
         }
         self.held = Some(bits);
-        self.give_bits(bits)
+        self.give_bits(bits, room)
     }
 
     /// The host's ACK of what IN 1 of a hub gave.
@@ -730,36 +813,37 @@ impl Own {
     }
 
     /// IN of an endpoint that is neither endpoint 0 nor a hub's endpoint 1.
-    fn give_bulk(&mut self, ep: u8) -> Option<Answer>
-        ensures { (result, self.new) ≡ in_bulk_row self.old ep (bulk_of self.old true) }
+    fn give_bulk(&mut self, ep: u8, room: &mut ArrayVec<u8, 64>) -> Option<AnswerPid>
+        ensures { (answer_with result room.new, self.new)
+            ≡ in_bulk_row self.old ep (bulk_of self.old true) }
     {
-        match bulk_at(&self.spec, self.registers, true) {
-            Some((number, max)) if number == ep => self.give_source(max),
+        match self.served_in() {
+            Some((number, max)) if number == ep => self.give_source(max, room),
             _ => None,
         }
     }
 
     /// IN of the bulk IN endpoint.
-    fn give_source(&mut self, max: u8) -> Option<Answer>
+    fn give_source(&mut self, max: u8, room: &mut ArrayVec<u8, 64>) -> Option<AnswerPid>
         requires { max ≤ 64 }
-        ensures { (result, self.new) ≡ source_row self.old max }
+        ensures { (answer_with result room.new, self.new) ≡ source_row self.old max }
     {
         if self.bulk_in.halted {
-            return Some(Answer::Stall);
+            return Some(AnswerPid::Stall);
         }
         let rest = self.rest();
         if rest.is_empty() {
-            return Some(Answer::Nak);
+            return Some(AnswerPid::Nak);
         }
-        let bytes = carried(&rest[..rest.len().min(usize::from(max))]);
-        self.give_data(InEndpoint::Bulk, self.bulk_in.toggle, bytes)
+        fill(room, &rest[..rest.len().min(usize::from(max))]);
+        self.give_data(InEndpoint::Bulk, self.bulk_in.toggle)
     }
 
     /// The host's ACK of what the bulk IN endpoint gave.
     fn acknowledge_bulk(&mut self)
         ensures { self.new ≡ bulk_ack_row self.old (bulk_of self.old true) }
     {
-        if let Some((_, max)) = bulk_at(&self.spec, self.registers, true) {
+        if let Some((_, max)) = self.served_in() {
             self.place = advanced(self.place, max, self.spec.source().len());
             self.bulk_in = turned(self.bulk_in);
         }
@@ -771,14 +855,14 @@ impl Own {
         ep: u8,
         toggle: Toggle,
         bytes: &[u8],
-    ) -> Result<Option<Answer>, AllocError>
-        ensures answer { IfOk result (λ answer. (answer, self.new)
+    ) -> Result<Option<AnswerPid>, AllocError>
+        ensures answer { IfOk result (λ pid. (room : Room) → (answer_with pid room, self.new)
             ≡ out_bulk_row (forgotten self.old) ep (bulk_of self.old false) toggle bytes.now) }
         ensures refused { OnErr result (self.new ≡ self.old) }
         ensures grows { OnErr result
             (bulk_sinks self.old ep (bulk_of self.old false) toggle bytes.now ≡ true) }
     {
-        match bulk_at(&self.spec, self.registers, false) {
+        match self.served_out() {
             Some((number, max)) if number == ep => self.take_data(max, toggle, bytes),
             _ => {
                 self.attempt_over();
@@ -793,15 +877,15 @@ impl Own {
         max: u8,
         toggle: Toggle,
         bytes: &[u8],
-    ) -> Result<Option<Answer>, AllocError>
-        ensures answer { IfOk result (λ answer. (answer, self.new)
+    ) -> Result<Option<AnswerPid>, AllocError>
+        ensures answer { IfOk result (λ pid. (room : Room) → (answer_with pid room, self.new)
             ≡ sink_row (forgotten self.old) max toggle bytes.now) }
         ensures refused { OnErr result (self.new ≡ self.old) }
         ensures grows { OnErr result (sinks self.old max toggle bytes.now ≡ true) }
     {
         if self.bulk_out.halted {
             self.attempt_over();
-            return Ok(Some(Answer::Stall));
+            return Ok(Some(AnswerPid::Stall));
         }
         if usize::from(max) < bytes.len() {
             self.attempt_over();
@@ -816,6 +900,6 @@ impl Own {
             self.until_halt = counted_down(self.until_halt);
         }
         self.attempt_over();
-        Ok(Some(Answer::Ack))
+        Ok(Some(AnswerPid::Ack))
     }
 }

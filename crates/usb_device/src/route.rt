@@ -6,9 +6,9 @@ ghost use Rattle.usb_device.specs.View.{state_in, reach_in};
 ghost use Rattle.usb_device.specs.Delivery.{both, heard_from, effect_of};
 ghost use Rattle.usb_device.specs.Route.{sent_in, answer_by, RefusedBy, effect_by, forgotten_in, address_by, holds_by, is_held_at, HolderBehind, HolderAmong, HolderAt};
 
-use crate::delivery::Heard;
 use crate::device::Device;
 use crate::effect::Effect;
+use crate::hearing::Hearing;
 use crate::lent_packet::LentPacket;
 use crate::ports::{Place, Ports};
 use arrayvec::ArrayVec;
@@ -28,7 +28,7 @@ impl Ports {
         path: &[u8],
         sent: &LentPacket<'_>,
         deep: bool,
-        heard: &mut Heard,
+        heard: &mut Hearing,
     ) -> Result<(), AllocError>
         ensures heard { OnOk result (heard.new ≡ both heard.old
             (heard_from (answer_by sent.now deep (device_there self.old path.now)))) }
@@ -127,7 +127,7 @@ impl Place {
         path: &[u8],
         sent: &LentPacket<'_>,
         deep: bool,
-        heard: &mut Heard,
+        heard: &mut Hearing,
     ) -> Result<(), AllocError>
         ensures heard { OnOk result (heard.new ≡ both heard.old
             (heard_from (answer_by sent.now deep (plugged_in (stood self.old) path.now)))) }

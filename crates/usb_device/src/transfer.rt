@@ -1,6 +1,6 @@
 //! Where a control transfer stands, and the packets of an answer (8.5.3).
-ghost use Rattle.std.specs.Prelude.{◌≡◌, ◌≤◌, ◌<◌, ℕ, List, length, is_some, option_map};
-ghost use Rattle.usb_device.specs.Transfer.{packet_count, packet_at, toggle_at};
+ghost use Rattle.std.specs.Prelude.{◌≡◌, ◌≤◌, ◌<◌, ℕ, List, length, is_some};
+ghost use Rattle.usb_device.specs.Transfer.{packet_count, packet_at, put_if, toggle_at};
 
 use crate::request::Source;
 use arrayvec::ArrayVec;
@@ -63,11 +63,27 @@ fn packet_count(max: usize, wanted: usize, len: usize) -> usize
     }
 }
 
-/// The bytes of packet `k` of an answer, counted from 0.
-pub fn packet_at(max: usize, wanted: u16, answer: &[u8], k: u32) -> Option<ArrayVec<u8, 64>>
+/// The bytes stand in the room, in place of those that were there.
+pub fn fill(room: &mut ArrayVec<u8, 64>, bytes: &[u8])
+    requires { length bytes.now ≤ 64 }
+    ensures { room.new.items ≡ bytes.now }
+{
+    room.clear();
+    let _ = room.try_extend_from_slice(bytes);
+}
+
+/// Puts the bytes of packet `k` of an answer, counted from 0, into the room, and tells whether
+/// there is one.
+pub fn put_packet(
+    max: usize,
+    wanted: u16,
+    answer: &[u8],
+    k: u32,
+    room: &mut ArrayVec<u8, 64>,
+) -> bool
     requires low { 8 ≤ max }
     requires high { max ≤ 64 }
-    ensures { option_map (λ v. v.items) result ≡ packet_at max wanted answer.now k }
+    ensures { put_if result room.new ≡ packet_at max wanted answer.now k }
 {
     let wanted = usize::from(wanted);
     let end = answer.len().min(wanted);
@@ -76,11 +92,10 @@ pub fn packet_at(max: usize, wanted: u16, answer: &[u8], k: u32) -> Option<Array
         let start = k * max;
         let stop = end.min(start + max);
         let bytes = &answer[..end];
-        let mut packet = ArrayVec::new();
-        let _ = packet.try_extend_from_slice(&bytes[start..stop]);
-        Some(packet)
+        fill(room, &bytes[start..stop]);
+        true
     } else {
-        None
+        false
     }
 }
 

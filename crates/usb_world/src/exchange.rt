@@ -21,7 +21,7 @@ use crate::wire::{Mark, Outgoing, flipped, harm_to, mark_of, marked};
 use crate::{Attempt, Outcome};
 use arrayvec::ArrayVec;
 use std::alloc::AllocError;
-use usb_device::{Answer, Content, Effect, Heard, LentPacket, Ports};
+use usb_device::{Content, Effect, HeardPid, Hearing, LentPacket, Ports};
 use usb_packet::{Packet, encode, one_flipped_bit};
 
 /// What the devices' answers to an attempt are together.
@@ -37,18 +37,14 @@ pub enum ExchangeAnswer {
 
 /// What was heard of the devices, as packets.
 #[tactic(auto, unfolding(crate::specs::HeardAnswers::heard_above))]
-fn put_answer(heard: Heard, answer: &mut ExchangeAnswer)
+fn put_answer(heard: Hearing, answer: &mut ExchangeAnswer)
     ensures { answer.new ≡ heard_above heard }
 {
-    match heard {
-        Heard::NoAnswer => *answer = ExchangeAnswer::Nothing,
-        Heard::Collision => *answer = ExchangeAnswer::Collision,
-        Heard::One(Answer::Ack) => *answer = ExchangeAnswer::One(Packet::Ack),
-        Heard::One(Answer::Nak) => *answer = ExchangeAnswer::One(Packet::Nak),
-        Heard::One(Answer::Stall) => *answer = ExchangeAnswer::One(Packet::Stall),
-        Heard::One(Answer::Data { toggle, bytes }) => {
-            *answer = ExchangeAnswer::One(Packet::Payload { toggle, bytes });
-        }
+    let (pid, bytes) = heard.into_parts();
+    match pid {
+        HeardPid::Nothing => *answer = ExchangeAnswer::Nothing,
+        HeardPid::Collision => *answer = ExchangeAnswer::Collision,
+        HeardPid::One(pid) => *answer = ExchangeAnswer::One(pid.into_packet(bytes)),
     }
 }
 
@@ -176,7 +172,7 @@ fn send_packets(
         (after_sent (token_out attempt.now damage) roots.old) roots.new) }
 {
     put_token(attempt, damage, &mut exchange.token);
-    let mut heard = Heard::NoAnswer;
+    let mut heard = Hearing::nothing();
     send(roots, path, &goes_out(attempt, &exchange.token), &mut heard)?;
     put_payload(attempt, damage, &mut exchange.payload);
     let data = some_goes_out(attempt, &exchange.payload);
@@ -266,7 +262,7 @@ fn send(
     roots: &mut Ports,
     path: &[u8],
     sent: &Option<LentPacket<'_>>,
-    heard: &mut Heard,
+    heard: &mut Hearing,
 ) -> Result<(), AllocError>
     requires { AloneAt sent.now roots.old path.now }
     ensures plugged { StaysPlugged roots.old roots.new }
@@ -373,7 +369,7 @@ fn acknowledge(
         (IsStopped (goes_out attempt.now (Some packet.now)) roots.old roots.new) }
 {
     let sent = goes_out(attempt, packet);
-    let mut unanswered = Heard::NoAnswer;
+    let mut unanswered = Hearing::nothing();
     if let Mark::Flipped(_) = packet.mark {
         let awaited = has_loss(roots, path);
         send(roots, path, &sent, &mut unanswered)?;

@@ -37,7 +37,9 @@ returns-clause-made c =
       to_token = c.send.new.heard;
       to_both = c.send-2.new.heard;
       token = c.put_token.ensures.value;
-      token_heard = c.in_ok-send.ensures.went.heard ∙ ap (λ q. heard_of (answers_to q c.args.roots.now)) c.goes_out.ensures;
+      token_heard =
+          c.in_ok-send.ensures.went.heard ∙ ap (λ h. both h (heard_of (answers_to c.goes_out.result c.args.roots.now))) c.nothing-heard.ensures
+          ∙ ap (λ q. heard_of (answers_to q c.args.roots.now)) c.goes_out.ensures;
       token_went = c.in_ok-send.ensures.went.ports ∙ ap (λ q. after_sent q c.args.roots.now) c.goes_out.ensures;
       payload = c.put_payload.ensures.value;
       cleared = c.clears_change-exchange.ensures.clears ∙ ap (λ q. clears_at q c.send.new.roots) c.some_goes_out-data.ensures;

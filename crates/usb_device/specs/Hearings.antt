@@ -1,0 +1,12 @@
+-- What is heard, where the bytes of data stand in a room beside.
+use Rattle.usb_device.specs.declared.delivery.Heard.{Heard}
+use Rattle.usb_device.specs.declared.delivery.Heard.TheVariants as heard
+use Rattle.usb_device.specs.declared.hearing.HeardPid.{HeardPid}
+use Rattle.usb_device.specs.declared.hearing.HeardPid.TheVariants.{Nothing, One, Collision}
+use Rattle.usb_device.specs.AnswerPids.{Room, answer_of}
+
+-- the room counts where one device answered by data
+abbrev pub heard_with : HeardPid → Room → Heard
+heard_with Nothing room = heard.NoAnswer
+heard_with (One pid) room = heard.One (answer_of pid room)
+heard_with Collision room = heard.Collision

@@ -1,0 +1,67 @@
+//! What is heard of the answers to a packet, as it comes.
+ghost use Rattle.std.specs.Prelude.{◌≡◌};
+ghost use Rattle.usb_device.specs.declared.delivery.Heard.TheVariants.{NoAnswer};
+ghost use Rattle.usb_device.specs.Hearings.{heard_with};
+
+use crate::answer::AnswerPid;
+use crate::delivery::Heard;
+use arrayvec::ArrayVec;
+use std::marker::Model;
+
+/// The packet identifier that is heard.
+#[derive(Clone, Copy, Debug)]
+pub enum HeardPid {
+    /// No device answered.
+    Nothing,
+    /// One device answered.
+    One(AnswerPid),
+    /// More than one answered, and nothing of it can be read.
+    Collision,
+}
+
+/// What is heard so far after a packet went out, as `Heard` has it; the bytes of data stand in one
+/// room, into which the devices put them.
+#[derive(Drop)]
+pub struct Hearing {
+    pub(crate) pid: HeardPid,
+    pub(crate) room: ArrayVec<u8, 64>,
+}
+
+impl Model for Hearing {
+    ghost use Rattle.usb_device.specs.declared.delivery.Heard.{Heard};
+    ghost use Rattle.usb_device.specs.Hearings.{heard_with};
+
+    ghost Value = { Heard };
+
+    ghost view = { λ h. heard_with h.pid h.room };
+}
+
+impl Hearing {
+    /// Nothing is heard yet.
+    pub fn nothing() -> Self
+        ensures { result ≡ NoAnswer }
+    {
+        Hearing {
+            pid: HeardPid::Nothing,
+            room: ArrayVec::new(),
+        }
+    }
+
+    /// The packet identifier that was heard, and the room: its bytes are those of data.
+    pub fn into_parts(self) -> (HeardPid, ArrayVec<u8, 64>)
+        ensures { heard_with result.0 result.1 ≡ self }
+    {
+        (self.pid, self.room)
+    }
+
+    /// What was heard.
+    pub fn into_heard(self) -> Heard
+        ensures { result ≡ self }
+    {
+        match self.pid {
+            HeardPid::Nothing => Heard::NoAnswer,
+            HeardPid::One(pid) => Heard::One(pid.with_bytes(self.room)),
+            HeardPid::Collision => Heard::Collision,
+        }
+    }
+}
