@@ -11,7 +11,7 @@ use Rattle.usb_world.specs.World.{World}
 abbrev pub world_of : {T : Type 0} {g : Ghosts T} → SimBus T g → World
 world_of s = record {
   roots = s.roots;
-  devices = s.devices.items;
+  devices = s.devices;
   left = s.left.items;
   taken = s.taken;
   attempts = s.attempts;

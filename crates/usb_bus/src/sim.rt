@@ -15,14 +15,16 @@ ghost use Rattle.usb_bus.specs.Watch.{has_failed, tells_failure};
 ghost use Rattle.usb_world.specs.declared.types.BusFault.TheVariants.{LimitReached};
 
 mod bus;
+mod descriptions;
 mod events;
 mod lines;
 
+use self::descriptions::Descriptions;
 use crate::{BusFault, Damage, Event, Plan, Trace, Tracer, Untraced, Watched};
 use std::alloc::{AllocError, Global};
 use std::collections::VecDeque;
 use std::io::Write;
-use usb_device::{DeviceSpec, Ports};
+use usb_device::Ports;
 use usb_port::PortPath;
 use usb_world::{Exchange, Hints, Losses, event_copies};
 
@@ -35,7 +37,7 @@ use usb_world::{Exchange, Hints, Losses, event_copies};
 pub struct SimBus<T: Trace> {
     alloc: Global,
     roots: Ports,
-    devices: Vec<DeviceSpec>,
+    devices: Descriptions,
     /// The events to come.
     left: VecDeque<Event>,
     /// How many events came.
@@ -60,8 +62,8 @@ pub struct SimBus<T: Trace> {
     ghost few_roots: { length (row_of roots) ≤ 7 },
     ghost settled: { IsSettled roots },
     ghost sane: { fault ≡ None → IsSane roots } by { λ x y i none. IsSane-prop roots (x none) (y none) i },
-    ghost ruled: { All IsSpec devices.items } by { all_prop IsSpec-prop devices.items },
-    ghost planned: { list_all (can_come (length devices.items)) left.items ≡ true },
+    ghost ruled: { All IsSpec devices } by { all_prop IsSpec-prop devices },
+    ghost planned: { list_all (can_come (length devices)) left.items ≡ true },
     ghost few_events: { taken + length left.items ≤ event_most },
     ghost counted: { attempts_then ≤ attempts },
     ghost within: { attempts ≤ limit },
@@ -78,7 +80,7 @@ pub struct SimBus<T: Trace> {
 struct Stage {
     hints: Hints,
     roots: Ports,
-    devices: Vec<DeviceSpec>,
+    devices: Descriptions,
     left: VecDeque<Event>,
     damages: Vec<Damage>,
 }
@@ -221,7 +223,7 @@ impl<T: Trace> SimBus<T> {
 
 fn staged(alloc: Global, plan: &Plan) -> Result<Stage, AllocError>
     ensures roots { IfOk result (λ s. s.roots ≡ new_ports plan.now.roots) }
-    ensures devices { IfOk result (λ s. s.devices.items ≡ plan.now.devices) }
+    ensures devices { IfOk result (λ s. s.devices ≡ plan.now.devices) }
     ensures events { IfOk result (λ s. s.left.items ≡ plan.now.events) }
     ensures damages { IfOk result (λ s. s.damages.items ≡ plan.now.damages) }
     ensures few { IfOk result (λ s. (length s.left.items ≤ event_most)
@@ -230,18 +232,8 @@ fn staged(alloc: Global, plan: &Plan) -> Result<Stage, AllocError>
     Ok(Stage {
         hints: Hints::new(alloc)?,
         roots: Ports::new(alloc, plan.roots())?,
-        devices: copies(alloc, plan.devices())?,
+        devices: Descriptions::copied(alloc, plan.devices())?,
         left: VecDeque::from(event_copies(alloc, plan.events())?),
         damages: plan.damages().to_vec(alloc)?,
     })
-}
-
-fn copies(alloc: Global, specs: &[DeviceSpec]) -> Result<Vec<DeviceSpec>, AllocError>
-    ensures { IfOk result (λ v. v.items ≡ specs.now) }
-{
-    let mut all = Vec::new(alloc);
-    'specs: for spec in specs {
-        all.push(spec.try_clone(alloc)?)?;
-    }
-    Ok(all)
 }

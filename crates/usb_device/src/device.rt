@@ -15,6 +15,7 @@ use crate::spec::DeviceSpec;
 use arrayvec::ArrayVec;
 use std::alloc::{AllocError, Global};
 use std::marker::Model;
+use std::rc::Rc;
 use usb_packet::{Packet, decode};
 
 /// A plugged device, with the devices on its ports: it takes one packet after the other, and
@@ -53,13 +54,13 @@ fn first_ports(alloc: Global, spec: &DeviceSpec) -> Result<Ports, AllocError>
 }
 
 impl Device {
-    /// A device that was just plugged, with a copy of its description; its ports are off.
+    /// A device that was just plugged; it shares its description, and its ports are off.
     ///
     /// # Errors
     ///
-    /// Memory was refused.
-    pub fn new(alloc: Global, spec: &DeviceSpec) -> Result<Self, AllocError>
-        ensures { IfOk result (λ d. d ≡ new_device spec.now) }
+    /// Memory was refused, or the description has 2^64 - 1 owners.
+    pub fn new(alloc: Global, spec: &Rc<DeviceSpec>) -> Result<Self, AllocError>
+        ensures { IfOk result (λ d. d ≡ new_device spec.now.value) }
     {
         Ok(Device {
             own: Own::new(alloc, spec)?,

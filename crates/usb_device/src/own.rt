@@ -26,6 +26,7 @@ use crate::transfer::{
 use arrayvec::ArrayVec;
 use std::alloc::{AllocError, Global};
 use std::marker::Model;
+use std::rc::Rc;
 use usb_packet::{Packet, Toggle, TokenKind};
 use usb_request::Setup;
 
@@ -34,7 +35,7 @@ use usb_request::Setup;
 /// describes one, and IN 1 where it is a hub.
 #[derive(Drop)]
 pub struct Own {
-    spec: DeviceSpec,
+    spec: Rc<DeviceSpec>,
     registers: Registers,
     /// The bulk endpoints of the configuration.
     served: BulkEndpoints,
@@ -66,11 +67,11 @@ impl Model for Own {
     ghost Value = { State };
 
     ghost view = { λ d. record {
-      spec = d.spec;
+      spec = d.spec.value;
       registers = d.registers;
       memory = d.memory;
       naks = d.naks;
-      stage = stage_of d.spec d.progress;
+      stage = stage_of d.spec.value d.progress;
       bulk_out = d.bulk_out;
       bulk_in = d.bulk_in;
       changes = d.changes;
@@ -80,7 +81,7 @@ impl Model for Own {
       place = d.place;
     } };
 
-    ghost invariant = { λ d. AreServed d.spec d.registers d.served };
+    ghost invariant = { λ d. AreServed d.spec.value d.registers d.served };
 }
 
 fn hub_text(spec: &DeviceSpec) -> &[u8]
@@ -172,17 +173,17 @@ impl Own {
     ghost use Rattle.usb_device.specs.Effect.{asks, asked_by_data, asked_by_setup};
     ghost use Rattle.usb_device.specs.Rows.{State, received, unread, forgotten, awaits_address, fresh, reset_state, accepted, configured, begun, is_busy, nak_row, gives, in_row, status_row, out_row, ack_row, token_row, setup_row, payload_row, answered, unless_busy, endpoint_state, with_endpoint_state, bulk_of, rest_of, source_row, bulk_ack_row, acknowledged, sink_row, sinks, in_bulk_row, out_bulk_row, bulk_sinks, data_row, payload_sinks, sink_grows, is_other_out, after_memory, with_endpoints, in_other_row, changes_row, new_changes_row};
 
-    /// A device that was just plugged, with a copy of its description.
+    /// A device that was just plugged; it shares its description.
     ///
     /// # Errors
     ///
-    /// Memory was refused.
+    /// The description has 2^64 - 1 owners.
     #[tactic(auto, unfolding(crate::specs::Rows::fresh))]
-    pub fn new(alloc: Global, spec: &DeviceSpec) -> Result<Self, AllocError>
-        ensures { IfOk result (λ d. d ≡ fresh spec.now) }
+    pub fn new(alloc: Global, spec: &Rc<DeviceSpec>) -> Result<Self, AllocError>
+        ensures { IfOk result (λ d. d ≡ fresh spec.now.value) }
     {
         Ok(Own {
-            spec: spec.try_clone(alloc)?,
+            spec: spec.clone()?,
             registers: AT_RESET,
             served: NO_BULK,
             memory: RememberedPacket::Nothing,

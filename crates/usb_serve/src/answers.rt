@@ -36,7 +36,7 @@ pub fn received_line(
     let mut line = Vec::new(alloc);
     line.extend_from_slice(b"receive ")?;
     push_path(&mut line, path)?;
-    push_received(alloc, &mut line, received)?;
+    push_received(&mut line, received)?;
     line.extend_from_slice(b"\n")?;
     Ok(line)
 }
@@ -75,7 +75,6 @@ fn push_sent(
 }
 
 fn push_received(
-    alloc: Global,
     line: &mut Vec<u8>,
     received: &Result<Vec<u8>, TransferFault>,
 ) -> Result<(), AllocError>
@@ -84,7 +83,7 @@ fn push_received(
     match received {
         Ok(bytes) => {
             line.extend_from_slice(b" done ")?;
-            push_hex(alloc, line, bytes.as_slice())
+            push_hex(line, bytes.as_slice())
         }
         Err(fault) => push_failed(line, *fault),
     }

@@ -1,1 +1,2 @@
 mod ConfigLines
+mod Digits

@@ -8,12 +8,15 @@ use std::alloc::{AllocError, Global};
 use usb_enum::{Accepted, Cause, ConfigText, Finding, HubFacts, Request, StringUnits};
 use usb_port::PortPath;
 
+/// Room for a line without a long configuration or text, in bytes.
+const ROOM: usize = 128;
+
 /// `listing N`.
 #[tactic(auto, unfolding(crate::specs::ListingLines::listing_line))]
 fn listing_line(alloc: Global, number: u64) -> Result<Vec<u8>, AllocError>
     ensures { IfOk result (λ line. line.items ≡ listing_line number) }
 {
-    let mut line = Vec::new(alloc);
+    let mut line = Vec::with_capacity(alloc, ROOM)?;
     line.extend_from_slice(b"listing ")?;
     push_decimal(alloc, &mut line, number)?;
     line.extend_from_slice(b"\n")?;
@@ -25,7 +28,7 @@ fn listing_line(alloc: Global, number: u64) -> Result<Vec<u8>, AllocError>
 pub fn bound_line(alloc: Global, bound: u64) -> Result<Vec<u8>, AllocError>
     ensures { IfOk result (λ line. line.items ≡ bound_line bound) }
 {
-    let mut line = Vec::new(alloc);
+    let mut line = Vec::with_capacity(alloc, ROOM)?;
     line.extend_from_slice(b"bound ")?;
     push_decimal(alloc, &mut line, bound)?;
     line.extend_from_slice(b"\n")?;
@@ -38,14 +41,14 @@ fn address_line(alloc: Global, path: &PortPath, device: &Accepted) -> Result<Vec
     ensures { IfOk result (λ line. line.items
         ≡ address_line path.now device.now.address device.now.low device.now.bytes) }
 {
-    let mut line = Vec::new(alloc);
+    let mut line = Vec::with_capacity(alloc, ROOM)?;
     push_path(&mut line, path)?;
     line.extend_from_slice(b" address ")?;
     push_decimal(alloc, &mut line, u64::from(device.address.number()))?;
     line.extend_from_slice(b" ")?;
     line.extend_from_slice(speed_word(device.low).as_bytes())?;
     line.extend_from_slice(b" ")?;
-    push_hex(alloc, &mut line, &device.bytes)?;
+    push_hex(&mut line, &device.bytes)?;
     line.extend_from_slice(b"\n")?;
     Ok(line)
 }
@@ -68,12 +71,12 @@ fn config_line(
 ) -> Result<Vec<u8>, AllocError>
     ensures { IfOk result (λ line. line.items ≡ config_line path.now index text.now chosen) }
 {
-    let mut line = Vec::new(alloc);
+    let mut line = Vec::with_capacity(alloc, ROOM)?;
     push_path(&mut line, path)?;
     line.extend_from_slice(b" config ")?;
     push_decimal(alloc, &mut line, index as u64)?;
     line.extend_from_slice(b" ")?;
-    push_hex(alloc, &mut line, text)?;
+    push_hex(&mut line, text)?;
     line.extend_from_slice(star(chosen).as_bytes())?;
     line.extend_from_slice(b"\n")?;
     Ok(line)
@@ -99,7 +102,7 @@ fn push_configs(
 fn hub_line(alloc: Global, path: &PortPath, hub: &HubFacts) -> Result<Vec<u8>, AllocError>
     ensures { IfOk result (λ line. line.items ≡ hub_line path.now hub.now.ports hub.now.supply) }
 {
-    let mut line = Vec::new(alloc);
+    let mut line = Vec::with_capacity(alloc, ROOM)?;
     push_path(&mut line, path)?;
     line.extend_from_slice(b" hub ")?;
     push_decimal(alloc, &mut line, u64::from(hub.ports))?;
@@ -133,7 +136,7 @@ fn string_line(
 ) -> Result<Vec<u8>, AllocError>
     ensures { IfOk result (λ line. line.items ≡ string_line path.now label.now units.now) }
 {
-    let mut line = Vec::new(alloc);
+    let mut line = Vec::with_capacity(alloc, ROOM)?;
     push_path(&mut line, path)?;
     line.extend_from_slice(b" ")?;
     line.extend_from_slice(label.as_bytes())?;
@@ -225,7 +228,7 @@ fn push_index(alloc: Global, line: &mut Vec<u8>, cause: Cause) -> Result<(), All
 fn refused_line(alloc: Global, path: &PortPath, cause: Cause) -> Result<Vec<u8>, AllocError>
     ensures { IfOk result (λ line. line.items ≡ refused_line path.now cause) }
 {
-    let mut line = Vec::new(alloc);
+    let mut line = Vec::with_capacity(alloc, ROOM)?;
     push_path(&mut line, path)?;
     line.extend_from_slice(b" refused ")?;
     line.extend_from_slice(cause_word(cause).as_bytes())?;

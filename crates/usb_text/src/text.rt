@@ -1,12 +1,16 @@
 //! Pieces of printed text.
-ghost use Rattle.std.specs.Prelude.{◌≡◌, ◌++◌, flat_map, decimal, codes, OnOk, IfOk};
+ghost use Rattle.std.specs.Prelude.{◌≡◌, ◌≤◌, ◌*◌, ◌++◌, length, take, flat_map, decimal, codes, OnOk, IfOk};
+ghost use Rattle.hex.specs.Hex.{encode_upper};
 ghost use Rattle.usb_packet.specs.Text.{hex_text};
 ghost use Rattle.usb_port.specs.Path.{path_text};
 ghost use Rattle.usb_text.specs.ListingLines.{speed_word, unit_text, escaped_text, is_plain_unit};
 
 use std::alloc::{AllocError, Global};
-use usb_packet::hex_digits;
+use usb_packet::{hex_digits, write_digits};
 use usb_port::PortPath;
+
+/// How many bytes are put into digits at once.
+const PIECE: usize = 64;
 
 /// Adds a number in decimal digits.
 pub fn push_decimal(alloc: Global, out: &mut Vec<u8>, number: u64) -> Result<(), AllocError>
@@ -17,14 +21,29 @@ pub fn push_decimal(alloc: Global, out: &mut Vec<u8>, number: u64) -> Result<(),
 }
 
 /// Adds bytes in upper-case hexadecimal digits, a dash where there are none.
-pub fn push_hex(alloc: Global, out: &mut Vec<u8>, bytes: &[u8]) -> Result<(), AllocError>
+pub fn push_hex(out: &mut Vec<u8>, bytes: &[u8]) -> Result<(), AllocError>
     ensures { OnOk result (out.new.items ≡ out.old.items ++ hex_text bytes.now) }
 {
     if bytes.is_empty() {
         return Ok(out.push(b'-')?);
     }
-    let digits = hex::encode_upper(alloc, bytes)?;
-    out.extend_from_slice(digits.as_bytes())
+    let mut rest = bytes;
+    'pieces: while !rest.is_empty() {
+        let (piece, behind) = rest.split_at(rest.len().min(PIECE));
+        push_digits(out, piece)?;
+        rest = behind;
+    }
+    Ok(())
+}
+
+/// Adds the digits of a piece.
+fn push_digits(out: &mut Vec<u8>, piece: &[u8]) -> Result<(), AllocError>
+    requires { length piece.now ≤ 64 }
+    ensures { OnOk result (out.new.items ≡ out.old.items ++ encode_upper piece.now) }
+{
+    let mut digits = [0; 2 * PIECE];
+    write_digits(&mut digits, piece);
+    out.extend_from_slice(&digits[..2 * piece.len()])
 }
 
 /// Adds the numbers of a path, joined by dots.

@@ -11,8 +11,10 @@ ghost use Rattle.usb_bus.specs.Watch.{PutsText};
 ghost use Rattle.usb_world.specs.declared.types.BusFault.TheVariants.{Memory, TraceFailed};
 
 use super::SimBus;
+use super::descriptions::Descriptions;
 use crate::{Action, BusFault, Due, Trace, WriteFailed};
 use std::alloc::{AllocError, Global};
+use std::rc::Rc;
 use usb_device::{Device, DeviceSpec, Ports};
 use usb_port::PortPath;
 
@@ -104,7 +106,7 @@ impl<T: Trace> SimBus<T> {
 fn carry_out(
     alloc: Global,
     roots: &mut Ports,
-    devices: &[DeviceSpec],
+    devices: &Descriptions,
     action: &Action,
 ) -> Result<(), AllocError>
     requires { can_be_done (length devices.now) action.now ≡ true }
@@ -112,7 +114,7 @@ fn carry_out(
     ensures err { OnErr result (roots.new ≡ roots.old) }
 {
     match action {
-        Action::Plug(path, device) => plug(alloc, roots, path, &devices[*device])?,
+        Action::Plug(path, device) => plug(alloc, roots, path, devices.at(*device))?,
         Action::Unplug(path) => {
             let _ = roots.unplug(path.numbers());
         }
@@ -129,9 +131,9 @@ fn plug(
     alloc: Global,
     roots: &mut Ports,
     path: &PortPath,
-    spec: &DeviceSpec,
+    spec: &Rc<DeviceSpec>,
 ) -> Result<(), AllocError>
-    ensures ok { OnOk result (roots.new ≡ changed (replaced (Some spec.now)) roots.old path.now) }
+    ensures ok { OnOk result (roots.new ≡ changed (replaced (Some spec.now.value)) roots.old path.now) }
     ensures err { OnErr result (roots.new ≡ roots.old) }
 {
     let device = Device::new(alloc, spec)?;
@@ -143,7 +145,7 @@ fn plug(
 #[tactic(auto, unfolding(crate::specs::Lines::action_line), using(crate::proofs::Fronts::puts_none))]
 fn put_action<T: Trace>(
     tracer: &mut T,
-    devices: &[DeviceSpec],
+    devices: &Descriptions,
     action: &Action,
 ) -> Result<(), WriteFailed>
     requires { can_be_done (length devices.now) action.now ≡ true }
@@ -151,7 +153,7 @@ fn put_action<T: Trace>(
         (action_line action.now devices.now) }
 {
     match action {
-        Action::Plug(path, device) => put_plug(tracer, path, devices[*device].name()),
+        Action::Plug(path, device) => put_plug(tracer, path, devices.at(*device).name()),
         Action::Unplug(path) => put_unplug(tracer, path),
         Action::Show => Ok(()),
         Action::Send(_, _) => Ok(()),

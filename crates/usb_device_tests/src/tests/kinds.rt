@@ -1,5 +1,6 @@
 //! The devices of the tests.
 use std::alloc::{AllocError, Global};
+use std::rc::Rc;
 use usb_device::{Bytes, Device, DeviceSpec, HubSpec, Name, Stalls, Texts, has_hub_class};
 
 /// A request that a device refuses.
@@ -363,5 +364,5 @@ pub(super) fn spec_of(alloc: Global, plan: &Plan) -> Result<DeviceSpec, AllocErr
 
 /// A device that was just plugged.
 pub(super) fn new_device(alloc: Global, plan: &Plan) -> Result<Device, AllocError> {
-    Device::new(alloc, &spec_of(alloc, plan)?)
+    Device::new(alloc, &Rc::new(alloc, spec_of(alloc, plan)?)?)
 }

@@ -1,10 +1,7 @@
-use Rattle.std.proofs.Common.{[], ◌∷◌, ℕ, ap, ap₂, ◌∙◌, slice_index}
-use Rattle.std.proofs.lemmas.Nat.{and_mask}
-use Rattle.hex.specs.Hex.{upper_digits, encode_with}
+use Rattle.std.proofs.Common.{◌∙◌, [], ◌∷◌, ℕ, ap, arith}
+use Rattle.hex.specs.Hex.{encode_upper}
+use Rattle.usb_packet.proofs.TextLemmas.{pair_of_byte}
 use Rattle.usb_packet.proofs.text.hex_digits.Goals as goal
 
 pub returns : goal.returns
-unfolding encode_with
-returns c =
-    ap₂ (λ (high low : ℕ). high ∷ low ∷ []) c.digit.ensures
-    (c.digit-2.ensures ∙ ap (slice_index upper_digits) (and_mask c.args.byte 4))
+returns c = pair_of_byte c.from-at.result (omega (arith, c.from-at.ensures)) ∙ ap (λ (b : ℕ). encode_upper (b ∷ [])) c.from-at.ensures

@@ -64,9 +64,9 @@ returns-in_err-put_action-clause-came g c =
     let split = popped s.left.items rest c.pop_front.result e c.pop_front.ensures.items c.unwrap-event.ensures in
     let same = front_is s.left.items rest e c.in-Some.event.now split c.in-Some.ensures.lookup in
     let size : length s.left.items ≡ suc (length rest) = ap length split in
-    let done = c.in_ok-carry_out.ensures.ok ∙ ap₂ (λ (d : List Spec) (a : Action). happened a d s.roots) c.deref.ensures.value (ap (λ (x : Event). x.action) same) in
+    let done = c.in_ok-carry_out.ensures.ok ∙ ap (λ (x : Event). happened x.action s.devices s.roots) same in
     record {
-      spends = came_spends (world_of s) _ c.in-Some.event.now.action c.deref.result.now c.in_ok-carry_out.ensures.ok refl (omega (arith, size)) refl refl;
+      spends = came_spends (world_of s) _ c.in-Some.event.now.action s.devices c.in_ok-carry_out.ensures.ok refl (omega (arith, size)) refl refl;
       told = search rules;
       none = search rules;
       one = search rules;
@@ -75,7 +75,7 @@ returns-in_err-put_action-clause-came g c =
       kept = search rules;
       cut = λ _. came_faulted (world_of s) e rest rest _ (Some TraceFailed) split refl done;
       other = search rules;
-      text = writes_event c.from_residual-in_err-put_action.result (world_of s) _ e _ _ _ split refl c.from_residual-in_err-put_action.ensures.1 (rw c.deref-2.ensures.value at c.put_action.ensures.front);
+      text = writes_event c.from_residual-in_err-put_action.result (world_of s) _ e _ _ _ split refl c.from_residual-in_err-put_action.ensures.1 c.put_action.ensures.front;
     }
 
 -- the event came
@@ -87,9 +87,9 @@ returns-clause-came g c =
     let split = popped s.left.items rest c.pop_front.result e c.pop_front.ensures.items c.unwrap-event.ensures in
     let same = front_is s.left.items rest e c.in-Some.event.now split c.in-Some.ensures.lookup in
     let size : length s.left.items ≡ suc (length rest) = ap length split in
-    let done = c.in_ok-carry_out.ensures.ok ∙ ap₂ (λ (d : List Spec) (a : Action). happened a d s.roots) c.deref.ensures.value (ap (λ (x : Event). x.action) same) in
+    let done = c.in_ok-carry_out.ensures.ok ∙ ap (λ (x : Event). happened x.action s.devices s.roots) same in
     record {
-      spends = came_spends (world_of s) _ c.in-Some.event.now.action c.deref.result.now c.in_ok-carry_out.ensures.ok refl (omega (arith, size)) refl refl;
+      spends = came_spends (world_of s) _ c.in-Some.event.now.action s.devices c.in_ok-carry_out.ensures.ok refl (omega (arith, size)) refl refl;
       told = search rules;
       none = λ h. cc h;
       one = λ _. refl;
@@ -98,7 +98,7 @@ returns-clause-came g c =
       kept = λ h. cc h;
       cut = λ h. cc h;
       other = tt;
-      text = appends_event (world_of s) _ e _ _ _ split refl (rw c.deref-2.ensures.value at c.in_ok-put_action.ensures.ok);
+      text = appends_event (world_of s) _ e _ _ _ split refl c.in_ok-put_action.ensures.ok;
     }
 
 pub invariant_of-self-2 : goal.invariant_of-self-2
@@ -109,15 +109,15 @@ invariant_of-self-2 g c =
     let size : length s.left.items ≡ suc (length rest) = ap length split in
     let a = c.in-Some.event.now.action in
     let done = c.in_ok-carry_out.ensures.ok in
-    let long : length (row_of c.carry_out.new.roots) ≡ length (row_of s.roots) = ap (λ k. length (row_of k)) done ∙ happened_long a c.deref.result.now s.roots in
-    let can : Event → Bool = can_come (length s.devices.items) in
+    let long : length (row_of c.carry_out.new.roots) ≡ length (row_of s.roots) = ap (λ k. length (row_of k)) done ∙ happened_long a s.devices s.roots in
+    let can : Event → Bool = can_come (length s.devices) in
     let P : List Event → Type 0 = λ l. list_all can l ≡ true in
     let all : P (c.unwrap-event.result ∷ rest) = subst P split s.planned in
     record {
       some_root = omega (arith, long, s.some_root);
       few_roots = omega (arith, long, s.few_roots);
-      settled = subst IsSettled (sym done) (settled_happened a c.deref.result.now s.roots s.settled);
-      sane = λ _. subst IsSane (sym done) (sane_happened a c.deref.result.now (subst (All IsSpec) (sym c.deref.ensures.value) s.ruled) s.roots (s.sane c.requires.sound));
+      settled = subst IsSettled (sym done) (settled_happened a s.devices s.roots s.settled);
+      sane = λ _. subst IsSane (sym done) (sane_happened a s.devices s.ruled s.roots (s.sane c.requires.sound));
       ruled = s.ruled;
       planned = (and_parts (can c.unwrap-event.result) (list_all can rest) all).1;
       few_events = omega (arith, size, s.few_events);
@@ -139,14 +139,14 @@ invariant_of-self-in-Break-branch-2 g c =
     let size : length s.left.items ≡ suc (length rest) = ap length split in
     let a = c.in-Some.event.now.action in
     let done = c.in_ok-carry_out.ensures.ok in
-    let long : length (row_of c.carry_out.new.roots) ≡ length (row_of s.roots) = ap (λ k. length (row_of k)) done ∙ happened_long a c.deref.result.now s.roots in
-    let can : Event → Bool = can_come (length s.devices.items) in
+    let long : length (row_of c.carry_out.new.roots) ≡ length (row_of s.roots) = ap (λ k. length (row_of k)) done ∙ happened_long a s.devices s.roots in
+    let can : Event → Bool = can_come (length s.devices) in
     let P : List Event → Type 0 = λ l. list_all can l ≡ true in
     let all : P (c.unwrap-event.result ∷ rest) = subst P split s.planned in
     record {
       some_root = omega (arith, long, s.some_root);
       few_roots = omega (arith, long, s.few_roots);
-      settled = subst IsSettled (sym done) (settled_happened a c.deref.result.now s.roots s.settled);
+      settled = subst IsSettled (sym done) (settled_happened a s.devices s.roots s.settled);
       sane = λ none. absurd (cc none);
       ruled = s.ruled;
       planned = (and_parts (can c.unwrap-event.result) (list_all can rest) all).1;

@@ -10,7 +10,7 @@ use Rattle.usb_bus.proofs.sim.SimBus.with_tracer.Goals as goal
 
 pub invariant_of-result-clause-planned : goal.invariant_of-result-clause-planned
 invariant_of-result-clause-planned g c =
-    copies_come c.args.plan.now (length c.in-Ok.stage.devices.items) c.in-Ok.stage.left.items c.limit.ensures.plan
+    copies_come c.args.plan.now (length c.in-Ok.stage.devices) c.in-Ok.stage.left.items c.limit.ensures.plan
     (ap length c.in-Ok.ensures.devices) c.in-Ok.ensures.events
 
 pub invariant_of-result-clause-settled : goal.invariant_of-result-clause-settled
