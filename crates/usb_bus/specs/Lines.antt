@@ -1,5 +1,5 @@
 -- The lines of the trace that steps write, and what an event asks of the host.
-use Rattle.std.specs.Prelude.{ℕ, ◌+◌, ◌-◌, ◌==◌, if◌then◌else◌, List, [], ◌∷◌, ◌++◌, take, flat_map, slice_get, Option, Some, None}
+use Rattle.std.specs.Prelude.{ℕ, ◌+◌, ◌-◌, ◌==◌, if◌then◌else◌, List, [], ◌∷◌, ◌++◌, take, flat_map, map, slice_get, Option, Some, None}
 use Rattle.usb_device.specs.Spec.{Spec}
 use Rattle.usb_world.specs.declared.event.Action.{Action}
 use Rattle.usb_world.specs.declared.event.Action.TheVariants.{Plug, Unplug, Show, Send, Receive, Clear}
@@ -7,16 +7,24 @@ use Rattle.usb_world.specs.declared.event.Due.{Due}
 use Rattle.usb_world.specs.declared.types.Attempt.{Attempt}
 use Rattle.usb_world.specs.World.{World}
 use Rattle.usb_world.specs.Steps.{ready, made_in, due_of}
+use Rattle.usb_bus.specs.Shown.{shown_name}
 use Rattle.usb_bus.specs.Trace.{plug_line, unplug_line, attempt_line}
 
--- the line of an event
-unfoldable pub action_line : Action → List Spec → List ℕ
-action_line (Plug path device) devices = elim (slice_get devices device) [ None ↦ [] | Some spec ↦ plug_line path spec.name ++ 10 ∷ [] ]
-action_line (Unplug path) devices = unplug_line path ++ 10 ∷ []
-action_line Show devices = []
-action_line (Send path bytes) devices = []
-action_line (Receive path packets) devices = []
-action_line (Clear path) devices = []
+-- the names of devices, as they are shown
+abbrev pub shown_names : List Spec → List (List ℕ)
+shown_names devices = map (λ (d : Spec). shown_name d.name) devices
+
+-- the line of an event, by those names
+unfoldable pub event_line : Action → List (List ℕ) → List ℕ
+event_line (Plug path device) names = elim (slice_get names device) [ None ↦ [] | Some shown ↦ plug_line path shown ++ 10 ∷ [] ]
+event_line (Unplug path) names = unplug_line path ++ 10 ∷ []
+event_line Show names = []
+event_line (Send path bytes) names = []
+event_line (Receive path packets) names = []
+event_line (Clear path) names = []
+
+abbrev pub action_line : Action → List Spec → List ℕ
+action_line action devices = event_line action (shown_names devices)
 
 unfoldable pub next_due : World → Option Due
 next_due w = elim w.left [ [] ↦ None | e ∷ events ↦ Some (due_of e.action) ]

@@ -39,9 +39,9 @@ answer_text (One p) = text_of p
 abbrev pub attempt_line : ℕ → Bool → Exchange → List ℕ
 attempt_line number pre x = decimal number ++ codes " " ++ host_text pre x.token ++ next_text pre x.payload ++ codes " / " ++ answer_text x.answer ++ mark_text x.answer_mark ++ next_text pre x.reply
 
--- a plug, by its path and the device's name
+-- a plug, by its path and the device's name as it is shown
 abbrev pub plug_line : List ℕ → List ℕ → List ℕ
-plug_line path name = codes "plug " ++ path_text path ++ codes " " ++ name
+plug_line path shown = codes "plug " ++ path_text path ++ codes " " ++ shown
 
 abbrev pub unplug_line : List ℕ → List ℕ
 unplug_line path = codes "unplug " ++ path_text path

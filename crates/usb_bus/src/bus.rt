@@ -11,7 +11,8 @@ use crate::{Attempt, BusFault, Outcome};
 
 /// A bus with the host's root ports.
 ///
-/// Whoever drives a real controller implements this, and has the whole host half.
+/// Whoever implements this has the whole host half. A bus around another one can; of a real controller the contract
+/// cannot be proved, since nothing says what it will answer (`docs/PORTING.md`).
 pub trait Bus {
     /// The world that the bus stands for.
     ///

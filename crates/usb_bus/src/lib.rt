@@ -3,13 +3,15 @@
 
 mod bus;
 mod laws;
+mod shown;
 mod sim;
 mod trace;
 mod tracer;
 mod watched;
 
 pub use bus::Bus;
-pub use laws::{trace_fault, untraced_fault};
+pub use laws::{plug_is_one_line, trace_fault, untraced_fault};
+pub use shown::ends_line;
 pub use sim::SimBus;
 pub use tracer::{Trace, Tracer, Untraced};
 pub use usb_world::{

@@ -11,6 +11,7 @@ ghost use Rattle.usb_world.specs.AttemptPackets.{IsSettled};
 ghost use Rattle.usb_world.specs.SanePorts.{IsSane};
 ghost use Rattle.usb_world.specs.SaneProofs.{IsSane-prop, IsSpec-prop, all_prop};
 ghost use Rattle.usb_world.specs.Steps.{opening};
+ghost use Rattle.usb_bus.specs.Lines.{shown_names};
 ghost use Rattle.usb_bus.specs.Watch.{has_failed, tells_failure};
 ghost use Rattle.usb_world.specs.declared.types.BusFault.TheVariants.{LimitReached};
 
@@ -20,6 +21,7 @@ mod events;
 mod lines;
 
 use self::descriptions::Descriptions;
+use crate::shown::{ShownName, shown_names};
 use crate::{BusFault, Damage, Event, Plan, Trace, Tracer, Untraced, Watched};
 use std::alloc::{AllocError, Global};
 use std::collections::VecDeque;
@@ -38,6 +40,8 @@ pub struct SimBus<T: Trace> {
     alloc: Global,
     roots: Ports,
     devices: Descriptions,
+    /// The names of the devices, as the trace shows them.
+    names: Vec<ShownName>,
     /// The events to come.
     left: VecDeque<Event>,
     /// How many events came.
@@ -72,6 +76,7 @@ pub struct SimBus<T: Trace> {
     ghost lost: { AreOfDamages attempts damages.items losses },
     ghost at_limit: { fault ≡ Some LimitReached → attempts ≡ limit },
     ghost marked: { T.failed tracer ≡ tells_failure fault },
+    ghost named: { names.items ≡ shown_names devices },
     ghost lone: { single ≡ true → is_twice (held roots) ≡ false },
 }
 
@@ -81,6 +86,7 @@ struct Stage {
     hints: Hints,
     roots: Ports,
     devices: Descriptions,
+    names: Vec<ShownName>,
     left: VecDeque<Event>,
     damages: Vec<Damage>,
 }
@@ -150,6 +156,7 @@ impl<T: Trace> SimBus<T> {
                 alloc,
                 roots: stage.roots,
                 devices: stage.devices,
+                names: stage.names,
                 left: stage.left,
                 taken: 0,
                 attempts: 0,
@@ -223,7 +230,8 @@ impl<T: Trace> SimBus<T> {
 
 fn staged(alloc: Global, plan: &Plan) -> Result<Stage, AllocError>
     ensures roots { IfOk result (λ s. s.roots ≡ new_ports plan.now.roots) }
-    ensures devices { IfOk result (λ s. s.devices ≡ plan.now.devices) }
+    ensures devices { IfOk result (λ s. (s.devices ≡ plan.now.devices)
+        × (s.names.items ≡ shown_names plan.now.devices)) }
     ensures events { IfOk result (λ s. s.left.items ≡ plan.now.events) }
     ensures damages { IfOk result (λ s. s.damages.items ≡ plan.now.damages) }
     ensures few { IfOk result (λ s. (length s.left.items ≤ event_most)
@@ -233,6 +241,7 @@ fn staged(alloc: Global, plan: &Plan) -> Result<Stage, AllocError>
         hints: Hints::new(alloc)?,
         roots: Ports::new(alloc, plan.roots())?,
         devices: Descriptions::copied(alloc, plan.devices())?,
+        names: shown_names(alloc, plan.devices())?,
         left: VecDeque::from(event_copies(alloc, plan.events())?),
         damages: plan.damages().to_vec(alloc)?,
     })

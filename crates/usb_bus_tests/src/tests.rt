@@ -1,6 +1,7 @@
 mod damage;
 mod hubs;
 mod memory;
+mod names;
 mod plans;
 mod roots;
 mod row;

@@ -320,7 +320,7 @@ impl Own {
         }
         match packet {
             Packet::Payload { toggle, bytes } => {
-                Ok(self.payload(ports, *toggle, bytes.as_slice(), effect)?)
+                self.payload(ports, *toggle, bytes.as_slice(), effect)
             }
             Packet::Token { kind, addr, ep } => {
                 self.attempt_over();

@@ -1,11 +1,10 @@
 -- Texts of a plan, made fit for one line.
-use Rattle.std.specs.Prelude.{ℕ, nat_lt, codes, List, [], ◌∷◌, ◌++◌, length, take, flat_map, encode_utf8, if◌then◌else◌}
-use Rattle.std.specs.Char.{is_control}
-use Rattle.hex.specs.Hex.{encode_upper}
+use Rattle.std.specs.Prelude.{ℕ, nat_lt, codes, List, [], ◌++◌, length, take, flat_map, encode_utf8, if◌then◌else◌}
+use Rattle.usb_bus.specs.Shown.{ends_line, escaped}
 
--- a control character as \u and four digits, any other as it is
+-- what may end a line as \u and four digits, any other character as it is
 abbrev pub char_shown : ℕ → List ℕ
-char_shown c = if is_control c then codes "\\u00" ++ encode_upper (c ∷ []) else encode_utf8 c
+char_shown c = if ends_line c then escaped c else encode_utf8 c
 
 -- three dots, where there are more than 60 characters
 abbrev pub dots : List ℕ → List ℕ

@@ -5,6 +5,7 @@ ghost use Rattle.std.specs.Str.{chars};
 ghost use Rattle.usb_diagnosis.specs.Shown.{char_shown, dots, text_shown};
 
 use std::alloc::{AllocError, Global};
+use usb_bus::ends_line;
 
 /// How many characters of a text are shown.
 const MOST_SHOWN: usize = 60;
@@ -17,16 +18,19 @@ pub(crate) fn push_number(alloc: Global, out: &mut String, number: u64) -> Resul
     out.push_str(digits.as_str())
 }
 
-/// Adds a character, a control character as `\u` and its number in four hexadecimal digits.
+/// Adds a character, one that may end a line as `\u` and its number in four hexadecimal digits.
 fn push_char(alloc: Global, out: &mut String, letter: char) -> Result<(), AllocError>
     ensures { OnOk result (string_bytes out.new ≡ string_bytes out.old ++ char_shown letter) }
 {
-    if !letter.is_control() {
+    if !ends_line(letter) {
         return out.push(letter);
     }
-    let digits = hex::encode_upper(alloc, &[letter as u8])?;
-    out.push_str("\\u00")?;
-    out.push_str(digits.as_str())
+    let number = letter as u16;
+    let high = hex::encode_upper(alloc, &[(number / 256) as u8])?;
+    let low = hex::encode_upper(alloc, &[(number % 256) as u8])?;
+    out.push_str("\\u")?;
+    out.push_str(high.as_str())?;
+    out.push_str(low.as_str())
 }
 
 fn push_letters(alloc: Global, out: &mut String, letters: &[char]) -> Result<(), AllocError>

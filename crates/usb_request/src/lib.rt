@@ -1,5 +1,9 @@
 //! The setup data of a control transfer (9.3), a maker for each request that the host sends, and
 //! the standard's numbers of requests, descriptors, endpoints, classes and features.
+//!
+//! # What is proved
+//!
+//! Setup data and eight bytes agree both ways; each maker's fields.
 #![tactic(auto)]
 
 pub mod class_code;

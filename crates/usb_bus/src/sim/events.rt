@@ -4,7 +4,7 @@ ghost use Rattle.usb_device.specs.Tree.{row_of, changed, replaced};
 ghost use Rattle.usb_world.specs.World.{changes, to_come};
 ghost use Rattle.usb_world.specs.Steps.{after, event, happened, has_due};
 ghost use Rattle.usb_world.specs.PlanData.{can_be_done};
-ghost use Rattle.usb_bus.specs.Lines.{action_line};
+ghost use Rattle.usb_bus.specs.Lines.{event_line};
 ghost use Rattle.usb_bus.specs.Trace.{plug_line, unplug_line};
 ghost use Rattle.usb_bus.specs.Traces.{TakesEvent};
 ghost use Rattle.usb_bus.specs.Watch.{PutsText};
@@ -12,6 +12,7 @@ ghost use Rattle.usb_world.specs.declared.types.BusFault.TheVariants.{Memory, Tr
 
 use super::SimBus;
 use super::descriptions::Descriptions;
+use crate::shown::ShownName;
 use crate::{Action, BusFault, Due, Trace, WriteFailed};
 use std::alloc::{AllocError, Global};
 use std::rc::Rc;
@@ -92,7 +93,7 @@ impl<T: Trace> SimBus<T> {
         self.attempts_then = self.attempts;
         // The event came: only its line can fail.
         self.fault = Some(BusFault::TraceFailed);
-        put_action(&mut self.tracer, &self.devices, &event.action)?;
+        put_action(&mut self.tracer, &self.names, &event.action)?;
         self.fault = None;
         Ok(Some(Due::from(event.action)))
     }
@@ -142,18 +143,18 @@ fn plug(
 }
 
 /// The line of an event.
-#[tactic(auto, unfolding(crate::specs::Lines::action_line), using(crate::proofs::Fronts::puts_none))]
+#[tactic(auto, unfolding(crate::specs::Lines::event_line), using(crate::proofs::Fronts::puts_none))]
 fn put_action<T: Trace>(
     tracer: &mut T,
-    devices: &Descriptions,
+    names: &[ShownName],
     action: &Action,
 ) -> Result<(), WriteFailed>
-    requires { can_be_done (length devices.now) action.now ≡ true }
+    requires { can_be_done (length names.now) action.now ≡ true }
     ensures { PutsText T.text T.failed tracer.old result tracer.new
-        (action_line action.now devices.now) }
+        (event_line action.now names.now) }
 {
     match action {
-        Action::Plug(path, device) => put_plug(tracer, path, devices.at(*device).name()),
+        Action::Plug(path, device) => put_plug(tracer, path, &names[*device]),
         Action::Unplug(path) => put_unplug(tracer, path),
         Action::Show => Ok(()),
         Action::Send(_, _) => Ok(()),
@@ -163,15 +164,15 @@ fn put_action<T: Trace>(
 }
 
 /// The line of a plug.
-fn put_plug<T: Trace>(tracer: &mut T, path: &PortPath, name: &str) -> Result<(), WriteFailed>
+fn put_plug<T: Trace>(tracer: &mut T, path: &PortPath, shown: &ShownName) -> Result<(), WriteFailed>
     ensures { PutsText T.text T.failed tracer.old result tracer.new
-        (plug_line path.now name.now ++ 10 ∷ []) }
+        (plug_line path.now shown.now ++ 10 ∷ []) }
 {
     tracer.put_pieces(&[
         b"plug ",
         path.text().as_str().as_bytes(),
         b" ",
-        name.as_bytes(),
+        shown.as_bytes(),
         b"\n",
     ])
 }

@@ -59,7 +59,7 @@ const HUB: &str =
     "[[device]]\nname = \"hub\"\nspeed = \"full\"\ndescriptor = \"0102030409\"\nconfigs = []\n";
 
 /// Further lines of it, the first of which is line 13.
-const VALUES: [Row; 13] = [
+const VALUES: [Row; 14] = [
     Row {
         text: "strings = [\"04\", 5]\n",
         told: "p.toml:13: plan: device 2: bad value\n  device 2 \"hub\", line 8: `strings` is [\"04\", 5]\n  allowed: at most 256 texts, each of two hexadecimal digits for each of at most 255 bytes\n",
@@ -107,6 +107,10 @@ const VALUES: [Row; 13] = [
     Row {
         text: "strings = \"a\\u0001\\u007Fb\\u0085\"\n",
         told: "p.toml:13: plan: device 2: bad value\n  device 2 \"hub\", line 8: `strings` is \"a\\u0001\\u007Fb\\u0085\"\n  allowed: at most 256 texts, each of two hexadecimal digits for each of at most 255 bytes\n",
+    },
+    Row {
+        text: "strings = \"a\\u2027\\u2028\\u2029b\"\n",
+        told: "p.toml:13: plan: device 2: bad value\n  device 2 \"hub\", line 8: `strings` is \"a\u{2027}\\u2028\\u2029b\"\n  allowed: at most 256 texts, each of two hexadecimal digits for each of at most 255 bytes\n",
     },
     Row {
         text: "strings = \"0123456789012345678901234567890123456789012345678901234567890\"\n",

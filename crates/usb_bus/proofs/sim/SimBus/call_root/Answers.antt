@@ -27,6 +27,7 @@ invariant_of-self g c =
       within = s.within;
       few_attempts = s.few_attempts;
       few_damages = s.few_damages;
+      named = s.named;
       lost = subst P (sym c.after_clearing-self.ensures) (losses_cleared _ s.attempts s.damages.items s.losses s.lost);
       at_limit = s.at_limit;
       marked = s.marked;

@@ -55,6 +55,7 @@ invariant_of-self g c =
       within = mid.within;
       few_attempts = mid.few_attempts;
       few_damages = mid.few_damages;
+      named = mid.named;
       lost = mid.lost;
       at_limit = λ e. absurd (cc e);
       marked = mid.marked ∙ ap tells_failure c.in_ok-take_due_events.ensures.came.told;
@@ -84,6 +85,7 @@ invariant_of-self-2 g c =
       within = omega (arith, spent.most, spent.limit, c.requires.within);
       few_attempts = mid.few_attempts;
       few_damages = mid.few_damages;
+      named = mid.named;
       lost = subst P (sym (c.counted-self.ensures ∙ ap (counted x.address_lost) c.after_clearing.ensures))
           (losses_after mid.damages.items mid.attempts a mid.roots x.change_cleared x.address_lost mid.losses c.requires.attempt mid.settled lost mid.lost);
       at_limit = λ e. absurd (cc e);
@@ -114,6 +116,7 @@ invariant_of-self-in-Break-branch-3 g c =
       within = omega (arith, spent.most, spent.limit, c.requires.within);
       few_attempts = mid.few_attempts;
       few_damages = mid.few_damages;
+      named = mid.named;
       lost = subst P (sym (c.counted-self.ensures ∙ ap (counted x.address_lost) c.after_clearing.ensures))
           (losses_after mid.damages.items mid.attempts a mid.roots x.change_cleared x.address_lost mid.losses c.requires.attempt mid.settled lost mid.lost);
       at_limit = λ e. absurd (cc e);

@@ -1,15 +1,12 @@
-use Rattle.std.proofs.Common.{rules, ◌≡◌, refl, sym, subst, suc, true, length, arith, ◌∙◌, ap, ap₂, ◌∷◌, Bool, Some, None, Option, Ok, Result, List}
+use Rattle.std.proofs.Common.{rules, ◌≡◌, refl, sym, subst, suc, true, length, arith, ◌∙◌, ap, ◌∷◌, Bool, Some, None, Option, Ok, Result, List}
 use Rattle.std.proofs.lemmas.Bool.{and_parts}
-use Rattle.std.specs.Prelude.{All}
 use Rattle.std.specs.List.{list_all}
 use Rattle.usb_device.specs.Tree.{row_of}
 use Rattle.usb_world.specs.AttemptPackets.{IsSettled}
 use Rattle.usb_world.specs.SanePorts.{IsSane}
 use Rattle.usb_world.specs.PlanData.{can_come}
 use Rattle.usb_world.proofs.Interface.{came_spends, happened_long, sane_happened, settled_happened, spends_none}
-use Rattle.usb_device.specs.Spec.{Spec, IsSpec}
 use Rattle.usb_world.specs.declared.event.Event.{Event}
-use Rattle.usb_world.specs.declared.event.Action.{Action}
 use Rattle.usb_world.specs.Steps.{happened}
 use Rattle.usb_world.specs.declared.event.Due.{Due}
 use Rattle.usb_world.specs.declared.types.BusFault.{BusFault}
@@ -75,7 +72,7 @@ returns-in_err-put_action-clause-came g c =
       kept = search rules;
       cut = λ _. came_faulted (world_of s) e rest rest _ (Some TraceFailed) split refl done;
       other = search rules;
-      text = writes_event c.from_residual-in_err-put_action.result (world_of s) _ e _ _ _ split refl c.from_residual-in_err-put_action.ensures.1 c.put_action.ensures.front;
+      text = writes_event c.from_residual-in_err-put_action.result (world_of s) _ e _ _ _ split refl c.from_residual-in_err-put_action.ensures.1 (rw (c.deref.ensures.value ∙ s.named) at c.put_action.ensures.front);
     }
 
 -- the event came
@@ -98,7 +95,7 @@ returns-clause-came g c =
       kept = λ h. cc h;
       cut = λ h. cc h;
       other = tt;
-      text = appends_event (world_of s) _ e _ _ _ split refl c.in_ok-put_action.ensures.ok;
+      text = appends_event (world_of s) _ e _ _ _ split refl (rw (c.deref.ensures.value ∙ s.named) at c.in_ok-put_action.ensures.ok);
     }
 
 pub invariant_of-self-2 : goal.invariant_of-self-2
@@ -125,6 +122,7 @@ invariant_of-self-2 g c =
       within = s.within;
       few_attempts = s.few_attempts;
       few_damages = s.few_damages;
+      named = s.named;
       lost = s.lost;
       at_limit = λ e. absurd (cc e);
       marked = c.in_ok-put_action.ensures.unmarked ∙ s.marked ∙ ap tells_failure c.requires.sound;
@@ -155,6 +153,7 @@ invariant_of-self-in-Break-branch-2 g c =
       within = s.within;
       few_attempts = s.few_attempts;
       few_damages = s.few_damages;
+      named = s.named;
       lost = s.lost;
       at_limit = λ e. absurd (cc e);
       marked = c.in_err-put_action.ensures.marked;
