@@ -5,7 +5,7 @@ ghost use Rattle.usb_world.specs.PlanData.{can_come};
 ghost use Rattle.usb_world.specs.PlanLimits.{attempt_most, damage_most, event_most};
 ghost use Rattle.usb_device.specs.Spec.{IsSpec};
 ghost use Rattle.usb_device.specs.Tree.{new_ports, row_of};
-ghost use Rattle.usb_device.specs.Delivery.{held, is_twice};
+ghost use Rattle.usb_device.specs.HolderIndex.{IsIndexOf};
 ghost use Rattle.usb_world.specs.Losses.{AreOfDamages};
 ghost use Rattle.usb_world.specs.AttemptPackets.{IsSettled};
 ghost use Rattle.usb_world.specs.SanePorts.{IsSane};
@@ -26,9 +26,9 @@ use crate::{BusFault, Damage, Event, Plan, Trace, Tracer, Untraced, Watched};
 use std::alloc::{AllocError, Global};
 use std::collections::VecDeque;
 use std::io::Write;
-use usb_device::Ports;
+use usb_device::{Holders, Ports};
 use usb_port::PortPath;
-use usb_world::{Exchange, Hints, Losses, event_copies};
+use usb_world::{Exchange, Losses, event_copies};
 
 /// A bus that a plan describes. Each attempt, plug and unplug is a line of the trace, which goes to a writer at once
 /// where the bus is `Tracer`.
@@ -56,10 +56,8 @@ pub struct SimBus<T: Trace> {
     shared: bool,
     fault: Option<BusFault>,
     tracer: T,
-    /// Where devices were found, by address.
-    hints: Hints,
-    /// No two reachable devices hold one address, as far as is known.
-    single: bool,
+    /// Which device holds which address.
+    holders: Holders,
     /// The packets of the last attempt.
     exchange: Exchange,
     ghost some_root: { 1 ≤ length (row_of roots) },
@@ -77,18 +75,19 @@ pub struct SimBus<T: Trace> {
     ghost at_limit: { fault ≡ Some LimitReached → attempts ≡ limit },
     ghost marked: { T.failed tracer ≡ tells_failure fault },
     ghost named: { names.items ≡ shown_names devices },
-    ghost lone: { single ≡ true → is_twice (held roots) ≡ false },
+    ghost indexed: { IsIndexOf holders roots },
 }
 
 /// What a simulated bus keeps of a plan.
 #[derive(Drop)]
 struct Stage {
-    hints: Hints,
+    holders: Holders,
     roots: Ports,
     devices: Descriptions,
     names: Vec<ShownName>,
     left: VecDeque<Event>,
     damages: Vec<Damage>,
+    ghost indexed: { IsIndexOf holders roots },
 }
 
 impl<W: Write> SimBus<Tracer<W>> {
@@ -167,8 +166,7 @@ impl<T: Trace> SimBus<T> {
                 shared: false,
                 fault: None,
                 tracer,
-                hints: stage.hints,
-                single: false,
+                holders: stage.holders,
                 exchange: Exchange::blank(),
             }),
         }
@@ -237,9 +235,10 @@ fn staged(alloc: Global, plan: &Plan) -> Result<Stage, AllocError>
     ensures few { IfOk result (λ s. (length s.left.items ≤ event_most)
         × (length s.damages.items ≤ damage_most)) }
 {
+    let roots = Ports::new(alloc, plan.roots())?;
     Ok(Stage {
-        hints: Hints::new(alloc)?,
-        roots: Ports::new(alloc, plan.roots())?,
+        holders: Holders::of(alloc, &roots)?,
+        roots,
         devices: Descriptions::copied(alloc, plan.devices())?,
         names: shown_names(alloc, plan.devices())?,
         left: VecDeque::from(event_copies(alloc, plan.events())?),

@@ -11,3 +11,6 @@ pub use Rattle.usb_device.proofs.Packets.{packets_joined-is, packets_joined-whol
 pub use Rattle.usb_device.proofs.FirstPlaces.{changed_at-head}
 pub use Rattle.usb_device.proofs.Rows.{row_of-after, row_of-forgotten}
 pub use Rattle.usb_device.proofs.Strays.{or-joined}
+pub use Rattle.usb_device.proofs.HolderIndexes.{addresses, held-reached, same_index}
+pub use Rattle.usb_device.proofs.HolderPaths.{one_is_held}
+pub use Rattle.usb_device.proofs.ReachedPlaces.{index_called, index_put, reached-acted, reached-changed}

@@ -19,3 +19,6 @@ pub mod BulkProgress
 pub mod ChangesProgress
 pub mod StoppedPackets
 pub mod NumberedPlaces
+pub mod HolderIndexes
+pub mod HolderPaths
+pub mod ReachedPlaces

@@ -1,37 +1,23 @@
 -- Marks tell which addresses stand twice.
-use Rattle.std.proofs.Common.{◌≡◌, ◌<◌, ℕ, zero, suc, ◌==◌, ◌||◌, if◌then◌else◌, Bool, true, false, List, [], ◌∷◌, ◌++◌, Option, None, Some, length, replicate, slice_set, slice_index_or, refl, ap, sym, ◌∙◌, arith}
+use Rattle.std.proofs.Common.{◌≡◌, ◌<◌, ℕ, zero, suc, ◌==◌, ◌||◌, if◌then◌else◌, Bool, true, false, List, [], ◌∷◌, ◌++◌, Option, None, Some, length, slice_set, slice_index_or, refl, ap, ◌∙◌, arith}
 use Rattle.std.proofs.lemmas.Bool.Decides.{nat_tests}
 use Rattle.usb_port.specs.PortState.{PortState}
 use Rattle.usb_device.specs.declared.ports.Place.{Place as Kept}
 use Rattle.usb_device.specs.Tree.{Ports, Plugged, before}
 use Rattle.usb_device.specs.Places.{standing, ports_kept}
 use Rattle.usb_device.specs.Delivery.{held, held_in, has, is_twice}
-use Rattle.usb_device.specs.Marks.{meets, marked_at, AreBytes}
+use Rattle.usb_device.specs.Holders.{AreBytes}
 
 -- ---- marks along a list
 
-or_assoc : (a b c : Bool) → ((a || b) || c) ≡ (a || (b || c))
-or_assoc true b c = refl
-or_assoc false b c = refl
-
-meets-append : (xs ys : List ℕ) (m : List Bool) → meets (xs ++ ys) m ≡ (meets xs m || meets ys (marked_at xs m))
-meets-append [] ys m = refl
-meets-append (x ∷ xs) ys m =
-    ap (λ b. slice_index_or m x false || b) (meets-append xs ys (slice_set m x true))
-    ∙ sym (or_assoc (slice_index_or m x false) (meets xs (slice_set m x true)) (meets ys (marked_at xs (slice_set m x true))))
-
-marked_at-append : (xs ys : List ℕ) (m : List Bool) → marked_at (xs ++ ys) m ≡ marked_at ys (marked_at xs m)
-marked_at-append [] ys m = refl
-marked_at-append (x ∷ xs) ys m = marked_at-append xs ys (slice_set m x true)
+abbrev pub meets : List ℕ → List Bool → Bool
+meets [] marks = false
+meets (n ∷ ns) marks = slice_index_or marks n false || meets ns (slice_set marks n true)
 
 length-set : (m : List Bool) (i : ℕ) (b : Bool) → length (slice_set m i b) ≡ length m
 length-set [] i b = refl
 length-set (x ∷ m) zero b = refl
 length-set (x ∷ m) (suc i) b = ap suc (length-set m i b)
-
-pub length-marked_at : (xs : List ℕ) (m : List Bool) → length (marked_at xs m) ≡ length m
-length-marked_at [] m = refl
-length-marked_at (x ∷ xs) m = length-marked_at xs (slice_set m x true) ∙ length-set m x true
 
 -- ---- the addresses of a row of ports that begins with a place
 
@@ -44,12 +30,6 @@ unfolding held
 held-before b None k = refl
 held-before b (Some t) k = by_enable t.own.registers.address (held t.ports) (held k) b.enable
 
-pub met-before : (b : PortState) (d : Option Plugged) (k : Ports) (m : List Bool) → meets (held (before (standing b d) k)) m ≡ (meets (held_in b d) m || meets (held k) (marked_at (held_in b d) m))
-met-before b d k m = ap (λ xs. meets xs m) (held-before b d k) ∙ meets-append (held_in b d) (held k) m
-
-pub marked_at-before : (b : PortState) (d : Option Plugged) (k : Ports) (m : List Bool) → marked_at (held (before (standing b d) k)) m ≡ marked_at (held k) (marked_at (held_in b d) m)
-marked_at-before b d k m = ap (λ xs. marked_at xs m) (held-before b d k) ∙ marked_at-append (held_in b d) (held k) m
-
 all_append : (xs ys : List ℕ) → AreBytes xs → AreBytes ys → AreBytes (xs ++ ys)
 all_append [] ys h g = g
 all_append (x ∷ xs) ys h g = (h.0, all_append xs ys h.1 g)
@@ -57,22 +37,10 @@ all_append (x ∷ xs) ys h g = (h.0, all_append xs ys h.1 g)
 pub bytes-before : (b : PortState) (d : Option Plugged) (k : Ports) → AreBytes (held_in b d) → AreBytes (held k) → AreBytes (held (before (standing b d) k))
 bytes-before b d k h g = rw (held-before b d k) (all_append (held_in b d) (held k) h g)
 
-pub met-none : (ps : List Kept) (m : List Bool) → length ps ≡ 0 → meets (held (ports_kept ps)) m ≡ false
-unfolding held
-met-none [] m h = refl
-met-none (p ∷ ps) m h = absurd (omega (arith, h))
-
-pub marked_at-none : (ps : List Kept) (m : List Bool) → length ps ≡ 0 → marked_at (held (ports_kept ps)) m ≡ m
-unfolding held
-marked_at-none [] m h = refl
-marked_at-none (p ∷ ps) m h = absurd (omega (arith, h))
-
 pub bytes-none : (ps : List Kept) → length ps ≡ 0 → AreBytes (held (ports_kept ps))
 unfolding held
 bytes-none [] h = tt
 bytes-none (p ∷ ps) h = absurd (omega (arith, h))
-
-pub ruleset marking = (length-marked_at, met-before, marked_at-before, bytes-before, met-none, marked_at-none, bytes-none)
 
 -- ---- what the marks tell
 
@@ -126,21 +94,10 @@ meets-is (x ∷ xs) ys m len small marks =
     ∙ ap (λ b. has x ys || (b || is_twice xs)) (share-more xs ys x)
     ∙ rest_of_it (has x ys) (share xs ys) (has x xs) (is_twice xs)
 
-unmarked : (k n : ℕ) → slice_index_or (replicate k false) n false ≡ false
-unmarked zero n = refl
-unmarked (suc k) zero = refl
-unmarked (suc k) (suc n) = unmarked k n
-
 share-none : (xs : List ℕ) → share xs [] ≡ false
 share-none [] = refl
 share-none (x ∷ xs) = share-none xs
 
-pub length-none : (k : ℕ) → length (replicate k false) ≡ k
-length-none zero = refl
-length-none (suc k) = ap suc (length-none k)
-
-pub twice-is : (xs : List ℕ) (m : List Bool) → m ≡ replicate 256 false → AreBytes xs → meets xs m ≡ is_twice xs
-twice-is xs m h small =
-    rw h (meets-is xs [] (replicate 256 false) (length-none 256) small (unmarked 256) ∙ ap (λ b. b || is_twice xs) (share-none xs))
-
-pub ruleset twice = (twice-is, length-none)
+-- where no mark is set
+pub met_none_of : (xs : List ℕ) (m : List Bool) → length m ≡ 256 → AreBytes xs → ((n : ℕ) → slice_index_or m n false ≡ false) → meets xs m ≡ is_twice xs
+met_none_of xs m len small none = meets-is xs [] m len small none ∙ ap (λ b. b || is_twice xs) (share-none xs)

@@ -11,7 +11,6 @@ pub mod TreeCodes
 pub mod LentPackets
 pub mod Places
 pub mod Delivery
-pub mod Marks
 pub mod Code
 pub mod ReceivedBytes
 pub mod AnswerPids
@@ -24,3 +23,5 @@ pub mod StrayPackets
 pub mod Progress
 pub mod StoppedPackets
 pub mod Route
+pub mod Holders
+pub mod HolderIndex

@@ -1,12 +1,12 @@
 -- A packet that goes straight to the device at a path, which is `deep` where it stands on a hub's port.
-use Rattle.std.specs.Prelude.{◌≡◌, ℕ, ◌+◌, ◌==◌, ◌&&◌, Bool, true, false, List, ◌∷◌, ◌++◌, Option, None, Some}
+use Rattle.std.specs.Prelude.{ℕ, ◌==◌, ◌&&◌, Bool, false, List, Option, None, Some}
 use Rattle.usb_device.specs.declared.answer.Answer.{Answer}
 use Rattle.usb_device.specs.declared.delivery.Sent.{Sent}
 use Rattle.usb_device.specs.declared.effect.Effect.{Effect}
 use Rattle.usb_device.specs.declared.effect.Effect.TheVariants.{Leaves}
 use Rattle.usb_device.specs.Rows.{State, forgotten}
-use Rattle.usb_device.specs.Tree.{Ports, Plugged, Place, empty, full, acted, reach, reach_at, state_at}
-use Rattle.usb_device.specs.View.{state_there, state_in, reach_in}
+use Rattle.usb_device.specs.Tree.{Ports, Plugged, Place, empty, full, acted, reach}
+use Rattle.usb_device.specs.View.{state_there}
 use Rattle.usb_device.specs.Delivery.{answer_of, effect_of}
 use Rattle.usb_device.specs.StoppedPackets.{IsRefused}
 
@@ -47,22 +47,3 @@ holds_by n (Some s) = s.registers.address == n
 
 abbrev pub is_held_at : ℕ → Ports → List ℕ → Bool
 is_held_at n k p = reach k p && holds_by n (state_there k p)
-
--- a path has grown by one that leads to such a device
-pub record HolderBehind (n : ℕ) (k : Ports) (old new : List ℕ) : Type 0 where
-  pub more : List ℕ
-  pub joined : new ≡ old ++ more
-  pub held : is_held_at n k more ≡ true
-
--- the same from a row of ports, whose first one has the number `first`
-pub record HolderAmong (n first : ℕ) (k : Ports) (old new : List ℕ) : Type 0 where
-  pub row : ℕ
-  pub rest : List ℕ
-  pub joined : new ≡ old ++ (first + row) ∷ rest
-  pub held : (reach_at k row rest && holds_by n (state_at k row rest)) ≡ true
-
--- the same from the port of a number
-pub record HolderAt (n number : ℕ) (q : Place) (old new : List ℕ) : Type 0 where
-  pub rest : List ℕ
-  pub joined : new ≡ old ++ number ∷ rest
-  pub held : (reach_in q rest && holds_by n (state_in q rest)) ≡ true

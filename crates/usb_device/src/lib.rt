@@ -11,6 +11,7 @@ mod device;
 mod devices;
 mod effect;
 mod hearing;
+mod holders;
 mod hub_spec;
 mod laws;
 mod lent_packet;
@@ -19,7 +20,6 @@ mod own;
 mod ports;
 mod request;
 mod route;
-mod shared;
 mod spec;
 mod transfer;
 
@@ -28,8 +28,9 @@ pub use children::Parent;
 pub use delivery::{Content, Heard, Sent};
 pub use device::Device;
 pub use devices::Devices;
-pub use effect::Effect;
+pub use effect::{Effect, keeps_enable};
 pub use hearing::{HeardPid, Hearing};
+pub use holders::{Holder, Holders};
 pub use hub_spec::{HubSpec, has_hub_class};
 pub use laws::{
     answer_laws, attempt_laws, control_read_goes_on, sink_goes_on, source_goes_on, stray_laws,

@@ -1,17 +1,15 @@
 //! A packet that goes straight to one device, by its path.
-ghost use Rattle.std.specs.Prelude.{◌≡◌, ◌&&◌, false, IsTrue, OnOk, OnErr};
+ghost use Rattle.std.specs.Prelude.{◌≡◌, OnOk, OnErr};
 ghost use Rattle.usb_device.specs.Tree.{changed, changed_in, device_there, plugged_in};
 ghost use Rattle.usb_device.specs.Places.{ports_kept, stood};
-ghost use Rattle.usb_device.specs.View.{state_in, reach_in};
 ghost use Rattle.usb_device.specs.Delivery.{both, heard_from, effect_of};
-ghost use Rattle.usb_device.specs.Route.{sent_in, answer_by, RefusedBy, effect_by, forgotten_in, address_by, holds_by, is_held_at, HolderBehind, HolderAmong, HolderAt};
+ghost use Rattle.usb_device.specs.Route.{sent_in, answer_by, RefusedBy, effect_by, forgotten_in, address_by};
 
 use crate::device::Device;
 use crate::effect::Effect;
 use crate::hearing::Hearing;
 use crate::lent_packet::LentPacket;
 use crate::ports::{Place, Ports};
-use arrayvec::ArrayVec;
 use std::alloc::AllocError;
 
 impl Ports {
@@ -72,51 +70,6 @@ impl Ports {
         }
         self.places[i - 1].forget_at(rest)
     }
-
-    /// Whether packets reach a device at a path, and it holds the address.
-    #[cycle(is_held_at)]
-    #[tactic(auto, using(crate::proofs::NumberedPlaces::routing))]
-    pub fn is_held_at(&self, path: &[u8], address: u8) -> bool
-        ensures { result ≡ is_held_at address self.now path.now }
-    {
-        match path.split_first() {
-            None => false,
-            Some((number, rest)) => {
-                let i = usize::from(*number);
-                i != 0 && i <= self.places.len() && self.places[i - 1].is_held_at(rest, address)
-            }
-        }
-    }
-
-    /// Looks for a device that packets reach and that holds the address, and puts its path behind
-    /// `path`; whether it was found. One whose path does not fit in `path` is not.
-    #[cycle(find)]
-    pub fn find(&self, address: u8, path: &mut ArrayVec<u8, 8>) -> bool
-        ensures found { IsTrue result
-            → HolderBehind address self.now path.old.items path.new.items }
-        ensures none { result ≡ false → path.new ≡ path.old }
-    {
-        find_in(self.places.as_slice(), 1, address, path)
-    }
-}
-
-/// The same among ports, of which the first one has the number.
-#[cycle(find)]
-fn find_in(places: &[Place], number: u8, address: u8, path: &mut ArrayVec<u8, 8>) -> bool
-    ensures found { IsTrue result
-        → HolderAmong address number (ports_kept places.now) path.old.items path.new.items }
-    ensures none { result ≡ false → path.new ≡ path.old }
-{
-    let Some((place, rest)) = places.split_first() else {
-        return false;
-    };
-    if place.find(number, address, path) {
-        return true;
-    }
-    match number.checked_add(1) {
-        Some(next) => find_in(rest, next, address, path),
-        None => false,
-    }
 }
 
 impl Place {
@@ -159,42 +112,6 @@ impl Place {
                 Some(device.address())
             }
             [_, ..] => device.ports.forget_at(path),
-        }
-    }
-
-    #[cycle(is_held_at)]
-    fn is_held_at(&self, path: &[u8], address: u8) -> bool
-        ensures { result ≡ (reach_in (stood self.now) path.now
-            && holds_by address (state_in (stood self.now) path.now)) }
-    {
-        match &self.device {
-            Some(device) if self.port.is_enabled() => match path {
-                [] => device.address() == address,
-                [_, ..] => device.ports.is_held_at(path, address),
-            },
-            _ => false,
-        }
-    }
-
-    /// The same at the port, which has the number, and below it.
-    #[cycle(find)]
-    fn find(&self, number: u8, address: u8, path: &mut ArrayVec<u8, 8>) -> bool
-        ensures found { IsTrue result
-            → HolderAt address number (stood self.now) path.old.items path.new.items }
-        ensures none { result ≡ false → path.new ≡ path.old }
-    {
-        match &self.device {
-            Some(device) if self.port.is_enabled() => {
-                if path.try_push(number).is_err() {
-                    return false;
-                }
-                if device.address() == address || device.ports.find(address, path) {
-                    return true;
-                }
-                let _ = path.pop();
-                false
-            }
-            _ => false,
         }
     }
 }

@@ -60,4 +60,4 @@ pub mod UnsharedRefusals
 pub mod RestingPorts
 pub mod Routes
 pub mod RoutesKept
-pub mod HintedPaths
+pub mod Silence

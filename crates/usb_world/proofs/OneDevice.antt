@@ -188,7 +188,7 @@ payload_calls Broken s h = refl
 
 -- Nobody holds the address: an attempt changes nothing, and nothing is answered
 
-sent_to_nobody : (o : Option Sent) (k : Ports) → IsSettled k → ((q : Sent) → o ≡ Some q → (t : State) → ((i : ℕ) × (e : List ℕ) × (state_at k i e ≡ Some t) × (reach_at k i e ≡ true)) → calls_on q.content t ≡ false)
+pub sent_to_nobody : (o : Option Sent) (k : Ports) → IsSettled k → ((q : Sent) → o ≡ Some q → (t : State) → ((i : ℕ) × (e : List ℕ) × (state_at k i e ≡ Some t) × (reach_at k i e ≡ true)) → calls_on q.content t ≡ false)
     → (after_sent o k ≡ k) × (answers_to o k ≡ [])
 sent_to_nobody None k s c = (refl, refl)
 sent_to_nobody (Some q) k s c = (rest_packet q false k rest, rest_answers q false k rest)

@@ -1,5 +1,5 @@
 -- A packet that goes straight to the one device that it is for does what it does in the whole tree.
-use Rattle.std.proofs.Common.{◌≡◌, ℕ, zero, suc, ◌&&◌, ◌||◌, if◌then◌else◌, Bool, true, false, List, [], ◌∷◌, Option, None, Some, is_some, option_map, Result, Ok, Err, OnOk, OnErr, refl, ap, sym, subst, ◌∙◌}
+use Rattle.std.proofs.Common.{◌≡◌, ◌<◌, ℕ, zero, suc, ◌&&◌, ◌||◌, if◌then◌else◌, Bool, true, false, List, [], ◌∷◌, Option, None, Some, is_some, option_map, Result, Ok, Err, OnOk, OnErr, refl, ap, sym, subst, ◌∙◌}
 use Rattle.usb_port.specs.PortState.{PortState}
 use Rattle.usb_device.specs.declared.answer.Answer.{Answer}
 use Rattle.usb_device.specs.declared.delivery.Heard.{Heard}
@@ -11,15 +11,19 @@ use Rattle.usb_device.specs.StoppedPackets.{Stopped, behind_empty, behind, below
 use Rattle.usb_device.specs.Tree.{Ports, ended, vacant, taken, Plugged, Place, empty, full, before, acted, changed_at, changed, plugged_at, device_there, reach_at, state_at, place_at, row_of}
 use Rattle.usb_device.specs.Delivery.{listed, held, is_twice, answer_of, effect_of, after_packet, delivered_place, delivered_device, on_port, heard_of, heard_from, both, all_forgotten, has_loss, asks_clearing, clears_change, figure}
 use Rattle.usb_device.specs.Route.{sent_in, answer_by, RefusedBy, effect_by, forgotten_in, holds_by, is_held_at}
-use Rattle.usb_device.proofs.Interface.{figure-after, row_of-after}
+use Rattle.usb_device.specs.declared.holders.Holder.{Holder}
+use Rattle.usb_device.specs.declared.holders.Holder.TheVariants.{Nobody, One, Several}
+use Rattle.usb_device.specs.declared.holders.Holders.{Holders}
+use Rattle.usb_device.specs.Holders.{holder_of}
+use Rattle.usb_device.specs.HolderIndex.{holder_in, IsIndexOf}
+use Rattle.usb_device.proofs.Interface.{figure-after, one_is_held, row_of-after}
 use Rattle.usb_world.specs.declared.types.Attempt.{Attempt}
 use Rattle.usb_world.specs.declared.damage.Damage.{Damage}
 use Rattle.usb_world.specs.Paths.{address_of}
 use Rattle.usb_world.specs.AttemptPackets.{after_sent, answers_to, deep_at, IfOut, IsTokenFor, IsDataOut, IsAckOut, IsSettled}
 use Rattle.usb_world.specs.Exchange.{token_out, clears_at}
 use Rattle.usb_world.specs.CutPackets.{IsStopped}
-use Rattle.usb_world.specs.declared.route.Hints.{Hints}
-use Rattle.usb_world.specs.Hints.{path_in, way_in}
+use Rattle.usb_world.specs.Route.{way_of, way_in}
 use Rattle.usb_world.specs.LonePackets.{OthersForgot, Alone, AloneAt, IsWayTo, is_whole_tree, is_deep}
 use Rattle.usb_world.proofs.Booleans.{no, both as both_true, and_of, or_nothing}
 use Rattle.usb_world.proofs.PacketEffects.{true_deep}
@@ -85,7 +89,7 @@ heard_place_by q deep None = refl
 heard_place_by q deep (Some (empty b)) = refl
 heard_place_by q deep (Some (full b s a)) = heard_one (answer_of q deep s a).0
 
-rest_clears : (q : Sent) (deep : Bool) (k : Ports) → ((i : ℕ) (e : List ℕ) (t : State) → state_at k i e ≡ Some t → t.memory ≡ Nothing) → clears_change q deep k ≡ false
+pub rest_clears : (q : Sent) (deep : Bool) (k : Ports) → ((i : ℕ) (e : List ℕ) (t : State) → state_at k i e ≡ Some t → t.memory ≡ Nothing) → clears_change q deep k ≡ false
 rest_clears q deep k c = clears_if q deep k (λ i e t at dp. ap asks_clearing (rested_effect q dp t (c i e t at)))
 
 others_clear : (q : Sent) (deep : Bool) (k : Ports) (j : ℕ) (p : List ℕ) → reach_at k j p ≡ true → OthersForgot k (record { row = j; rest = p }) → clears_change q deep k ≡ asks_clearing (effect_by q (deep_at deep p) (plugged_at k j p))
@@ -308,7 +312,15 @@ one_at n k (suc j ∷ p) s h =
     address_is None h = no h
     address_is (Some t) h = ap (λ x. Some x) (equal_same (address_of t) n h)
 
--- the way that is taken: the known one, or the whole tree's
-pub way_to : (n : ℕ) (k : Ports) (h : Hints) (known : Bool) (p : List ℕ) → p ≡ way_in h known n → (known ≡ true → IsWayTo n k (path_in h n)) → IsWayTo n k p
-way_to n k h true p e w = subst (IsWayTo n k) (sym e) (w refl)
-way_to n k h false p e w = subst (IsWayTo n k) (sym e) tt
+-- the way that is taken: to the one that the index names, or the whole tree's
+pub way_by_index : (n : ℕ) (k : Ports) (h : Holders) (p : List ℕ) → n < 256 → IsIndexOf h k → p ≡ way_in h n → IsWayTo n k p
+way_by_index n k h p small is e = subst (IsWayTo n k) (sym e) (by_shared h.shared refl)
+  where
+    by_holder : is_twice (held k) ≡ false → (x : Holder) → holder_of n k ≡ x → IsWayTo n k (way_of false x)
+    by_holder single Nobody f = tt
+    by_holder single (One path) f = one_at n k path.items single (one_is_held n k path f)
+    by_holder single Several f = tt
+
+    by_shared : (b : Bool) → h.shared ≡ b → IsWayTo n k (way_of b (holder_in h n))
+    by_shared true f = tt
+    by_shared false f = by_holder (sym is.1 ∙ f) (holder_in h n) (sym (is.0 n small))

@@ -1,15 +1,19 @@
 -- An attempt that goes straight to one device: whose addresses stay.
-use Rattle.std.proofs.Common.{◌≡◌, ℕ, zero, suc, if◌then◌else◌, Bool, true, false, List, [], ◌∷◌, ◌++◌, Option, None, Some, is_some, option_map, IsSome, nat_eq, refl, ap, sym, subst, ◌∙◌}
+use Rattle.std.proofs.Common.{◌≡◌, ◌+◌, ℕ, zero, suc, if◌then◌else◌, Bool, true, false, List, [], ◌∷◌, ◌++◌, Option, None, Some, is_some, option_map, IsSome, nat_eq, refl, ap, ap₂, sym, subst, ◌∙◌}
 use Rattle.std.proofs.lemmas.Option.{same_Some}
 use Rattle.std.specs.Option.{option_eq}
+use Rattle.arrayvec.specs.ArrayVec.{ArrayVec}
 use Rattle.usb_port.specs.PortState.{PortState}
 use Rattle.usb_device.specs.declared.delivery.Sent.{Sent}
 use Rattle.usb_device.specs.declared.effect.Effect.TheVariants.{Leaves}
 use Rattle.usb_device.specs.Rows.{State, forgotten}
 use Rattle.usb_device.specs.Tree.{Ports, ended, vacant, taken, Place, empty, full, before, acted, changed_at, plugged_at, device_there, reach_at, place_at, Spot}
-use Rattle.usb_device.specs.Delivery.{answer_of, effect_of, all_forgotten, held, is_twice}
+use Rattle.usb_device.specs.Delivery.{answer_of, all_forgotten}
+use Rattle.usb_device.specs.Holders.{path_below, reached, all_reached, ReachedSame, keeps_reached}
+use Rattle.usb_device.specs.HolderIndex.{IsIndexOf}
+use Rattle.usb_device.specs.declared.holders.Holders.{Holders}
 use Rattle.usb_device.specs.Route.{sent_in, effect_by, forgotten_in, address_by}
-use Rattle.usb_device.proofs.Interface.{changed_at-head}
+use Rattle.usb_device.proofs.Interface.{changed_at-head, reached-acted, reached-changed, same_index}
 use Rattle.usb_world.specs.declared.types.Attempt.{Attempt}
 use Rattle.usb_world.specs.declared.damage.Damage.{Damage}
 use Rattle.usb_world.specs.Paths.{address_of}
@@ -64,26 +68,10 @@ place_at-changed f (taken b s a k) zero (zero ∷ p) = refl
 place_at-changed f (taken b s a k) zero (suc j ∷ p) = place_at-changed f a j p
 place_at-changed f (taken b s a k) (suc j) p = place_at-changed f k j p
 
--- a device there with another state of the same address: all addresses are as they were
-address_same : (b : PortState) (s t : State) (a k : Ports) → t.registers.address ≡ s.registers.address → held (taken b t a k) ≡ held (taken b s a k)
-unfolding held
-address_same b s t a k e = ap (λ n. if b.enable then n ∷ (held a ++ held k) else held k) e
-
-held-changed : (f : Place → Place) (k : Ports) (j : ℕ) (p : List ℕ) (b : PortState) (s t : State) (a : Ports) → place_at k j p ≡ Some (full b s a) → f (full b s a) ≡ full b t a
-    → t.registers.address ≡ s.registers.address → held (changed_at f k j p) ≡ held k
-unfolding held place_at changed_at
-held-changed f ended j p b s t a h e w = no (ap is_some h)
-held-changed f (vacant c k) zero [] b s t a h e w = no (ap (λ x. is_some (stands x)) h)
-held-changed f (vacant c k) zero (n ∷ p) b s t a h e w = no (ap is_some h)
-held-changed f (vacant c k) (suc j) p b s t a h e w = held-changed f k j p b s t a h e w
-held-changed f (taken c u x k) zero [] b s t a h e w =
-    let same : full c u x ≡ full b s a = same_Some (full c u x) (full b s a) h in
-    ap (λ y. held (before (f y) k)) same ∙ ap (λ y. held (before y k)) e ∙ address_same b s t a k w ∙ ap (λ y. held (before y k)) (sym same)
-held-changed f (taken c u x k) zero (zero ∷ p) b s t a h e w = no (ap is_some h)
-held-changed f (taken c u x k) zero (suc j ∷ p) b s t a h e w =
-    ap (λ y. if c.enable then u.registers.address ∷ (y ++ held k) else held k) (held-changed f x j p b s t a h e w)
-held-changed f (taken c u x k) (suc j) p b s t a h e w =
-    ap (λ y. if c.enable then u.registers.address ∷ (held x ++ y) else y) (held-changed f k j p b s t a h e w)
+-- a device with another state of the same address, and ports below which the same devices are reached
+same_there : (b : PortState) (s t : State) (a c : Ports) → t.registers.address ≡ s.registers.address → ((w : Option (ArrayVec ℕ)) (n : ℕ) → reached w n c ≡ reached w n a) → ReachedSame (full b t c) (full b s a)
+unfolding reached
+same_there b s t a c e h = λ w n. ap₂ (λ m l. if b.enable then (m, path_below w n) ∷ (l ++ []) else []) e (h (path_below w n) 1)
 
 -- ---- one packet
 
@@ -99,14 +87,18 @@ step_calm : (o : Option Sent) (deep : Bool) (b : PortState) (s : State) (a : Por
 step_calm None deep b s a h = refl
 step_calm (Some q) deep b s a h = ap (λ e. full b (answer_of q deep s a).1 (acted e a)) h
 
+step_is : (o : Option Sent) (deep : Bool) (b : PortState) (s : State) (a : Ports) → step_in o deep (full b s a) ≡ full b (own_after o deep s a) (acted (asked_of o deep s) a)
+step_is None deep b s a = refl
+step_is (Some q) deep b s a = refl
+
 sent_one : (o : Option Sent) (k : Ports) (j : ℕ) (p : List ℕ) → Alone o k (record { row = j; rest = p }) → after_sent o k ≡ changed_at (step_in o (deep_at false p)) k j p
 sent_one None k j p h = sym (changed_at-same k j p)
 sent_one (Some q) k j p h = others_packet q false k j p h.on (others_rest q k j p h)
 
-quiet_asks : (o : Option Sent) (k : Ports) (j : ℕ) (p : List ℕ) (b : PortState) (s : State) (a : Ports) → IsQuiet o k (suc j ∷ p) → place_at k j p ≡ Some (full b s a) → asked_of o (deep_at false p) s ≡ Leaves
+quiet_asks : (o : Option Sent) (k : Ports) (j : ℕ) (p : List ℕ) (b : PortState) (s : State) (a : Ports) → IsQuiet o k (suc j ∷ p) → place_at k j p ≡ Some (full b s a) → keeps_reached (asked_of o (deep_at false p) s) ≡ true
 quiet_asks None k j p b s a h e = refl
 quiet_asks (Some q) k j p b s a h e =
-    sym (ap (λ x. effect_by q (deep_at false p) (plugged_on x)) e) ∙ ap (effect_by q (deep_at false p)) (plugged_place k j p) ∙ h
+    sym (ap (λ x. keeps_reached (effect_by q (deep_at false p) (plugged_on x))) e) ∙ ap (λ x. keeps_reached (effect_by q (deep_at false p) x)) (plugged_place k j p) ∙ h
 
 -- ---- an attempt
 
@@ -179,8 +171,11 @@ module _ (a : Attempt) (d : Option Damage) (k : Ports) (j : ℕ) (p : List ℕ) 
   abbrev second : State
   second = own_after q deep first here.below
 
+  abbrev below_then : Ports
+  below_then = acted (asked_of q deep first) here.below
+
   abbrev third : State
-  third = own_after r deep second here.below
+  third = own_after r deep second below_then
 
   first_place : step_in t deep (full here.port here.own here.below) ≡ full here.port first here.below
   first_place = step_calm t deep here.port here.own here.below (calm_asked t (token_calm a.addr t (goes a d k).token) deep here.own)
@@ -189,27 +184,35 @@ module _ (a : Attempt) (d : Option Damage) (k : Ports) (j : ℕ) (p : List ℕ) 
   first_at =
       ap (λ x. place_at x j p) (sent_one t k j p one) ∙ place_at-changed (step_in t deep) k j p ∙ ap (option_map (step_in t deep)) here.at ∙ ap (λ x. Some x) first_place
 
+  end_place : till_end (full here.port here.own here.below) ≡ full here.port third below_then
+  end_place =
+      ap (λ x. step_in r deep (step_in q deep x)) first_place
+      ∙ ap (step_in r deep) (step_is q deep here.port first here.below)
+      ∙ step_calm r deep here.port second below_then (calm_asked r (ack_calm r (goes a d k).reply) deep second)
+
+  end_at : place_at (ended_in a d k) j p ≡ Some (full here.port third below_then)
+  end_at = ap (λ x. place_at x j p) end_is ∙ place_at-changed till_end k j p ∙ ap (option_map till_end) here.at ∙ ap (λ x. Some x) end_place
+
+  here_address : here.own.registers.address ≡ a.addr
+  here_address = same_Some here.own.registers.address a.addr (sym (ap (option_map address_of) (sym (state_stands k j p) ∙ ap stands here.at)) ∙ holds.at)
+
   module _ (quiet : IsQuiet q (after_sent t k) (suc j ∷ p)) where
-    end_place : till_end (full here.port here.own here.below) ≡ full here.port third here.below
-    end_place =
-        ap (λ x. step_in r deep (step_in q deep x)) first_place
-        ∙ ap (step_in r deep) (step_calm q deep here.port first here.below (quiet_asks q (after_sent t k) j p here.port first here.below quiet first_at))
-        ∙ step_calm r deep here.port second here.below (calm_asked r (ack_calm r (goes a d k).reply) deep second)
+    below_same : (w : Option (ArrayVec ℕ)) (n : ℕ) → reached w n below_then ≡ reached w n here.below
+    below_same = reached-acted (asked_of q deep first) here.below (quiet_asks q (after_sent t k) j p here.port first here.below quiet first_at)
 
-    end_at : place_at (ended_in a d k) j p ≡ Some (full here.port third here.below)
-    end_at = ap (λ x. place_at x j p) end_is ∙ place_at-changed till_end k j p ∙ ap (option_map till_end) here.at ∙ ap (λ x. Some x) end_place
+    left_same : (x : Place) → x ≡ full here.port here.own here.below → third.registers.address ≡ here.own.registers.address → ReachedSame (forgotten_in (till_end x)) x
+    left_same x is e =
+        subst (λ y. ReachedSame (forgotten_in (till_end y)) y) (sym is)
+        (subst (λ y. ReachedSame (forgotten_in y) (full here.port here.own here.below)) (sym end_place) (same_there here.port here.own (forgotten third) here.below below_then e below_same))
 
-    here_address : here.own.registers.address ≡ a.addr
-    here_address = same_Some here.own.registers.address a.addr (sym (ap (option_map address_of) (sym (state_stands k j p) ∙ ap stands here.at)) ∙ holds.at)
-
-    addresses_stay : address_by (plugged_at (ended_in a d k) j p) ≡ Some a.addr → held (ports_in a d k) ≡ held k
+    addresses_stay : address_by (plugged_at (ended_in a d k) j p) ≡ Some a.addr → all_reached (ports_in a d k) ≡ all_reached k
     addresses_stay e =
         let address : third.registers.address ≡ a.addr =
         same_Some third.registers.address a.addr (sym (ap (λ x. address_by (plugged_on x)) end_at) ∙ ap address_by (plugged_place (ended_in a d k) j p) ∙ e) in
-        ap held all_is
-        ∙ held-changed (λ x. forgotten_in (till_end x)) k j p here.port here.own (forgotten third) here.below here.at (ap forgotten_in end_place) (address ∙ sym here_address)
+        ap all_reached all_is
+        ∙ reached-changed (λ x. forgotten_in (till_end x)) _ 1 k j p (λ x at. left_same x (same_Some x (full here.port here.own here.below) (sym at ∙ here.at)) (address ∙ sym here_address))
 
--- where nothing was asked of ports, and the device has the address still
+-- where what was asked of ports keeps who is reached, and the device has the address still
 held_still : (a : Attempt) (d : Option Damage) (k : Ports) (p : List ℕ) → IsQuiet (payload_out a d) (after_sent (token_out a d) k) p → address_by (device_there (ended_in a d k) p) ≡ Some a.addr
     → KeptAt a.addr k (ports_in a d k) p
 held_still a d k [] q e = no (ap is_some e)
@@ -225,7 +228,8 @@ kept_at a d k m n p (Some x) same asks e over at =
     let told : address_by (device_there m p) ≡ Some a.addr = sym (at refl) ∙ ap (λ y. Some y) (equal_same x a.addr same) in
     subst (λ y. KeptAt a.addr k y p) (sym (over ∙ ap all_forgotten e)) (held_still a d k p asks (ap (λ y. address_by (device_there y p)) (sym e) ∙ told))
 
-pub single_still : (n : ℕ) (k m : Ports) (p : List ℕ) → IsSettled k → IsWayTo n k p → KeptAt n k m p → is_twice (held m) ≡ false
-single_still n k m [] s w kept = absurd kept
-single_still n k m (zero ∷ p) s w kept = absurd kept
-single_still n k m (suc j ∷ p) s w kept = ap is_twice (kept s w) ∙ w.single
+-- the index of the tree then
+pub index_kept : (n : ℕ) (h : Holders) (k m : Ports) (p : List ℕ) → IsSettled k → IsWayTo n k p → KeptAt n k m p → IsIndexOf h k → IsIndexOf h m
+index_kept n h k m [] s w kept is = absurd kept
+index_kept n h k m (zero ∷ p) s w kept is = absurd kept
+index_kept n h k m (suc j ∷ p) s w kept is = same_index h k m (kept s w) is

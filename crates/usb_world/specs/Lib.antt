@@ -14,7 +14,7 @@ pub mod SaneProofs
 pub mod AttemptPackets
 pub mod CutPackets
 pub mod ExchangeEffects
-pub mod Hints
+pub mod Route
 pub mod Courses
 pub mod OneHolder
 pub mod FoundHolder
@@ -24,3 +24,4 @@ pub mod Devices
 pub mod PlanCourses
 pub mod RestingPorts
 pub mod LonePackets
+pub mod Silence

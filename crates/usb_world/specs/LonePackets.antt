@@ -4,11 +4,10 @@ use Rattle.usb_device.specs.declared.delivery.Sent.{Sent}
 use Rattle.usb_device.specs.declared.transfer.RememberedPacket.TheVariants.{Nothing}
 use Rattle.usb_device.specs.Rows.{State}
 use Rattle.usb_device.specs.Tree.{Ports, Spot, device_there, state_at, reach_at, reach_on}
-use Rattle.usb_device.specs.declared.effect.Effect.TheVariants.{Leaves}
 use Rattle.usb_device.specs.Route.{effect_by}
 use Rattle.usb_world.specs.Paths.{same_number, same_path}
 use Rattle.usb_world.specs.AttemptPackets.{deep_at, calls_on, IsSettled, OneHolds}
-use Rattle.usb_device.specs.Delivery.{held}
+use Rattle.usb_device.specs.Holders.{all_reached, keeps_reached}
 
 -- no other device remembers anything
 abbrev pub OthersForgot : Ports → Spot → Type 0
@@ -45,13 +44,13 @@ abbrev pub is_whole_tree : List ℕ → Bool
 is_whole_tree [] = true
 is_whole_tree (n ∷ p) = false
 
--- the device there asks nothing of its ports at what goes out
+-- what the device there asks of its ports at what goes out leaves the same devices reached
 abbrev pub IsQuiet : Option Sent → Ports → List ℕ → Type 0
 IsQuiet None k p = ⊤
-IsQuiet (Some q) k p = effect_by q (is_deep p) (device_there k p) ≡ Leaves
+IsQuiet (Some q) k p = keeps_reached (effect_by q (is_deep p) (device_there k p)) ≡ true
 
--- the path is a device's, and all addresses are as they were if that one alone held its own
+-- the path is a device's, and if that one alone held its address, the same devices are reached, with the same addresses
 abbrev pub KeptAt : ℕ → Ports → Ports → List ℕ → Type 0
 KeptAt n old new [] = ⊥
 KeptAt n old new (zero ∷ p) = ⊥
-KeptAt n old new (suc j ∷ p) = IsSettled old → OneHolds n old (record { row = j; rest = p }) → held new ≡ held old
+KeptAt n old new (suc j ∷ p) = IsSettled old → OneHolds n old (record { row = j; rest = p }) → all_reached new ≡ all_reached old

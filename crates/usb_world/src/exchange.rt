@@ -14,6 +14,7 @@ ghost use Rattle.usb_world.specs.ExchangeEffects.{StaysPlugged, PacketWent, Pack
 ghost use Rattle.usb_world.specs.CutPackets.{IsStopped};
 ghost use Rattle.usb_world.specs.Steps.{IsCut};
 ghost use Rattle.usb_world.specs.HeardAnswers.{heard_above};
+ghost use Rattle.usb_world.specs.Silence.{silent_exchange};
 ghost use Rattle.usb_world.specs.LonePackets.{AloneAt, IsQuiet, KeptAt, is_whole_tree, is_deep};
 
 use crate::damage::{Damage, Harm};
@@ -21,7 +22,7 @@ use crate::wire::{Mark, Outgoing, flipped, harm_to, mark_of, marked};
 use crate::{Attempt, Outcome};
 use arrayvec::ArrayVec;
 use std::alloc::AllocError;
-use usb_device::{Content, Effect, HeardPid, Hearing, LentPacket, Ports};
+use usb_device::{Content, HeardPid, Hearing, LentPacket, Ports};
 use usb_packet::{Packet, encode, one_flipped_bit};
 
 /// What the devices' answers to an attempt are together.
@@ -151,8 +152,8 @@ fn is_deep(path: &[u8]) -> bool
     path.len() > 1
 }
 
-/// Sends the packets of an attempt, and notes what is answered. `quiet` tells whether the device at
-/// the path is known to ask nothing of its ports.
+/// Sends the packets of an attempt, and notes what is answered. `quiet` tells whether what the
+/// device at the path asks of its ports is known to leave the same devices reached.
 fn send_packets(
     roots: &mut Ports,
     path: &[u8],
@@ -192,6 +193,20 @@ fn send_packets(
     let address_lost = send_reply(roots, path, attempt, &exchange.reply)?;
     exchange.address_lost = address_lost;
     Ok(())
+}
+
+/// Makes an attempt that no device hears: the host's token and its data go out, and nothing comes.
+pub(crate) fn make_silence(attempt: &Attempt, damage: Option<Damage>, exchange: &mut Exchange)
+    requires { IsAttempt attempt.now }
+    ensures { exchange.new ≡ silent_exchange attempt.now damage }
+{
+    put_token(attempt, damage, &mut exchange.token);
+    put_payload(attempt, damage, &mut exchange.payload);
+    exchange.answer = ExchangeAnswer::Nothing;
+    exchange.answer_mark = Mark::Whole;
+    exchange.reply = None;
+    exchange.address_lost = false;
+    exchange.change_cleared = false;
 }
 
 /// The place of the devices' answer among the packets of an attempt, counted from 1.
@@ -278,7 +293,8 @@ fn send(
 }
 
 /// Whether a hub will clear a change of connection of one of its ports at what goes out. `quiet`
-/// tells whether the device at the path is known to ask nothing of its ports.
+/// tells whether what the device at the path asks of its ports is known to leave the same devices
+/// reached.
 #[tactic(auto, using(crate::proofs::Routes::route_clears))]
 fn clears_change(
     roots: &Ports,
@@ -297,13 +313,11 @@ fn clears_change(
             false
         }
         Some(sent) if is_whole(path) => roots.clears_change(sent),
-        Some(sent) => match roots.effect_at(path, sent, is_deep(path)) {
-            Effect::Leaves => {
-                *quiet = true;
-                false
-            }
-            effect => effect.clears_change(),
-        },
+        Some(sent) => {
+            let effect = roots.effect_at(path, sent, is_deep(path));
+            *quiet = effect.keeps_reached();
+            effect.clears_change()
+        }
     }
 }
 

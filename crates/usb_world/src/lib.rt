@@ -25,6 +25,6 @@ pub use laws::{
 };
 pub use losses::Losses;
 pub use plan::Plan;
-pub use route::{Hints, make_exchange_by};
+pub use route::make_exchange_by;
 pub use types::{Attempt, BusFault, Outcome};
 pub use wire::{Mark, Outgoing, damage_of};

@@ -1,10 +1,10 @@
 //! The simulated bus as the host sees it.
 ghost use Rattle.std.specs.Prelude.{◌≡◌, ◌+◌, ◌-◌, ◌<◌, ◌≤◌, ◌∷◌, [], length, slice_index_or, true, false, None};
 ghost use Rattle.usb_port.specs.PortState.{off, status_of};
-ghost use Rattle.usb_device.specs.Tree.{row_of};
+ghost use Rattle.usb_device.specs.HolderIndex.{IsIndexOf};
+ghost use Rattle.usb_device.specs.Tree.{row_of, changed, called};
 ghost use Rattle.usb_port.specs.Calls.{IsSetFeature, IsClearFeature};
 ghost use Rattle.usb_world.specs.World.{Attempted, IsAttempt, IsRootPort};
-ghost use Rattle.usb_device.specs.Delivery.{held, is_twice};
 ghost use Rattle.usb_world.specs.Steps.{AttemptFails, SetsRoot, ClearsRoot, after, root_call};
 ghost use Rattle.usb_world.specs.AttemptPackets.{IsSettled};
 ghost use Rattle.usb_world.specs.SanePorts.{IsSane};
@@ -13,7 +13,7 @@ ghost use Rattle.usb_world.specs.declared.types.BusFault.TheVariants.{TraceFaile
 
 use super::SimBus;
 use crate::{Attempt, Bus, BusFault, Outcome, Trace};
-use usb_device::Ports;
+use usb_device::{Holders, Ports, keeps_enable};
 use usb_port::PortCall;
 use usb_world::{damage_of, make_exchange_by, outcome_of};
 
@@ -79,8 +79,7 @@ impl<T: Trace> SimBus<T> {
         ensures world { world_of self.new ≡ after (root_call call port) (world_of self.old) }
         ensures tracer { tracer_of self.new ≡ tracer_of self.old }
     {
-        self.single = false;
-        self.roots.call(port, call);
+        call_at(&mut self.roots, &mut self.holders, port, call);
         self.losses = self.losses.after_clearing(call.clears_connection_change());
     }
 
@@ -95,16 +94,13 @@ impl<T: Trace> SimBus<T> {
         ensures trace { result ≡ Err TraceFailed → T.failed (tracer_of self.new) ≡ true }
     {
         self.take_due_events()?;
-        let shared = is_shared(&self.roots, self.single);
-        self.shared |= shared;
-        self.single = !shared;
+        self.shared |= self.holders.is_shared();
         let damage = damage_of(&self.damages, self.attempts + 1);
         // Where memory is refused, some devices had the host's data and others had not: the fault stands before they go.
         self.fault = Some(BusFault::Memory);
         make_exchange_by(
             &mut self.roots,
-            &mut self.hints,
-            &mut self.single,
+            &mut self.holders,
             attempt,
             damage,
             &mut self.exchange,
@@ -127,12 +123,17 @@ impl<T: Trace> SimBus<T> {
     }
 }
 
-/// Whether two reachable devices hold one address, where it is not known that none do.
-fn is_shared(roots: &Ports, single: bool) -> bool
-    requires { single ≡ true → is_twice (held roots.now) ≡ false }
-    ensures { result ≡ is_twice (held roots.now) }
+/// A call at the port of a number, counted from 1; `holders` is the index of the ports.
+fn call_at(roots: &mut Ports, holders: &mut Holders, port: u8, call: PortCall)
+    requires { IsIndexOf holders.old roots.old }
+    ensures called { roots.new ≡ changed (called call) roots.old (port ∷ []) }
+    ensures index { IsIndexOf holders.new roots.new }
 {
-    !single && roots.has_shared_address()
+    roots.call(port, call);
+    if keeps_enable(call) {
+        return;
+    }
+    holders.renew(roots);
 }
 
 /// The status of the port of a number, counted from 1.

@@ -1,5 +1,6 @@
 //! The events of a plan as they come.
 ghost use Rattle.std.specs.Prelude.{◌≡◌, ◌+◌, ◌<◌, ◌≤◌, [], ◌∷◌, ◌++◌, length, true, Ok, Some, None, OnOk, OnErr, IsTrue, IsSome};
+ghost use Rattle.usb_device.specs.HolderIndex.{IsIndexOf};
 ghost use Rattle.usb_device.specs.Tree.{row_of, changed, replaced};
 ghost use Rattle.usb_world.specs.World.{changes, to_come};
 ghost use Rattle.usb_world.specs.Steps.{after, event, happened, has_due};
@@ -16,7 +17,7 @@ use crate::shown::ShownName;
 use crate::{Action, BusFault, Due, Trace, WriteFailed};
 use std::alloc::{AllocError, Global};
 use std::rc::Rc;
-use usb_device::{Device, DeviceSpec, Ports};
+use usb_device::{Device, DeviceSpec, Holders, Ports};
 use usb_port::PortPath;
 
 impl<T: Trace> SimBus<T> {
@@ -86,8 +87,13 @@ impl<T: Trace> SimBus<T> {
             return Ok(None);
         };
         self.fault = Some(BusFault::Memory);
-        self.single = false;
-        carry_out(self.alloc, &mut self.roots, &self.devices, &event.action)?;
+        carry_out(
+            self.alloc,
+            &mut self.roots,
+            &mut self.holders,
+            &self.devices,
+            &event.action,
+        )?;
         let event = self.left.pop_front().unwrap();
         self.taken += 1;
         self.attempts_then = self.attempts;
@@ -99,7 +105,7 @@ impl<T: Trace> SimBus<T> {
     }
 }
 
-/// What an action does to what is plugged.
+/// What an action does to what is plugged; `holders` is the index of it.
 ///
 /// # Errors
 ///
@@ -107,18 +113,19 @@ impl<T: Trace> SimBus<T> {
 fn carry_out(
     alloc: Global,
     roots: &mut Ports,
+    holders: &mut Holders,
     devices: &Descriptions,
     action: &Action,
 ) -> Result<(), AllocError>
-    requires { can_be_done (length devices.now) action.now ≡ true }
+    requires can { can_be_done (length devices.now) action.now ≡ true }
+    requires index { IsIndexOf holders.old roots.old }
     ensures ok { OnOk result (roots.new ≡ happened action.now devices.now roots.old) }
     ensures err { OnErr result (roots.new ≡ roots.old) }
+    ensures index { IsIndexOf holders.new roots.new }
 {
     match action {
-        Action::Plug(path, device) => plug(alloc, roots, path, devices.at(*device))?,
-        Action::Unplug(path) => {
-            let _ = roots.unplug(path.numbers());
-        }
+        Action::Plug(path, device) => plug(alloc, roots, holders, path, devices.at(*device))?,
+        Action::Unplug(path) => unplug(roots, holders, path),
         Action::Show => {}
         Action::Send(_, _) => {}
         Action::Receive(_, _) => {}
@@ -131,15 +138,29 @@ fn carry_out(
 fn plug(
     alloc: Global,
     roots: &mut Ports,
+    holders: &mut Holders,
     path: &PortPath,
     spec: &Rc<DeviceSpec>,
 ) -> Result<(), AllocError>
+    requires { IsIndexOf holders.old roots.old }
     ensures ok { OnOk result (roots.new ≡ changed (replaced (Some spec.now.value)) roots.old path.now) }
     ensures err { OnErr result (roots.new ≡ roots.old) }
+    ensures index { IsIndexOf holders.new roots.new }
 {
     let device = Device::new(alloc, spec)?;
     roots.plug(path.numbers(), device);
+    holders.renew(roots);
     Ok(())
+}
+
+/// Unplugs what stands at a port, if anything does.
+fn unplug(roots: &mut Ports, holders: &mut Holders, path: &PortPath)
+    requires { IsIndexOf holders.old roots.old }
+    ensures unplugged { roots.new ≡ changed (replaced None) roots.old path.now }
+    ensures index { IsIndexOf holders.new roots.new }
+{
+    let _ = roots.unplug(path.numbers());
+    holders.renew(roots);
 }
 
 /// The line of an event.

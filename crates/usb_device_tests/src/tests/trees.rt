@@ -5,12 +5,11 @@ use super::packets::Way::{Full, Low, LowWithPre};
 use super::packets::{ADDRESSING, Host, Way, are_heard, going_out, is_heard};
 use TreeStep::{
     Asks, Calls, Clears, Count, Finds, HasLoss, HasShared, IsDevice, IsEnabled, Over, Plugs, Sends,
-    TakesAddress, Unplugs,
+    SeveralHold, TakesAddress, Unplugs,
 };
-use arrayvec::ArrayVec;
 use std::alloc::{AllocError, Global};
 use std::test::Fail;
-use usb_device::{LentPacket, Ports};
+use usb_device::{Holder, Holders, LentPacket, Ports};
 use usb_port::PortCall;
 
 #[derive(Clone, Copy)]
@@ -30,8 +29,9 @@ enum TreeStep {
     /// Whether a device is at a path.
     IsDevice(&'static [u8], bool),
     IsEnabled(u8, bool),
-    /// Which path leads to a holder of an address; an empty one where none is found.
+    /// Which path leads to the one holder of an address; an empty one where there is none.
     Finds(u8, &'static [u8]),
+    SeveralHold(u8),
     Over,
     HasShared(bool),
     HasLoss(bool),
@@ -99,7 +99,7 @@ const ROWS: &[TreeRow] = &[
             IsEnabled(3, false),
             Sends(Low, Setup(0), "none"),
             Sends(Low, Data0(GET_DEVICE), "collision"),
-            Finds(0, &[1]),
+            SeveralHold(0),
             Unplugs(&[1], true),
             Finds(0, &[2]),
             Plugs(&[1], &LOW),
@@ -165,9 +165,18 @@ fn is_enabled(ports: &Ports, number: u8) -> bool {
     }
 }
 
-fn finds(ports: &Ports, address: u8, path: &[u8]) -> bool {
-    let mut found: ArrayVec<u8, 8> = ArrayVec::new();
-    ports.find(address, &mut found) != path.is_empty() && found.as_slice() == path
+/// Whether one device holds the address, at the path, or nobody does, where the path is empty.
+fn finds(alloc: Global, ports: &Ports, address: u8, path: &[u8]) -> Result<bool, AllocError> {
+    match Holders::of(alloc, ports)?.holder(address) {
+        Holder::Nobody => Ok(path.is_empty()),
+        Holder::One(found) => Ok(found.as_slice() == path),
+        Holder::Several => Ok(false),
+    }
+}
+
+fn several_hold(alloc: Global, ports: &Ports, address: u8) -> Result<bool, AllocError> {
+    let holders = Holders::of(alloc, ports)?;
+    Ok(matches!(holders.holder(address), Holder::Several))
 }
 
 fn asks(ports: &mut Ports, address: u8, request: &'static [u8]) -> Result<bool, AllocError> {
@@ -197,8 +206,6 @@ fn tells(ports: &Ports, step: TreeStep) -> bool {
         Clears(host, is) => ports.clears_change(&LentPacket::of(&going_out(Full, host))) == is,
         IsDevice(path, is) => ports.device_at(path).is_some() == is,
         IsEnabled(number, is) => is_enabled(ports, number) == is,
-        Finds(address, path) => finds(ports, address, path),
-        HasShared(is) => ports.has_shared_address() == is,
         HasLoss(is) => ports.has_address_loss() == is,
         Count(count) => ports.count() == count,
         _ => true,
@@ -211,6 +218,9 @@ fn holds(alloc: Global, ports: &mut Ports, step: TreeStep) -> Result<bool, Alloc
         Asks(address, request) => asks(ports, address, request),
         TakesAddress => are_heard(ports, ADDRESSING),
         Plugs(path, plan) => plugs(alloc, ports, path, plan),
+        Finds(address, path) => finds(alloc, ports, address, path),
+        SeveralHold(address) => several_hold(alloc, ports, address),
+        HasShared(is) => Ok(Holders::of(alloc, ports)?.is_shared() == is),
         _ => Ok(is_so(ports, step)),
     }
 }

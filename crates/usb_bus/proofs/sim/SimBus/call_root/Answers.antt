@@ -12,8 +12,8 @@ invariant_of-self g c =
     let s = c.args.self.now in
     let call = c.args.call in
     let port = c.args.port in
-    let e = c.call.ensures in
-    let long : length (row_of c.call.new.self) ≡ length (row_of s.roots) = ap (λ k. length (row_of k)) e ∙ row_long (called call) s.roots (port ∷ []) in
+    let e = c.call_at.ensures.called in
+    let long : length (row_of c.call_at.new.roots) ≡ length (row_of s.roots) = ap (λ k. length (row_of k)) e ∙ row_long (called call) s.roots (port ∷ []) in
     let P : Losses → Type 0 = λ l. AreOfDamages s.attempts s.damages.items l in
     record {
       some_root = omega (arith, long, s.some_root);
@@ -31,5 +31,5 @@ invariant_of-self g c =
       lost = subst P (sym c.after_clearing-self.ensures) (losses_cleared _ s.attempts s.damages.items s.losses s.lost);
       at_limit = s.at_limit;
       marked = s.marked;
-      lone = λ e. absurd (cc e);
+      indexed = c.call_at.ensures.index;
     }

@@ -59,7 +59,7 @@ invariant_of-self g c =
       lost = mid.lost;
       at_limit = λ e. absurd (cc e);
       marked = mid.marked ∙ ap tells_failure c.in_ok-take_due_events.ensures.came.told;
-      lone = c.make_exchange_by.ensures.single;
+      indexed = c.make_exchange_by.ensures.index;
     }
 
 pub invariant_of-self-2 : goal.invariant_of-self-2
@@ -90,7 +90,7 @@ invariant_of-self-2 g c =
           (losses_after mid.damages.items mid.attempts a mid.roots x.change_cleared x.address_lost mid.losses c.requires.attempt mid.settled lost mid.lost);
       at_limit = λ e. absurd (cc e);
       marked = c.in_ok-put_attempt.ensures.unmarked ∙ mid.marked ∙ ap tells_failure c.in_ok-take_due_events.ensures.came.told;
-      lone = c.in_ok-make_exchange_by.ensures.single;
+      indexed = c.in_ok-make_exchange_by.ensures.index;
     }
 
 pub invariant_of-self-in-Break-branch-3 : goal.invariant_of-self-in-Break-branch-3
@@ -121,7 +121,7 @@ invariant_of-self-in-Break-branch-3 g c =
           (losses_after mid.damages.items mid.attempts a mid.roots x.change_cleared x.address_lost mid.losses c.requires.attempt mid.settled lost mid.lost);
       at_limit = λ e. absurd (cc e);
       marked = c.in_err-put_attempt.ensures.marked;
-      lone = c.in_ok-make_exchange_by.ensures.single;
+      indexed = c.in_ok-make_exchange_by.ensures.index;
     }
 
 pub returns-clause-made : goal.returns-clause-made
@@ -137,8 +137,8 @@ returns-clause-made g c =
     let ports = c.in_ok-make_exchange_by.ensures.made.ports ∙ ap (λ (d : Option Damage). ports_in a d mid.roots) damage in
     let world : Losses → Bool → World
     = λ l s. record (world_of mid) { roots = c.make_exchange_by.new.roots; attempts = mid.attempts + 1; losses = l; shared = mid.shared || s } in
-    let exact = without_fault (world c.counted-self.result c.is_shared-shared.result) _ None
-    (ap₂ world (c.counted-self.ensures ∙ ap (counted x.address_lost) c.after_clearing.ensures) c.is_shared-shared.ensures
+    let exact = without_fault (world c.counted-self.result c.is_shared.result) _ None
+    (ap₂ world (c.counted-self.ensures ∙ ap (counted x.address_lost) c.after_clearing.ensures) (c.is_shared.ensures ∙ mid.indexed.1)
     ∙ attempt_made a w (world_of mid) x c.make_exchange_by.new.roots came.exact made ports)
     came.told refl in
     let same : mid.attempts ≡ c.args.self.now.attempts = omega (arith, c.take_due_events.ensures.came.spends.later, c.take_due_events.ensures.came.spends.most) in
@@ -170,8 +170,8 @@ returns-in_err-put_attempt-clause-made g c =
     let ports = c.in_ok-make_exchange_by.ensures.made.ports ∙ ap (λ (d : Option Damage). ports_in a d mid.roots) damage in
     let world : Losses → Bool → World
     = λ l s. record (world_of mid) { roots = c.make_exchange_by.new.roots; attempts = mid.attempts + 1; losses = l; shared = mid.shared || s } in
-    let exact = without_fault (world c.counted-self.result c.is_shared-shared.result) _ None
-    (ap₂ world (c.counted-self.ensures ∙ ap (counted x.address_lost) c.after_clearing.ensures) c.is_shared-shared.ensures
+    let exact = without_fault (world c.counted-self.result c.is_shared.result) _ None
+    (ap₂ world (c.counted-self.ensures ∙ ap (counted x.address_lost) c.after_clearing.ensures) (c.is_shared.ensures ∙ mid.indexed.1)
     ∙ attempt_made a w (world_of mid) x c.make_exchange_by.new.roots came.exact made ports)
     came.told refl in
     let same : mid.attempts ≡ c.args.self.now.attempts = omega (arith, c.take_due_events.ensures.came.spends.later, c.take_due_events.ensures.came.spends.most) in
@@ -210,7 +210,7 @@ returns-in_err-make_exchange_by-clause-made g c =
       exact = search rules;
       left = left_at_packet c.from_residual-in_err-make_exchange_by.result a w (world_of mid) _ c.make_exchange_by.new.roots
           c.from_residual-in_err-make_exchange_by.ensures.1 came.exact cut
-          (without_fault (world c.is_shared-shared.result) _ None (ap world c.is_shared-shared.ensures) came.told refl);
+          (without_fault (world c.is_shared.result) _ None (ap world (c.is_shared.ensures ∙ mid.indexed.1)) came.told refl);
       outcome = search rules;
       told = search rules;
       other = search rules;

@@ -126,7 +126,7 @@ invariant_of-self-2 g c =
       lost = s.lost;
       at_limit = λ e. absurd (cc e);
       marked = c.in_ok-put_action.ensures.unmarked ∙ s.marked ∙ ap tells_failure c.requires.sound;
-      lone = λ e. absurd (cc e);
+      indexed = c.in_ok-carry_out.ensures.index;
     }
 
 pub invariant_of-self-in-Break-branch-2 : goal.invariant_of-self-in-Break-branch-2
@@ -157,5 +157,5 @@ invariant_of-self-in-Break-branch-2 g c =
       lost = s.lost;
       at_limit = λ e. absurd (cc e);
       marked = c.in_err-put_action.ensures.marked;
-      lone = λ e. absurd (cc e);
+      indexed = c.in_ok-carry_out.ensures.index;
     }

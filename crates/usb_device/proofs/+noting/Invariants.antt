@@ -1,0 +1,13 @@
+use Rattle.std.proofs.Common.{◌+◌, ◌*◌}
+use Rattle.usb_device.specs.Places.{ports_kept}
+use Rattle.usb_device.proofs.Nodes.{nodes, nodes_in}
+use Rattle.usb_device.proofs.+noting.Given as goal
+
+abbrev pub decreases-holders::note_row : goal.decreases-holders::note_row
+decreases-holders::note_row l = 3 * nodes (ports_kept l.places.now)
+
+abbrev pub decreases-ports::Ports::note : goal.decreases-ports::Ports::note
+decreases-ports::Ports::note l = 3 * nodes l.self.now + 1
+
+abbrev pub decreases-holders::note_at : goal.decreases-holders::note_at
+decreases-holders::note_at l = 3 * nodes_in l.place.now.device + 2

@@ -1,0 +1,16 @@
+-- The index that a bus keeps of a tree of devices.
+use Rattle.std.specs.Prelude.{◌≡◌, ℕ, slice_index_or}
+use Rattle.usb_device.specs.declared.holders.Holder.{Holder}
+use Rattle.usb_device.specs.declared.holders.Holder.TheVariants.{Nobody}
+use Rattle.usb_device.specs.declared.holders.Holders.{Holders}
+use Rattle.usb_device.specs.Tree.{Ports}
+use Rattle.usb_device.specs.Delivery.{held, is_twice}
+use Rattle.usb_device.specs.Holders.{IsIndex}
+
+-- who holds an address, as the index has it
+abbrev pub holder_in : Holders → ℕ → Holder
+holder_in h n = slice_index_or h.holders.items n Nobody
+
+-- it has of each address who holds it in the tree, and whether some address is held twice
+abbrev pub IsIndexOf : Holders → Ports → Type 0
+IsIndexOf h k = IsIndex h.holders.items k × (h.shared ≡ is_twice (held k))

@@ -1,0 +1,16 @@
+-- The way of an attempt to the device that holds its address.
+use Rattle.std.specs.Prelude.{ℕ, Bool, true, false, List, []}
+use Rattle.usb_device.specs.declared.holders.Holder.{Holder}
+use Rattle.usb_device.specs.declared.holders.Holder.TheVariants.{Nobody, One, Several}
+use Rattle.usb_device.specs.declared.holders.Holders.{Holders}
+use Rattle.usb_device.specs.HolderIndex.{holder_in}
+
+-- the path of the one holder, or the whole tree's: where two devices hold one address, also for the others
+abbrev pub way_of : Bool → Holder → List ℕ
+way_of true x = []
+way_of false Nobody = []
+way_of false (One path) = path.items
+way_of false Several = []
+
+abbrev pub way_in : Holders → ℕ → List ℕ
+way_in h n = way_of h.shared (holder_in h n)
