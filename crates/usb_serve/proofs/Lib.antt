@@ -8,7 +8,9 @@ pub mod Moments
 pub mod RunCourses
 pub mod Ownership
 pub mod ReportedItems
+pub mod Outputs
 pub mod ServedItems
+pub mod ServedThrough
 pub mod RoundEnds
 pub mod Transcripts
 pub mod Refused

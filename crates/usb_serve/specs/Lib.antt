@@ -6,3 +6,4 @@ pub mod RunSegments
 pub mod Transcript
 pub mod ServedRuns
 pub mod Moments
+pub mod Outputs

@@ -1,6 +1,6 @@
 -- Where a plan's run ends, and what serving a plan wrote of it.
 use Rattle.std.specs.Prelude.{◌≡◌, ◌≢◌, ◌≤◌, ⊤, ◌⊎◌, ℕ, List, ◌++◌, reverse, Option, Bool, true, false, Result, Ok, Err, IfOk, IfErr, IfSome, IsUtf8}
-use Rattle.std.specs.Io.KnownBytes.{Appends}
+use Rattle.std.specs.Io.KnownBytes.{Appends, Keeps}
 use Rattle.usb_world.specs.PlanData.{PlanData, IsPlan}
 use Rattle.usb_world.specs.PlanCourses.{AtPorts}
 use Rattle.usb_world.specs.Steps.{opening}
@@ -23,6 +23,7 @@ use Rattle.usb_serve.specs.declared.serving.Mode.TheVariants.{Tree, Run}
 use Rattle.usb_serve.specs.declared.serving.ServeFault.{ServeFault}
 use Rattle.usb_serve.specs.declared.serving.ServeFault.TheVariants as serve
 use Rattle.usb_serve.specs.Moments.{ListsRight}
+use Rattle.usb_serve.specs.Outputs.{LeavesFront}
 use Rattle.usb_serve.specs.Run.{IsCaused}
 use Rattle.usb_serve.specs.ServeResults.{IsCausedInRun, IsCausedInTree, IsOfRun}
 use Rattle.usb_text.specs.ListingLines.{bound_line}
@@ -135,3 +136,14 @@ pub data IsServed (mode : Mode) (text before : Option (List ℕ)) (result : Resu
   unread : (fault : ServeFault) → result ≡ Err fault → IsUnread text fault → now ≡ before → IsServed mode text before result now
   of_plan : (plan : PlanData) → IfSome text (λ t. spelled_plan t ≡ Ok plan) → IsOfRun result → IsWritten mode plan before result now → NeverAtLimit plan result
       → IsServed mode text before result now
+
+-- a writer that failed is told
+abbrev pub TellsWriter : Result (Unit {0}) ServeFault → Type 0
+TellsWriter result = (result ≡ Err serve.Write) ⊎ (result ≡ Err (serve.Run TraceFailed))
+
+-- what serving through a buffer wrote: all that serving wrote into it, or a front of that, and then a writer that failed is told
+pub record IsServedThrough (mode : Mode) (text before : Option (List ℕ)) (result : Result (Unit {0}) ServeFault) (now : Option (List ℕ)) : Type 0 where
+  pub told : Result (Unit {0}) ServeFault
+  pub written : Option (List ℕ)
+  pub served : IsServed mode text before told written
+  pub out : ((result ≡ told) × Keeps written now) ⊎ (TellsWriter result × LeavesFront written now)

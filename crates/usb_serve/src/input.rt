@@ -49,7 +49,7 @@ pub fn read_text<R: Read>(alloc: Global, reader: &mut Watched<R>) -> Result<Vec<
     ensures calls { calls_of reader.new ≤ calls_of reader.old + 1048577 }
 {
     let mut text = Vec::new(alloc);
-    let mut piece = [0u8; 512];
+    let mut piece = [0u8; 16_384];
     'pieces: loop {
         match reader.read(&mut piece) {
             Err(_) => return Err(InputFault::Read),

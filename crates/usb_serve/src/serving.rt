@@ -4,7 +4,8 @@ ghost use Rattle.std.specs.Io.KnownBytes.{Appends};
 ghost use Rattle.usb_bus.specs.Watch.{inner_of, has_failed, calls_of, AppendsFront};
 ghost use Rattle.usb_plan.specs.Plan.{spelled_plan};
 ghost use Rattle.usb_serve.specs.declared.serving.ServeFault.TheVariants as serve;
-ghost use Rattle.usb_serve.specs.ServedRuns.{IsUnread, IsServed, IsWritten};
+ghost use Rattle.usb_serve.specs.Outputs.{held};
+ghost use Rattle.usb_serve.specs.ServedRuns.{IsUnread, IsServed, IsServedThrough, IsWritten, TellsWriter};
 ghost use Rattle.usb_serve.specs.ServeResults.{IsCausedInRun, IsLine, IsOfRun, MarksWriter, input_fault, item_lines, number_of, report_fault};
 ghost use Rattle.usb_serve.specs.Run.{IsCaused, items_left};
 ghost use Rattle.usb_serve.specs.RunSegments.{Knows};
@@ -12,6 +13,7 @@ ghost use Rattle.usb_serve.specs.Transcript.{Next, RunEnds, Prints};
 
 use crate::answers::{cleared_line, received_line, sent_line};
 use crate::input::{InputFault, read_text};
+use crate::output::Output;
 use crate::runs::{Item, RunFault, Runner};
 use std::alloc::{AllocError, Global};
 use std::io::{Read, Write};
@@ -124,6 +126,41 @@ pub fn serve<R: Read, W: Write>(
     match mode {
         Mode::Tree => serve_tree(alloc, &plan, writer),
         Mode::Run => serve_run(alloc, &plan, writer),
+    }
+}
+
+/// Serves a plan to an output as `serve` does, lets out what waits then, and hands the writer back.
+///
+/// All that `serve` says is written has gone out, or a front of it where the writer failed.
+///
+/// # Errors
+/// Those of `serve`, and Write where the writer failed when what waited was let out.
+pub fn serve_through<R: Read, W: Write + Drop>(
+    alloc: Global,
+    mode: Mode,
+    reader: &mut Watched<R>,
+    output: Output<W>,
+) -> (Result<(), ServeFault>, W)
+    ensures calls { calls_of reader.new ≤ calls_of reader.old + 1048577 }
+    ensures read { IsErrOf result.0 ServeFault.Read → has_failed reader.new ≡ true }
+    ensures too_long { IsErrOf result.0 ServeFault.TooLong →
+        IfSome (R.remaining (inner_of reader.old)) (λ text. 1048576 < length text) }
+    ensures served { IsServedThrough mode (R.remaining (inner_of reader.old))
+        (held W.contents output) result.0 (W.contents result.1) }
+{
+    let (told, writer) = serve(alloc, mode, reader, Watched::new(output));
+    let (out, writer) = writer.into_inner().finish();
+    (ended(told, out), writer)
+}
+
+/// How serving ended, once what waited was let out.
+fn ended(told: Result<(), ServeFault>, out: Result<(), WriteFailed>) -> Result<(), ServeFault>
+    ensures all { OnOk out (result ≡ told) }
+    ensures failed { OnErr out (TellsWriter result) }
+{
+    match (out, told) {
+        (Ok(()), _) | (Err(_), Err(ServeFault::Run(RunFault::TraceFailed))) => told,
+        (Err(_), _) => Err(ServeFault::Write),
     }
 }
 

@@ -1,6 +1,7 @@
 //! Tests of the words, of plans, and of readers and writers that fail.
 mod frail;
 mod hubs;
+mod outputs;
 mod readers;
 mod rows;
 mod serving;

@@ -6,7 +6,7 @@ use usb_bus::Watched;
 use usb_serve::{Mode, ServeFault, serve};
 
 /// The bytes that a reader is asked for at once.
-const PIECE: usize = 512;
+const PIECE: usize = 16_384;
 
 /// The longest plan, in bytes.
 const LIMIT: usize = 1_048_576;
@@ -104,19 +104,19 @@ const LENGTHS: [Length; 4] = [
         bytes: LIMIT,
         at_once: PIECE,
         ended: Ok(()),
-        reads: 2050,
+        reads: 66,
     },
     Length {
         bytes: LIMIT + 1,
         at_once: PIECE,
         ended: Err(ServeFault::TooLong),
-        reads: 2050,
+        reads: 66,
     },
     Length {
         bytes: usize::MAX,
         at_once: PIECE,
         ended: Err(ServeFault::TooLong),
-        reads: 2050,
+        reads: 66,
     },
     Length {
         bytes: usize::MAX,

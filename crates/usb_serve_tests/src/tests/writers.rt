@@ -50,7 +50,7 @@ struct Outcome {
     is_front: bool,
 }
 
-fn text_of(row: &Row, mode: Mode) -> &'static str {
+pub(super) fn text_of(row: &Row, mode: Mode) -> &'static str {
     match mode {
         Mode::Run => row.run,
         Mode::Tree => row.tree,
@@ -100,9 +100,13 @@ fn fault_at(row: &Row, mode: Mode, at_once: usize, turn: usize) -> ServeFault {
     } else {
         turn
     };
-    let line = text.lines().nth(number);
-    match mode {
-        Mode::Run if !row.tree.lines().any(|other| Some(other) == line) => {
+    fault_in_line(row, mode, number)
+}
+
+/// The fault of a writer that failed in the line behind so many lines of a row's text, or behind the last.
+pub(super) fn fault_in_line(row: &Row, mode: Mode, lines: usize) -> ServeFault {
+    match text_of(row, mode).lines().nth(lines) {
+        Some(line) if !row.tree.lines().any(|other| other == line) => {
             ServeFault::Run(RunFault::TraceFailed)
         }
         _ => ServeFault::Write,

@@ -1,0 +1,165 @@
+//! Writers behind a buffer that fail once: what went out of each row, and the fault that is told.
+use super::frail::{Frail, Trouble};
+use super::rows::{ROWS, Row};
+use super::writers::{fault_in_line, text_of};
+use std::alloc::{AllocError, Global};
+use std::test::Fail;
+use usb_bus::Watched;
+use usb_serve::{Mode, Output, ROOM, RunFault, ServeFault, serve_through};
+
+/// More than any text of these rows has.
+const WHOLE: usize = 65_536;
+
+/// How serving through a buffer ended, how many bytes went out, and whether they are a front of the row's text.
+#[derive(Clone, Copy, Debug, PartialEq)]
+struct Outcome {
+    ended: Result<(), ServeFault>,
+    taken: usize,
+    is_front: bool,
+}
+
+/// What is served through a buffer of this room to a writer with trouble behind so many calls, and none after that.
+fn served(
+    alloc: Global,
+    row: &Row,
+    mode: Mode,
+    room: usize,
+    (trouble, turn): (Trouble, usize),
+) -> Result<Outcome, AllocError> {
+    let writer = Frail {
+        taken: Vec::new(alloc),
+        at_once: WHOLE,
+        writes_left: turn as u64,
+        trouble,
+    };
+    let output = Output::new(alloc, room, writer)?;
+    let mut reader = Watched::new(row.plan.as_bytes());
+    let (ended, writer) = serve_through(alloc, mode, &mut reader, output);
+    let taken = writer.taken;
+    Ok(Outcome {
+        ended,
+        taken: taken.len(),
+        is_front: text_of(row, mode).as_bytes().starts_with(taken.as_slice()),
+    })
+}
+
+/// How many bytes a text has in front of its line behind so many.
+fn bytes_of(text: &str, lines: usize) -> usize {
+    let Some(last) = lines.checked_sub(1) else {
+        return 0;
+    };
+    let bytes = text.as_bytes().iter().enumerate();
+    let ends = bytes.filter(|(_, byte)| **byte == b'\n');
+    ends.map(|(at, _)| at.saturating_add(1))
+        .nth(last)
+        .unwrap_or(text.len())
+}
+
+/// How many lines of a text go out in so many calls of a writer: one behind each listing, and one at the end.
+fn lines_out(text: &str, calls: usize) -> usize {
+    let Some(last) = calls.checked_sub(1) else {
+        return 0;
+    };
+    let ends = text.lines().enumerate().filter(|(_, line)| *line == "end");
+    ends.map(|(at, _)| at.saturating_add(1))
+        .nth(last)
+        .unwrap_or(text.lines().count())
+}
+
+/// What is wanted where the writer fails in the call behind so many.
+fn wanted(row: &Row, mode: Mode, turn: usize) -> Outcome {
+    let text = text_of(row, mode);
+    let lines = lines_out(text, turn);
+    let fails = bytes_of(text, lines) < text.len();
+    Outcome {
+        ended: if fails {
+            Err(fault_in_line(row, mode, lines_out(text, turn.saturating_add(1))))
+        } else {
+            Ok(())
+        },
+        taken: bytes_of(text, lines),
+        is_front: true,
+    }
+}
+
+/// The first turn of the trouble at which something else becomes of a row.
+fn first_other_turn(
+    alloc: Global,
+    row: &Row,
+    mode: Mode,
+    trouble: Trouble,
+) -> Result<Option<usize>, AllocError> {
+    for turn in 0..=text_of(row, mode).lines().count() {
+        if served(alloc, row, mode, ROOM, (trouble, turn))? != wanted(row, mode, turn) {
+            return Ok(Some(turn));
+        }
+    }
+    Ok(None)
+}
+
+/// The first row of which something else becomes, with the turns of it in both modes.
+fn first_other(
+    alloc: Global,
+    trouble: Trouble,
+) -> Result<Option<(&'static str, Option<usize>, Option<usize>)>, AllocError> {
+    for row in &ROWS {
+        let run = first_other_turn(alloc, row, Mode::Run, trouble)?;
+        let tree = first_other_turn(alloc, row, Mode::Tree, trouble)?;
+        if run.is_some() || tree.is_some() {
+            return Ok(Some((row.name, run, tree)));
+        }
+    }
+    Ok(None)
+}
+
+#[test]
+fn each_listing_goes_out_at_once(rt: HostRuntime) -> Result<(), Fail> {
+    for trouble in [Trouble::Fails, Trouble::TakesNothing] {
+        assert_eq!(rt; first_other(rt.alloc(), trouble)?, None, "{trouble:?}");
+    }
+    Ok(())
+}
+
+/// Whether all went out and nothing is told, or a front did and the writer is told to have failed.
+fn is_told(row: &Row, outcome: Outcome) -> bool {
+    let is_whole = outcome.taken == row.run.len();
+    let is_failure = matches!(
+        outcome.ended,
+        Err(ServeFault::Write | ServeFault::Run(RunFault::TraceFailed))
+    );
+    outcome.is_front
+        && (if is_whole {
+            outcome.ended.is_ok()
+        } else {
+            is_failure
+        })
+}
+
+/// The first turn of a failed write that is not told, where there is this room.
+fn first_untold_turn(alloc: Global, row: &Row, room: usize) -> Result<Option<usize>, AllocError> {
+    for turn in 0..=row.run.lines().count() {
+        let outcome = served(alloc, row, Mode::Run, room, (Trouble::Fails, turn))?;
+        if !is_told(row, outcome) {
+            return Ok(Some(turn));
+        }
+    }
+    Ok(None)
+}
+
+/// The first row of which a failed write is not told, and its turn.
+fn first_untold(alloc: Global, room: usize) -> Result<Option<(&'static str, usize)>, AllocError> {
+    for row in &ROWS {
+        if let Some(turn) = first_untold_turn(alloc, row, room)? {
+            return Ok(Some((row.name, turn)));
+        }
+    }
+    Ok(None)
+}
+
+#[test]
+fn a_failed_write_is_told_with_any_room(rt: HostRuntime) -> Result<(), Fail> {
+    for room in [0, 1, 10, 100, 1000] {
+        assert_eq!(rt; first_untold(rt.alloc(), room)?, None, "room for {room}");
+    }
+    Ok(())
+}
