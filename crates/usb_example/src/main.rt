@@ -1,0 +1,62 @@
+//! A first program over the library: a world with one device in it, a host that finds the device, and bytes that go to
+//! it and come from it.
+#![tactic(auto)]
+
+use anyhow::Result;
+use std::str;
+use usb_bus::{Bus, SimBus};
+use usb_enum::Finding;
+use usb_host::{Host, HostFault, Round};
+use usb_plan::read_plan;
+
+/// The world, as a plan: one root port, and a device that is plugged there. Of its 32 bytes of configuration the last
+/// 14 are a bulk IN and a bulk OUT endpoint. `source` is what the IN endpoint gives.
+const WORLD: &str = r#"
+limit = 10000
+roots = 1
+[[device]]
+name = "stick"
+speed = "full"
+descriptor = "120100020000004034127856000100000001"
+configs = ["0902200001010080640904000002080650000705810240000007050202400000"]
+source = "48656C6C6F2C20686F7374"
+[[event]]
+do = "plug"
+path = "1"
+device = "stick"
+"#;
+
+/// Lets the host work until a round finds nothing more to do. It takes a few rounds; the count is there for the proof
+/// that this ends.
+fn settle<B: Bus>(host: &mut Host<B>) -> Result<(), HostFault> {
+    for _ in 0..1000 {
+        if host.round()? == Round::Quiet {
+            break;
+        }
+    }
+    Ok(())
+}
+
+fn main(rt: HostRuntime) -> Result<()> {
+    let plan = read_plan(rt.alloc(), WORLD)?;
+    let mut bus = SimBus::untraced(rt.alloc(), &plan)?;
+    // The first event of the plan: the device is plugged.
+    bus.apply_next_event()?;
+    let mut host = Host::new(rt.alloc(), bus);
+    settle(&mut host)?;
+    // What the host found, port by port.
+    for (path, finding) in host.tree()?.entries() {
+        match finding {
+            Finding::Device(device) => {
+                let address = device.address.number();
+                println!(rt; "port {}: a device at address {address}", path.text())?;
+                host.send(path, b"Hello, device")?;
+                let bytes = host.receive(path, 1)?;
+                println!(rt; "it says: {}", str::from_utf8(bytes.as_slice())?)?;
+            }
+            Finding::Refused(cause) => println!(rt; "port {}: refused, {cause}", path.text())?,
+        }
+    }
+    println!(rt; "{} attempts", host.bus().attempts())?;
+    Ok(())
+}

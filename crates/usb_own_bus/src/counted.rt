@@ -1,0 +1,114 @@
+//! A bus that counts what goes over another one.
+ghost use Rattle.std.specs.Prelude.{◌≡◌};
+ghost use Rattle.usb_own_bus.specs.Counted.{counted};
+
+use std::fmt;
+use usb_bus::{Attempt, Bus, BusFault, Outcome};
+
+/// How many attempts were made, and how many of them each answer had. No count goes beyond the greatest `u64`.
+#[derive(Clone, Copy, Debug, PartialEq, Eq)]
+pub struct Counts {
+    pub attempts: u64,
+    /// The device was not ready.
+    pub naks: u64,
+    /// No good answer came.
+    pub unanswered: u64,
+}
+
+impl Counts {
+    /// With one attempt more.
+    fn with(self, outcome: &Outcome) -> Counts
+        ensures { result ≡ counted self outcome.now }
+    {
+        let attempts = self.attempts.saturating_add(1);
+        match outcome {
+            Outcome::Nak => Counts {
+                attempts,
+                naks: self.naks.saturating_add(1),
+                ..self
+            },
+            Outcome::Nothing => Counts {
+                attempts,
+                unanswered: self.unanswered.saturating_add(1),
+                ..self
+            },
+            Outcome::Payload(_, _) | Outcome::Ack | Outcome::Stall => Counts { attempts, ..self },
+        }
+    }
+}
+
+impl fmt::Display for Counts {
+    fn fmt<W: fmt::Write>(&self, f: &mut fmt::Formatter<W>) -> fmt::Result {
+        let Counts {
+            attempts,
+            naks,
+            unanswered,
+        } = *self;
+        write!(
+            f,
+            "{attempts} attempts, {naks} NAKs, {unanswered} with no answer"
+        )
+    }
+}
+
+/// A bus, and the counts of what went over it.
+#[derive(Drop)]
+pub struct CountedBus<B: Bus> {
+    bus: B,
+    counts: Counts,
+}
+
+impl<B: Bus> CountedBus<B> {
+    /// Over this bus, from now on.
+    pub fn new(bus: B) -> Self
+        ensures { result.bus ≡ bus }
+    {
+        CountedBus {
+            bus,
+            counts: Counts {
+                attempts: 0,
+                naks: 0,
+                unanswered: 0,
+            },
+        }
+    }
+
+    /// What went over it so far.
+    pub fn counts(&self) -> Counts
+        ensures { result ≡ self.now.counts }
+    {
+        self.counts
+    }
+}
+
+/// Its world and its trace are those of the bus below, so the contract of each call is the one that the call below
+/// keeps; and all that is proved of a host over any bus is so over this one.
+impl<B: Bus> Bus for CountedBus<B> {
+    ghost world = { λ counted. B.world counted.bus };
+
+    ghost trace = { λ counted. B.trace counted.bus };
+
+    fn attempt(&mut self, attempt: &Attempt) -> Result<Outcome, BusFault> {
+        let result = self.bus.attempt(attempt);
+        if let Ok(outcome) = &result {
+            self.counts = self.counts.with(outcome);
+        }
+        result
+    }
+
+    fn root_ports(&self) -> u8 {
+        self.bus.root_ports()
+    }
+
+    fn root_status(&self, port: u8) -> [u8; 4] {
+        self.bus.root_status(port)
+    }
+
+    fn root_set(&mut self, port: u8, feature: u16) {
+        self.bus.root_set(port, feature);
+    }
+
+    fn root_clear(&mut self, port: u8, feature: u16) {
+        self.bus.root_clear(port, feature);
+    }
+}

@@ -1,0 +1,45 @@
+//! The host over a bus of one's own: one that counts what goes over a simulated bus, where a device puts the host off.
+#![tactic(auto)]
+
+mod counted;
+
+use anyhow::Result;
+use counted::CountedBus;
+use usb_bus::SimBus;
+use usb_host::{Host, Round};
+use usb_plan::read_plan;
+
+/// A device that answers NAK twice at the begin of each control transfer, and a damage: the ACK of attempt 1 is lost.
+const WORLD: &str = r#"
+limit = 10000
+roots = 1
+[[device]]
+name = "slow"
+speed = "full"
+descriptor = "120100020000004034127856000100000001"
+configs = ["0902120001010080320904000000FF000000"]
+naks = 2
+[[event]]
+do = "plug"
+path = "1"
+device = "slow"
+[[damage]]
+attempt = 1
+packet = 3
+how = "lose"
+"#;
+
+fn main(rt: HostRuntime) -> Result<()> {
+    let plan = read_plan(rt.alloc(), WORLD)?;
+    let mut bus = SimBus::untraced(rt.alloc(), &plan)?;
+    bus.apply_next_event()?;
+    let mut host = Host::new(rt.alloc(), CountedBus::new(bus));
+    for _ in 0..1000 {
+        if host.round()? == Round::Quiet {
+            break;
+        }
+    }
+    let devices = host.tree()?.entries().len();
+    println!(rt; "{devices} device, {}", host.bus().counts())?;
+    Ok(())
+}
