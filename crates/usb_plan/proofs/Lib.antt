@@ -1,3 +1,4 @@
+mod DigitPairs
 mod Entries
 mod Steps
 mod Parts
@@ -5,3 +6,5 @@ mod MemoryRefusals
 mod Growth
 mod Totals
 mod Places
+mod EventWalks
+mod GivenKeys

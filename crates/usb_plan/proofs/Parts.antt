@@ -37,6 +37,7 @@ use Rattle.usb_plan.specs.Device as device
 use Rattle.usb_plan.specs.Device.{name_in, name_at, speed_at, descriptor_at, with_quirks, with_halt, with_hub, named_device, HubFits, FewNaks, HaltsLater, identity_with, identity_of, device_of_parts, device_with, read_device, device_in}
 use Rattle.usb_plan.specs.Path.{read_path, free_path, taken_path}
 use Rattle.usb_plan.specs.Verb.{verb_at}
+use Rattle.usb_plan.specs.EventMembers.{EventValues, event_values}
 use Rattle.usb_plan.specs.Action as action
 use Rattle.usb_plan.specs.Action.{device_index_at, bytes_at, packets_at, plug_of, unplug_of, send_of, receive_of, clear_of, action_of, keys_of}
 use Rattle.usb_plan.specs.Event.{after_at, event_room, event_with, event_of, event_in}
@@ -339,21 +340,21 @@ plug_ok path device a h =
     let e2 = bind_ok device _ a e1.rest in
     record { at = e1.value; index = e2.value; path_is = e1.good; device_is = e2.good; action_is = cc e2.rest }
 
-plug_of_ok : (scene : SceneData) (ms : Members) (a : Action) → plug_of scene ms ≡ Ok a → Fits scene a
+plug_of_ok : (scene : SceneData) (v : EventValues) (a : Action) → plug_of scene v ≡ Ok a → Fits scene a
 unfolding plug_of
-plug_of_ok scene ms a h =
-    let plug = plug_ok (free_path scene (read_path scene (get_member (codes "path") ms))) (device_index_at scene (get_member (codes "device") ms)) a h in
-    let path = free_path_ok scene (read_path scene (get_member (codes "path") ms)) plug.at plug.path_is in
-    let device = lt-ltb plug.index (length scene.devices) (device_index_at_ok scene (get_member (codes "device") ms) plug.index plug.device_is) in
+plug_of_ok scene v a h =
+    let plug = plug_ok (free_path scene (read_path scene v.path)) (device_index_at scene v.device) a h in
+    let path = free_path_ok scene (read_path scene v.path) plug.at plug.path_is in
+    let device = lt-ltb plug.index (length scene.devices) (device_index_at_ok scene v.device plug.index plug.device_is) in
     rw (← plug.action_is) (rw (path.port, path.free, device))
 
-unplug_of_ok : (scene : SceneData) (ms : Members) (a : Action) → unplug_of scene ms ≡ Ok a → Fits scene a
+unplug_of_ok : (scene : SceneData) (v : EventValues) (a : Action) → unplug_of scene v ≡ Ok a → Fits scene a
 unfolding unplug_of
-unplug_of_ok scene ms a h =
-    let path = bind_ok (taken_path scene (read_path scene (get_member (codes "path") ms))) _ a h in
+unplug_of_ok scene v a h =
+    let path = bind_ok (taken_path scene (read_path scene v.path)) _ a h in
     let same : Unplug path.value ≡ a = cc path.rest in
-    let held = taken_path_ok scene (read_path scene (get_member (codes "path") ms)) path.value path.good in
-    rw (← same) (rw (read_path_ok scene (get_member (codes "path") ms) path.value held.0, held.1))
+    let held = taken_path_ok scene (read_path scene v.path) path.value path.good in
+    rw (← same) (rw (read_path_ok scene v.path path.value held.0, held.1))
 
 record SendIs (path : Result (List ℕ) EntryFault) (a : Action) : Type 0 where
   at : List ℕ
@@ -369,11 +370,11 @@ send_ok path bytes a h =
     let e2 = bind_ok bytes _ a e1.rest in
     record { at = e1.value; sent = e2.value; path_is = e1.good; action_is = cc e2.rest }
 
-send_of_ok : (scene : SceneData) (ms : Members) (a : Action) → send_of scene ms ≡ Ok a → Fits scene a
+send_of_ok : (scene : SceneData) (v : EventValues) (a : Action) → send_of scene v ≡ Ok a → Fits scene a
 unfolding send_of
-send_of_ok scene ms a h =
-    let send = send_ok (read_path scene (get_member (codes "path") ms)) (bytes_at (get_member (codes "bytes") ms)) a h in
-    rw (← send.action_is) (read_path_ok scene (get_member (codes "path") ms) send.at send.path_is)
+send_of_ok scene v a h =
+    let send = send_ok (read_path scene v.path) (bytes_at v.bytes) a h in
+    rw (← send.action_is) (read_path_ok scene v.path send.at send.path_is)
 
 record ReceiveIs (path : Result (List ℕ) EntryFault) (packets : Result ℕ EntryFault) (a : Action) : Type 0 where
   at : List ℕ
@@ -390,28 +391,28 @@ receive_ok path packets a h =
     let e2 = bind_ok packets _ a e1.rest in
     record { at = e1.value; count = e2.value; path_is = e1.good; packets_is = e2.good; action_is = cc e2.rest }
 
-receive_of_ok : (scene : SceneData) (ms : Members) (a : Action) → receive_of scene ms ≡ Ok a → Fits scene a
+receive_of_ok : (scene : SceneData) (v : EventValues) (a : Action) → receive_of scene v ≡ Ok a → Fits scene a
 unfolding receive_of
-receive_of_ok scene ms a h =
-    let receive = receive_ok (read_path scene (get_member (codes "path") ms)) (packets_at (get_member (codes "packets") ms)) a h in
-    let few = le-leb receive.count 1000 (packets_at_ok (get_member (codes "packets") ms) receive.count receive.packets_is) in
-    rw (← receive.action_is) (rw (read_path_ok scene (get_member (codes "path") ms) receive.at receive.path_is, few))
+receive_of_ok scene v a h =
+    let receive = receive_ok (read_path scene v.path) (packets_at v.packets) a h in
+    let few = le-leb receive.count 1000 (packets_at_ok v.packets receive.count receive.packets_is) in
+    rw (← receive.action_is) (rw (read_path_ok scene v.path receive.at receive.path_is, few))
 
-clear_of_ok : (scene : SceneData) (ms : Members) (a : Action) → clear_of scene ms ≡ Ok a → Fits scene a
+clear_of_ok : (scene : SceneData) (v : EventValues) (a : Action) → clear_of scene v ≡ Ok a → Fits scene a
 unfolding clear_of
-clear_of_ok scene ms a h =
-    let path = bind_ok (read_path scene (get_member (codes "path") ms)) _ a h in
+clear_of_ok scene v a h =
+    let path = bind_ok (read_path scene v.path) _ a h in
     let same : Clear path.value ≡ a = cc path.rest in
-    rw (← same) (read_path_ok scene (get_member (codes "path") ms) path.value path.good)
+    rw (← same) (read_path_ok scene v.path path.value path.good)
 
-action_of_ok : (v : Verb) (scene : SceneData) (ms : Members) (a : Action) → action_of v scene ms ≡ Ok a → Fits scene a
+action_of_ok : (verb : Verb) (scene : SceneData) (v : EventValues) (a : Action) → action_of verb scene v ≡ Ok a → Fits scene a
 unfolding action_of
-action_of_ok verb.Plug scene ms a h = plug_of_ok scene ms a h
-action_of_ok verb.Unplug scene ms a h = unplug_of_ok scene ms a h
-action_of_ok verb.Show scene ms a h = let same : Show ≡ a = cc in rw (← same) refl
-action_of_ok verb.Send scene ms a h = send_of_ok scene ms a h
-action_of_ok verb.Receive scene ms a h = receive_of_ok scene ms a h
-action_of_ok verb.Clear scene ms a h = clear_of_ok scene ms a h
+action_of_ok verb.Plug scene v a h = plug_of_ok scene v a h
+action_of_ok verb.Unplug scene v a h = unplug_of_ok scene v a h
+action_of_ok verb.Show scene v a h = let same : Show ≡ a = cc in rw (← same) refl
+action_of_ok verb.Send scene v a h = send_of_ok scene v a h
+action_of_ok verb.Receive scene v a h = receive_of_ok scene v a h
+action_of_ok verb.Clear scene v a h = clear_of_ok scene v a h
 
 record EventIs (action : Result Action EntryFault) (after : Result ℕ EntryFault) (room : Result (Unit {0}) EntryFault) (e : Event) : Type 0 where
   action_is : action ≡ Ok e.action
@@ -439,11 +440,11 @@ pub record Follows (scene : SceneData) (count : ℕ) (e : Event) : Type 0 where
 event_of_ok : (v : Verb) (scene : SceneData) (count : ℕ) (ms : Members) (e : Event) → event_of v scene count ms ≡ Ok e → Follows scene count e
 unfolding event_of
 event_of_ok v scene count ms e h =
-    let is = event_with_ok (action_of v scene ms) (after_at (get_member (codes "after") ms)) (keys_of v ms) (event_room count) e h in
+    let is = event_with_ok (action_of v scene (event_values ms)) (after_at (get_member (codes "after") ms)) (keys_of v ms) (event_room count) e h in
     let after = le-leb e.after 1000000000 (after_at_ok (get_member (codes "after") ms) e.after is.after_is) in
     record {
       room = event_room_ok count tt is.room_is;
-      fits = rw (after, action_of_ok v scene ms e.action is.action_is);
+      fits = rw (after, action_of_ok v scene (event_values ms) e.action is.action_is);
     }
 
 pub event_in_ok : (scene : SceneData) (count : ℕ) (o : Option Members) (e : Event) → event_in scene count o ≡ Ok e → Follows scene count e

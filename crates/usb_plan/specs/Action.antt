@@ -1,12 +1,13 @@
 -- What an event does, by the keys that go with its `do`.
-use Rattle.std.specs.Prelude.{ℕ, codes, List, [], ◌∷◌, Option, ok_or, Result, Ok, position}
+use Rattle.std.specs.Prelude.{ℕ, codes, List, [], ◌∷◌, Bool, not, ◌&&◌, Option, is_none, ok_or, Result, Ok, Err, position, if◌then◌else◌}
 use Rattle.std.specs.Str.{bytes_eq}
-use Rattle.toml.specs.Data.{Data, Members, get_member}
+use Rattle.toml.specs.Data.{Data, Members}
 use Rattle.usb_plan.specs.declared.entry_fault.EntryFault.{EntryFault}
-use Rattle.usb_plan.specs.declared.entry_fault.EntryFault.TheVariants.{MissingKey, UnknownDevice}
+use Rattle.usb_plan.specs.declared.entry_fault.EntryFault.TheVariants.{MissingKey, BadValue, UnknownDevice}
 use Rattle.usb_plan.specs.declared.verb.Verb.{Verb}
 use Rattle.usb_plan.specs.declared.verb.Verb.TheVariants as verb
 use Rattle.usb_plan.specs.EntryFault.{fault_in_part, least_fault, ◌>>=◌}
+use Rattle.usb_plan.specs.EventMembers.{EventValues}
 use Rattle.usb_plan.specs.Keys.{keys_at}
 use Rattle.usb_plan.specs.Value.{read_text, number_at, hex_bytes}
 use Rattle.usb_plan.specs.Path.{read_path, free_path, taken_path}
@@ -48,35 +49,29 @@ receive path packets = do
   n ← packets
   Ok (Receive p n)
 
-unfoldable pub plug_of : SceneData → Members → Result Action EntryFault
-plug_of scene ms =
-    plug (free_path scene (read_path scene (get_member (codes "path") ms)))
-    (device_index_at scene (get_member (codes "device") ms))
+unfoldable pub plug_of : SceneData → EventValues → Result Action EntryFault
+plug_of scene v = plug (free_path scene (read_path scene v.path)) (device_index_at scene v.device)
 
-unfoldable pub unplug_of : SceneData → Members → Result Action EntryFault
-unplug_of scene ms =
-    taken_path scene (read_path scene (get_member (codes "path") ms)) >>= λ path. Ok (Unplug path)
+unfoldable pub unplug_of : SceneData → EventValues → Result Action EntryFault
+unplug_of scene v = taken_path scene (read_path scene v.path) >>= λ path. Ok (Unplug path)
 
-unfoldable pub send_of : SceneData → Members → Result Action EntryFault
-send_of scene ms =
-    send (read_path scene (get_member (codes "path") ms)) (bytes_at (get_member (codes "bytes") ms))
+unfoldable pub send_of : SceneData → EventValues → Result Action EntryFault
+send_of scene v = send (read_path scene v.path) (bytes_at v.bytes)
 
-unfoldable pub receive_of : SceneData → Members → Result Action EntryFault
-receive_of scene ms =
-    receive (read_path scene (get_member (codes "path") ms))
-    (packets_at (get_member (codes "packets") ms))
+unfoldable pub receive_of : SceneData → EventValues → Result Action EntryFault
+receive_of scene v = receive (read_path scene v.path) (packets_at v.packets)
 
-unfoldable pub clear_of : SceneData → Members → Result Action EntryFault
-clear_of scene ms = read_path scene (get_member (codes "path") ms) >>= λ path. Ok (Clear path)
+unfoldable pub clear_of : SceneData → EventValues → Result Action EntryFault
+clear_of scene v = read_path scene v.path >>= λ path. Ok (Clear path)
 
--- what the event of a table does in the scene
-unfoldable pub action_of : Verb → SceneData → Members → Result Action EntryFault
-action_of verb.Plug scene ms = plug_of scene ms
-action_of verb.Unplug scene ms = unplug_of scene ms
-action_of verb.Show scene ms = Ok Show
-action_of verb.Send scene ms = send_of scene ms
-action_of verb.Receive scene ms = receive_of scene ms
-action_of verb.Clear scene ms = clear_of scene ms
+-- what an event with these values does in the scene
+unfoldable pub action_of : Verb → SceneData → EventValues → Result Action EntryFault
+action_of verb.Plug scene v = plug_of scene v
+action_of verb.Unplug scene v = unplug_of scene v
+action_of verb.Show scene v = Ok Show
+action_of verb.Send scene v = send_of scene v
+action_of verb.Receive scene v = receive_of scene v
+action_of verb.Clear scene v = clear_of scene v
 
 abbrev pub event_keys : List (List ℕ) → List (List ℕ)
 event_keys others = codes "do" ∷ codes "after" ∷ others
@@ -89,3 +84,16 @@ keys_of verb.Show ms = keys_at (event_keys []) ms
 keys_of verb.Send ms = keys_at (event_keys (codes "path" ∷ codes "bytes" ∷ [])) ms
 keys_of verb.Receive ms = keys_at (event_keys (codes "path" ∷ codes "packets" ∷ [])) ms
 keys_of verb.Clear ms = keys_at (event_keys (codes "path" ∷ [])) ms
+
+-- the same by what stands at the keys: no other key, and nothing at those that do not go with `do`
+unfoldable pub fits : Verb → EventValues → Bool
+fits verb.Plug v = not v.has_others && is_none v.packets && is_none v.bytes
+fits verb.Unplug v = not v.has_others && is_none v.packets && is_none v.bytes && is_none v.device
+fits verb.Show v =
+    not v.has_others && is_none v.packets && is_none v.bytes && is_none v.device && is_none v.path
+fits verb.Send v = not v.has_others && is_none v.packets && is_none v.device
+fits verb.Receive v = not v.has_others && is_none v.bytes && is_none v.device
+fits verb.Clear v = not v.has_others && is_none v.packets && is_none v.bytes && is_none v.device
+
+unfoldable pub keys_given : Verb → EventValues → Result (Unit {0}) EntryFault
+keys_given verb v = if fits verb v then Ok tt else Err BadValue

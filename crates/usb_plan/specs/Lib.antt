@@ -11,6 +11,7 @@ pub mod Scene
 pub mod Path
 pub mod Plugged
 pub mod Verb
+pub mod EventMembers
 pub mod Action
 pub mod Event
 pub mod Damage

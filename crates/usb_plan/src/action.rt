@@ -1,19 +1,20 @@
 //! What an event does, by the keys that go with its `do`.
 
 ghost use Rattle.std.specs.Prelude.{◌≡◌, ◌≤◌, option_map};
-ghost use Rattle.toml.specs.View.{view, table_view};
-ghost use Rattle.usb_plan.specs.Action.{device_index_at, bytes_at, packets_at, plug, send, receive, plug_of, unplug_of, send_of, receive_of, clear_of, action_of, keys_of};
+ghost use Rattle.toml.specs.View.{view};
+ghost use Rattle.usb_plan.specs.Action.{device_index_at, bytes_at, packets_at, plug, send, receive, plug_of, unplug_of, send_of, receive_of, clear_of, action_of, fits, keys_given};
+ghost use Rattle.usb_plan.specs.EventMembers.{found};
 ghost use Rattle.usb_plan.specs.EntryFault.{EqualUnless};
 ghost use Rattle.usb_plan.specs.declared.entry_fault.EntryFault.TheVariants.{Memory};
 
 use crate::entry_fault::{EntryFault, fault_in_part, least_fault};
-use crate::keys::keys_at;
+use crate::members::EventMembers;
 use crate::path::{free_path, read_path, taken_path};
 use crate::scene::Scene;
-use crate::value::{hex_bytes, number_at, read_text, value_at};
+use crate::value::{hex_bytes, number_at, read_text};
 use crate::verb::Verb;
 use std::alloc::Global;
-use toml::{Table, Value};
+use toml::Value;
 use usb_port::PortPath;
 use usb_world::{Action, SentBytes};
 
@@ -78,45 +79,49 @@ fn receive(
 }
 
 #[tactic(auto, unfolding(crate::specs::Action::plug_of))]
-fn plug_of(scene: &Scene<'_>, table: &Table) -> Result<Action, EntryFault>
-    ensures { result ≡ plug_of scene.now (table_view table.now) }
+fn plug_of(scene: &Scene<'_>, members: &EventMembers<'_>) -> Result<Action, EntryFault>
+    ensures { result ≡ plug_of scene.now (found members.now) }
 {
-    let path = read_path(scene, value_at(table, "path"));
-    let device = device_index_at(scene, value_at(table, "device"));
+    let path = read_path(scene, members.path);
+    let device = device_index_at(scene, members.device);
     plug(free_path(scene, path), device)
 }
 
 #[tactic(auto, unfolding(crate::specs::Action::unplug_of))]
-fn unplug_of(scene: &Scene<'_>, table: &Table) -> Result<Action, EntryFault>
-    ensures { result ≡ unplug_of scene.now (table_view table.now) }
+fn unplug_of(scene: &Scene<'_>, members: &EventMembers<'_>) -> Result<Action, EntryFault>
+    ensures { result ≡ unplug_of scene.now (found members.now) }
 {
-    let path = taken_path(scene, read_path(scene, value_at(table, "path")))?;
+    let path = taken_path(scene, read_path(scene, members.path))?;
     Ok(Action::Unplug(path))
 }
 
 #[tactic(auto, using(crate::proofs::MemoryRefusals::send_unless), unfolding(crate::specs::Action::send_of))]
-fn send_of(alloc: Global, scene: &Scene<'_>, table: &Table) -> Result<Action, EntryFault>
-    ensures { EqualUnless Memory result (send_of scene.now (table_view table.now)) }
+fn send_of(
+    alloc: Global,
+    scene: &Scene<'_>,
+    members: &EventMembers<'_>,
+) -> Result<Action, EntryFault>
+    ensures { EqualUnless Memory result (send_of scene.now (found members.now)) }
 {
-    let path = read_path(scene, value_at(table, "path"));
-    let bytes = bytes_at(alloc, value_at(table, "bytes"));
+    let path = read_path(scene, members.path);
+    let bytes = bytes_at(alloc, members.bytes);
     send(path, bytes)
 }
 
 #[tactic(auto, unfolding(crate::specs::Action::receive_of))]
-fn receive_of(scene: &Scene<'_>, table: &Table) -> Result<Action, EntryFault>
-    ensures { result ≡ receive_of scene.now (table_view table.now) }
+fn receive_of(scene: &Scene<'_>, members: &EventMembers<'_>) -> Result<Action, EntryFault>
+    ensures { result ≡ receive_of scene.now (found members.now) }
 {
-    let path = read_path(scene, value_at(table, "path"));
-    let packets = packets_at(value_at(table, "packets"));
+    let path = read_path(scene, members.path);
+    let packets = packets_at(members.packets);
     receive(path, packets)
 }
 
 #[tactic(auto, unfolding(crate::specs::Action::clear_of))]
-fn clear_of(scene: &Scene<'_>, table: &Table) -> Result<Action, EntryFault>
-    ensures { result ≡ clear_of scene.now (table_view table.now) }
+fn clear_of(scene: &Scene<'_>, members: &EventMembers<'_>) -> Result<Action, EntryFault>
+    ensures { result ≡ clear_of scene.now (found members.now) }
 {
-    let path = read_path(scene, value_at(table, "path"))?;
+    let path = read_path(scene, members.path)?;
     Ok(Action::Clear(path))
 }
 
@@ -126,31 +131,46 @@ pub(crate) fn action_of(
     alloc: Global,
     verb: Verb,
     scene: &Scene<'_>,
-    table: &Table,
+    members: &EventMembers<'_>,
 ) -> Result<Action, EntryFault>
-    ensures { EqualUnless Memory result (action_of verb scene.now (table_view table.now)) }
+    ensures { EqualUnless Memory result (action_of verb scene.now (found members.now)) }
 {
     match verb {
-        Verb::Plug => plug_of(scene, table),
-        Verb::Unplug => unplug_of(scene, table),
+        Verb::Plug => plug_of(scene, members),
+        Verb::Unplug => unplug_of(scene, members),
         Verb::Show => Ok(Action::Show),
-        Verb::Send => send_of(alloc, scene, table),
-        Verb::Receive => receive_of(scene, table),
-        Verb::Clear => clear_of(scene, table),
+        Verb::Send => send_of(alloc, scene, members),
+        Verb::Receive => receive_of(scene, members),
+        Verb::Clear => clear_of(scene, members),
     }
 }
 
-/// Refuses a table with a key that does not go with its `do`.
-#[tactic(auto, unfolding(crate::specs::Action::keys_of))]
-pub(crate) fn keys_of(verb: Verb, table: &Table) -> Result<(), EntryFault>
-    ensures { result ≡ keys_of verb (table_view table.now) }
+/// Whether each key that is there goes with the verb.
+#[tactic(auto, unfolding(crate::specs::Action::fits))]
+fn fits(verb: Verb, members: &EventMembers<'_>) -> bool
+    ensures { result ≡ fits verb (found members.now) }
 {
+    let known = !members.has_others;
+    let no_device = members.device.is_none();
+    let no_bytes = members.bytes.is_none();
+    let no_packets = members.packets.is_none();
     match verb {
-        Verb::Plug => keys_at(table, &["do", "after", "path", "device"]),
-        Verb::Unplug => keys_at(table, &["do", "after", "path"]),
-        Verb::Show => keys_at(table, &["do", "after"]),
-        Verb::Send => keys_at(table, &["do", "after", "path", "bytes"]),
-        Verb::Receive => keys_at(table, &["do", "after", "path", "packets"]),
-        Verb::Clear => keys_at(table, &["do", "after", "path"]),
+        Verb::Plug => known && no_packets && no_bytes,
+        Verb::Unplug | Verb::Clear => known && no_packets && no_bytes && no_device,
+        Verb::Show => known && no_packets && no_bytes && no_device && members.path.is_none(),
+        Verb::Send => known && no_packets && no_device,
+        Verb::Receive => known && no_bytes && no_device,
+    }
+}
+
+/// Refuses a key that does not go with `do`.
+#[tactic(auto, unfolding(crate::specs::Action::keys_given))]
+pub(crate) fn keys_given(verb: Verb, members: &EventMembers<'_>) -> Result<(), EntryFault>
+    ensures { result ≡ keys_given verb (found members.now) }
+{
+    if fits(verb, members) {
+        Ok(())
+    } else {
+        Err(EntryFault::BadValue)
     }
 }

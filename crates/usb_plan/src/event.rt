@@ -4,16 +4,18 @@ ghost use Rattle.std.specs.Prelude.{◌≡◌, ◌≤◌, IfOk, option_map, map,
 ghost use Rattle.usb_plan.specs.declared.fault.PlanFault.TheVariants.{Memory as NoMemory};
 ghost use Rattle.toml.specs.View.{view, table_view};
 ghost use Rattle.usb_world.specs.PlanData.{events_fit};
-ghost use Rattle.usb_plan.specs.Action.{action_of, keys_of};
+ghost use Rattle.usb_plan.specs.Action.{action_of, keys_of, keys_given};
+ghost use Rattle.usb_plan.specs.EventMembers.{found};
 ghost use Rattle.usb_plan.specs.EntryFault.{EqualUnless};
 ghost use Rattle.usb_plan.specs.declared.entry_fault.EntryFault.TheVariants.{Memory};
-ghost use Rattle.usb_plan.specs.Event.{after_at, event_room, event_with, event_of, event_in, events_from};
+ghost use Rattle.usb_plan.specs.Event.{after_at, event_room, event_with, event_given, event_of, event_in, events_from};
 
-use crate::action::{action_of, keys_of};
+use crate::action::{action_of, keys_given};
 use crate::entry_fault::{EntryFault, entry_at, fault_in_part, least_fault};
 use crate::fault::{Place, PlanFault};
+use crate::members::EventMembers;
 use crate::scene::Scene;
-use crate::value::{number_or, value_at};
+use crate::value::number_or;
 use crate::verb::{Verb, verb_at};
 use std::alloc::Global;
 use toml::{Table, Value};
@@ -68,19 +70,19 @@ fn event_with(
 }
 
 /// The event of a table whose `do` is that verb, in the scene, after so many others.
-#[tactic(auto, using(crate::proofs::MemoryRefusals::event_unless), unfolding(crate::specs::Event::event_of))]
-fn event_of(
+#[tactic(auto, using(crate::proofs::MemoryRefusals::event_unless), unfolding(crate::specs::Event::event_given))]
+fn event_given(
     alloc: Global,
     verb: Verb,
     scene: &Scene<'_>,
     count: usize,
-    table: &Table,
+    members: &EventMembers<'_>,
 ) -> Result<Event, EntryFault>
-    ensures { EqualUnless Memory result (event_of verb scene.now count (table_view table.now)) }
+    ensures { EqualUnless Memory result (event_given verb scene.now count (found members.now)) }
 {
-    let action = action_of(alloc, verb, scene, table);
-    let after = after_at(value_at(table, "after"));
-    event_with(action, after, keys_of(verb, table), event_room(count))
+    let action = action_of(alloc, verb, scene, members);
+    let after = after_at(members.after);
+    event_with(action, after, keys_given(verb, members), event_room(count))
 }
 
 /// Where `do` is absent or unknown nothing else of the event is looked at.
@@ -94,9 +96,9 @@ fn event_in(
     ensures { EqualUnless Memory result
         (event_in scene.now count (option_map (λ t. table_view t.now) table.entry)) }
 {
-    let table = table.ok_or(EntryFault::BadValue)?;
-    let verb = verb_at(value_at(table, "do"))?;
-    event_of(alloc, verb, scene, count, table)
+    let members = EventMembers::of(table.ok_or(EntryFault::BadValue)?);
+    let verb = verb_at(members.verb)?;
+    event_given(alloc, verb, scene, count, &members)
 }
 
 /// The events that the values describe, or the first fault.

@@ -8,6 +8,7 @@ ghost use Rattle.std.specs.Result.{result_map_both};
 ghost use Rattle.usb_plan.specs.Value.{text_in, read_text, read_items, number_in, number_at, number_or, hex_in, hex_bytes};
 ghost use Rattle.usb_plan.specs.declared.entry_fault.EntryFault.TheVariants.{Memory};
 
+use crate::digits::decoded;
 use crate::entry_fault::EntryFault;
 use std::alloc::Global;
 use toml::{Table, Value};
@@ -101,7 +102,7 @@ pub(crate) fn hex_in<const MAX: usize>(
 ) -> Result<Bytes<MAX>, EntryFault>
     ensures { EqualUnless Memory result (hex_in MAX (view value.now)) }
 {
-    let bytes = hex::decode(alloc, text_in(value)?)?;
+    let bytes = decoded(alloc, text_in(value)?)?;
     if bytes.len() <= MAX {
         Ok(Bytes::new(bytes))
     } else {
@@ -114,6 +115,6 @@ pub(crate) fn hex_in<const MAX: usize>(
 pub(crate) fn hex_bytes(alloc: Global, value: &Value) -> Result<SentBytes, EntryFault>
     ensures { EqualUnless Memory result (hex_bytes (view value.now)) }
 {
-    let bytes = hex::decode(alloc, text_in(value)?)?;
+    let bytes = decoded(alloc, text_in(value)?)?;
     Ok(SentBytes::new(bytes))
 }
