@@ -1,10 +1,10 @@
 -- What changes at one place, and keeps which devices are reached.
-use Rattle.std.proofs.Common.{◌≡◌, ℕ, zero, suc, ◌+◌, ◌||◌, if◌then◌else◌, Bool, true, false, List, [], ◌∷◌, ◌++◌, Option, None, Some, append-nil, refl, ap, sym, subst, ◌∙◌}
+use Rattle.std.proofs.Common.{◌≡◌, ℕ, zero, suc, ◌+◌, ◌||◌, if◌then◌else◌, Bool, true, false, List, [], ◌∷◌, ◌++◌, Option, Some, append-nil, refl, ap, sym, ◌∙◌}
 use Rattle.arrayvec.specs.ArrayVec.{ArrayVec}
 use Rattle.usb_port.specs.PortState.{PortState, is_attached, powered_on}
 use Rattle.usb_port.specs.declared.call.PortCall.{PortCall}
 use Rattle.usb_port.specs.declared.call.PortCall.TheVariants.{SetPower, SetReset, ClearEnable, ClearPower, ClearConnectionChange, ClearEnableChange, ClearResetChange}
-use Rattle.usb_device.specs.Tree.{Ports, ended, vacant, taken, Plugged, Place, empty, full, before, acted, called, changed, changed_at, device_there, place_at, plugged_at, put}
+use Rattle.usb_device.specs.Tree.{Ports, ended, vacant, taken, Place, empty, full, before, acted, called, changed, changed_at, place_at}
 use Rattle.usb_device.specs.declared.effect.Effect.{Effect}
 use Rattle.usb_device.specs.declared.effect.Effect.TheVariants.{Leaves, Calls, PortsOff}
 use Rattle.usb_device.specs.declared.holders.Holders.{Holders}
@@ -66,39 +66,7 @@ pub reached-called : (c : PortCall) (k : Ports) (port : ℕ) → keeps_enable c 
 reached-called c k zero h = refl
 reached-called c k (suc i) h = reached-changed (called c) _ 1 k i [] (λ q at. called-same c q h)
 
--- ---- a device that is plugged at a free port
-
-abbrev free_at : Option Place → Type 0
-free_at None = Unit {0}
-free_at (Some (empty b)) = Unit {0}
-free_at (Some (full b s a)) = ⊥
-
-free_there : (k : Ports) (j : ℕ) (p : List ℕ) → plugged_at k j p ≡ None → free_at (place_at k j p)
-unfolding plugged_at place_at
-free_there ended j p h = tt
-free_there (vacant b k) zero [] h = tt
-free_there (vacant b k) zero (m ∷ p) h = tt
-free_there (vacant b k) (suc j) p h = free_there k j p h
-free_there (taken b s a k) zero [] h = cc
-free_there (taken b s a k) zero (zero ∷ p) h = tt
-free_there (taken b s a k) zero (suc j ∷ p) h = free_there a j p h
-free_there (taken b s a k) (suc j) p h = free_there k j p h
-
-put-same : (d : Option Plugged) (q : Place) → free_at (Some q) → ReachedSame (put d q) q
-unfolding reached
-put-same None (empty b) h w n = refl
-put-same (Some t) (empty b) h w n = refl
-put-same d (full b s a) h w n = absurd h
-
-pub reached-plugged : (d : Option Plugged) (k : Ports) (p : List ℕ) → device_there k p ≡ None → all_reached (changed (put d) k p) ≡ all_reached k
-reached-plugged d k [] h = refl
-reached-plugged d k (zero ∷ p) h = refl
-reached-plugged d k (suc j ∷ p) h = reached-changed (put d) _ 1 k j p (λ q at. put-same d q (subst free_at at (free_there k j p h)))
-
 -- ---- the index then
 
 pub index_called : (h : Holders) (c : PortCall) (k m : Ports) (port : ℕ) → keeps_enable c ≡ true → m ≡ changed (called c) k (port ∷ []) → IsIndexOf h k → IsIndexOf h m
 index_called h c k m port e is x = same_index h k m (ap all_reached is ∙ reached-called c k port e) x
-
-pub index_put : (h : Holders) (d : Option Plugged) (k m : Ports) (p : List ℕ) → device_there k p ≡ None → m ≡ changed (put d) k p → IsIndexOf h k → IsIndexOf h m
-index_put h d k m p e is x = same_index h k m (ap all_reached is ∙ reached-plugged d k p e) x

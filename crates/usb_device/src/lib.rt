@@ -1,4 +1,23 @@
 //! A simulated device: what a plan says of it, and what it does with each packet.
+//!
+//! # What is proved
+//!
+//! - `receive` is exactly the *packet table* and the *request table*, of functions and hubs, with what the device asks
+//!   of its ports; refused memory changes nothing.
+//! - `Ports` is a row of ports with all that is plugged below it: each port call, plug and unplug at a path is exactly
+//!   that change of the *tree*. `deliver` takes a packet down it exactly, or, where memory was refused, to just those
+//!   devices that come before the one whose sink was to grow (*stopped*). Where `find` answers true, the path that it
+//!   put behind the one it was given leads to a device that packets reach and that holds the address (`HolderBehind`).
+//! - `child_mut` lends the device on a port. `DeviceSpec` keeps the rules of a device's keys, and `Devices` tells them
+//!   of each of its devices (`IsSpec`).
+//! - Laws (`src/laws.rt`): whole attempts with the device that is spoken to (`attempt_laws`), packets that are for none
+//!   of the devices they reach (`stray_laws`), the packets of an answer (`answer_laws`); how far a control read and the
+//!   two bulk endpoints are after one more attempt, whatever of it is lost (`control_read_goes_on`, `source_goes_on`,
+//!   `sink_goes_on`), and in lemmas a hub's status endpoint (`poll_on` of `proofs/ChangesProgress.antt`), what no
+//!   packet changes (`keeps-received`, `RowFrames.antt`), silent devices (`silent-stays`, `silent-unread`,
+//!   `Attempts.antt`) and the ports of a row (`row_of-after`, `row_of-forgotten`, `Rows.antt`). What each step leaves
+//!   at each place of the tree stands with usb_world, what a status stage comes to and what an attempt leaves of its
+//!   device with usb_transaction.
 #![tactic(auto)]
 
 mod answer;

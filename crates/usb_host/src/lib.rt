@@ -1,5 +1,43 @@
 //! The host: rounds over the ports of its root and of the hubs that it knows, and the transfers to
 //! the devices that it found (9.1.2, 11.12).
+//!
+//! # What is proved
+//!
+//! Each round that worked made an attempt or left less to do, a quiet one changed nothing that is known and found no
+//! change at a root port; at most so many attempts; a hub that is dropped is listed as lost with nothing below it;
+//! after Bus or Memory every `round`, `send`, `receive` and `clear_halt` answers Stopped and changes nothing; each
+//! fault only where its cause stands; the taken addresses are just those of the entries, one each; entries stand by
+//! rising path, each at a port of the root or of a hub that is listed; `send`, `receive` and `clear_halt` go through
+//! the pipes at the path, move what usb_table says of them, with the bytes that were asked, and answer what it answers
+//! (`SentAt`, `ReceivedAt`, `ClearedAt`); what it knows is so and stays so, and a quiet round leaves nothing to do
+//! (`RoundKeeps`, `TransferKeeps`); what a round does, part by part.
+//!
+//! **One holder.** *Owning* (`usb_host/specs/Ownership.antt`) says of a host that at no attempt so far two reachable
+//! devices held one address, 0 included, and, as long as neither it nor its bus has stopped, that each reachable device
+//! holds the address of the entry at its path. `Host::new` gives it of an opening world, each of `round`, `send`,
+//! `receive` and `clear_halt` keeps it, whatever it answers, and so do events that come through `bus_mut`.
+//! `usb_serve::Runner`, by which `run` and `serve` make a plan's run item by item, keeps *Owning* of its host in its
+//! type: it stands behind each item, and behind a fault too; `run` and `serve` say it of the run that they made. With
+//! `one_device_at_most_answers` of usb_world no attempt of such a run is answered by two devices.
+//!
+//! - Where what the host knows is so and the bus is at work, a round that is done is its parts in order (`RoundParts`,
+//!   `specs/Service.antt`): by rising number just the root ports whose connection has changed; by strictly rising path
+//!   each known hub, one poll of it; at last each device that waits, while an address is free. It is told Worked just
+//!   where one of them did something.
+//! - A polled hub told nothing, and nothing else was done; or it told a byte that is not 0, and each known port whose
+//!   bit is set was served by rising number, and no other; or it did not answer, and was dropped (`HubPolled`,
+//!   `ServedTold`).
+//! - A port that is served was *tidied*, where its status told no change of connection: each change of enable and of
+//!   reset that it told was cleared, no other, and entries, addresses and pipes stay; or it was *looked at*, where its
+//!   status told one: that was cleared, the status was read again, what was known at the port and below it is
+//!   forgotten, and where a device is connected one finding is entered; or its hub, or one above it, is listed as lost
+//!   (`ServedAt`).
+//! - A round leaves bulk pipes, and the bulk endpoints at their other ends with all that they took and gave, as they
+//!   were, for each accepted device that stays listed. Else the device was found anew: at a moment of the round none
+//!   was reached there, its pipes are new, and its bulk endpoints have begun again (`KeepsBulk`,
+//!   `specs/BulkPipes.antt`). That nothing moved between that beginning and the end of the same round is not said, nor
+//!   that no hub is polled within an enumeration.
+//! - An event that comes through `bus_mut` leaves what the host knows so (`known_stays_at_events`).
 #![tactic(auto)]
 
 mod fault;

@@ -1,4 +1,9 @@
 //! The host over a bus of one's own: one that counts what goes over a simulated bus, where a device puts the host off.
+//!
+//! # What is proved
+//!
+//! `CountedBus` meets `trait Bus` around any bus, with the world and the trace of that one. *Only tested*: that each
+//! attempt is counted.
 #![tactic(auto)]
 
 mod counted;

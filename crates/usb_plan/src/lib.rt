@@ -1,6 +1,11 @@
 //! The plan of a run, read from a TOML text, and how many attempts to allow for it.
 //!
 //! `read_plan` gives the plan that the text spells, or the text's first fault.
+//!
+//! # What is proved
+//!
+//! `read_plan` answers the plan that the text *spells*, or its first fault, exactly, over the document that `toml`
+//! reads; `bound` is its formula. *Only tested*: the words of the faults.
 #![tactic(auto)]
 
 mod action;

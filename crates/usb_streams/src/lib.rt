@@ -2,6 +2,18 @@
 //!
 //! What a run tells of one transfer, usb_serve says; these laws say what all transfers to one path come to, whatever
 //! else the run does between them: rounds, events, other items, text.
+//!
+//! # What is proved
+//!
+//! Two laws. `transfers_join`, of any stretch of a run (rounds, events, items, text) up to a host whose bus is at work:
+//! a device that is listed in the end stood at its path from the beginning, or since a round of the stretch that found
+//! it anew, whatever was plugged, damaged or asked elsewhere. Since then, where it is reached in the end (`Streams`):
+//! as long as no clear found its OUT pipe halted or broken, its sink got the bytes of the sends to its path that are
+//! told done, end to end, with at most a front of a failed one behind them, and none where the pipe works still; over
+//! clears too, all bytes of each send that is told done and a front of each that failed, in their order. As long as no
+//! clear found its IN pipe halted or broken, the receives from its path that are told done hand back, end to end, the
+//! next bytes of its source, none twice and none left out; behind a round that found it anew they begin with the byte
+//! that the device counts (`StartsAt`). `runs_are_stretches`: a run is a stretch, with its items.
 #![tactic(auto)]
 
 mod stream_laws;

@@ -3,6 +3,11 @@
 //! `packet_line` gives the two lines of a packet, `listing_lines` those of a listing and `bound_line` that of a bound;
 //! `Lines` are lines in their order, and `push_decimal`, `push_escaped`, `push_hex`, `push_path` and `push_units` the
 //! pieces that lines are made of.
+//!
+//! # What is proved
+//!
+//! `packet_line` gives the packet's text and its bytes, and tells each fault only where its cause stands; each line of
+//! a listing and of a bound is its text.
 #![tactic(auto)]
 
 mod line;
