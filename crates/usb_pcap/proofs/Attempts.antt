@@ -32,12 +32,12 @@ host_in-some pre text r e =
     option_and_then_some (λ rest. option_and_then (λ packet. option_and_then (outgoing_of pre packet.0) (packet_mark_in packet.1)) (packet_in rest)) (behind_pre pre text) r e (λ rest first e.
     option_and_then_some (λ packet. option_and_then (outgoing_of pre packet.0) (packet_mark_in packet.1)) (packet_in rest) r e (λ packet second e.
     option_and_then_some (outgoing_of pre packet.0) (packet_mark_in packet.1) r e (λ mark third e.
-    if_some (may_be_marked pre mark.0) (Some (record { packet = packet.0; mark = mark.0 }, mark.1)) r e (λ fits is.
+    if_some (may_be_marked pre mark.0 packet.0) (Some (record { packet = packet.0; mark = mark.0 }, mark.1)) r e (λ fits is.
     let own = packet_in-some rest packet second in
     let s : Outgoing = record { packet = packet.0; mark = mark.0 } in
     let spelled : text ≡ host_text pre s ++ mark.1 =
     behind_pre-some pre text rest first ∙ ap (λ l. pre_text pre ++ l) (own.0 ∙ ap (λ l. text_of packet.0 ++ l) (packet_mark_in-some packet.1 mark third)) ∙ simp append_assoc in
-    subst (SentAs pre text) (same_Some (s, mark.1) r is) (spelled, (own.1, fits))))))
+    subst (SentAs pre text) (same_Some (s, mark.1) r is) (spelled, (own.1, own.2, fits))))))
 
 -- the same behind a stroke
 abbrev NextAs : Bool → List ℕ → Outgoing × List ℕ → Type 0
@@ -81,7 +81,7 @@ answer_in-some text r e =
     option_and_then_some one_answer (next_in false text) r e (λ s first e.
     if_some (is_answer s.0.packet) (Some ((One s.0.packet, s.0.mark), s.1)) r e (λ fits is.
     let own = next_in-some false text s first in
-    subst (AnsweredAs text) (same_Some ((One s.0.packet, s.0.mark), s.1) r is) (own.0 ∙ simp append_assoc, (own.1.0, fits, own.1.1))))))
+    subst (AnsweredAs text) (same_Some ((One s.0.packet, s.0.mark), s.1) r is) (own.0 ∙ simp append_assoc, (fits, own.1))))))
 
 payload_if-some : (sends pre : Bool) (text : List ℕ) (r : Option Outgoing × List ℕ) → payload_if sends pre text ≡ Some r
     → (text ≡ next_text pre r.0 ++ r.1) × (is_some r.0 ≡ sends) × IfSome r.0 (λ s. IsSent pre s × (is_data_packet s.packet ≡ true))
@@ -120,7 +120,7 @@ attempt_begun-some number text r few e =
     let a : TracedAttempt = (traced number pre token.0 payload.0 answer.0 reply).0 in
     let spelled : decimal number ++ codes " " ++ text ≡ attempt_line a.number a.pre a.exchange ++ reply.1 =
     ap (λ l. decimal number ++ codes " " ++ l) (host.0 ∙ ap (λ l. host_text pre token.0 ++ l) (more.0 ∙ ap (λ l. next_text pre payload.0 ++ l) (heard.0 ∙ ap (λ l. codes " / " ++ answer_text answer.0.0 ++ mark_text answer.0.1 ++ l) end.0))) ∙ simp append_assoc in
-    let told : IsTraced a = record { timed = few; token = host.1; sends = kind ∙ ap Some (sym more.1); payload = more.2; answer = heard.1; reply = end.1 } in
+    let told : IsTraced a = record { timed = few; token = host.1; sends = kind ∙ ap Some (sym more.1); payload = more.2; answer = heard.1; reply = end.1; kept = refl; uncleared = refl } in
     subst (TracedAs (decimal number ++ codes " " ++ text)) is (spelled, told))))))
 
 attempt_in-some : (text : List ℕ) (r : TracedAttempt × List ℕ) → attempt_in text ≡ Some r → TracedAs text r

@@ -1,8 +1,9 @@
 -- How a capture goes on, byte after byte.
-use Rattle.std.proofs.Common.{◌≡◌, ◌≢◌, ℕ, ◌+◌, ◌-◌, ◌^◌, ◌<◌, ◌≤◌, nat_lt, min, Bool, true, false, List, [], ◌∷◌, ◌++◌, length, take, drop, Option, Some, None, IfSome, Result, Ok, Err, get_or, is_err, OnOk, refl, sym, ap, subst, ◌∙◌, arith, append_assoc, append-nil, length-append}
+use Rattle.std.proofs.Common.{◌≡◌, ◌≢◌, ◌==◌, inl, inr, ℕ, ◌+◌, ◌-◌, ◌^◌, ◌<◌, ◌≤◌, nat_lt, min, Bool, true, false, List, [], ◌∷◌, ◌++◌, length, take, drop, Option, Some, None, IfSome, Result, Ok, Err, get_or, is_err, OnOk, refl, sym, ap, subst, ◌∙◌, arith, append_assoc, append-nil, length-append}
 use Rattle.arrayvec.specs.ArrayVec.{ArrayVec}
 use Rattle.std.proofs.lemmas.List.{take_more, take-append-drop, length-take, take-append-le, take_all}
 use Rattle.std.proofs.lemmas.List.Elements.{All-nil, All-push}
+use Rattle.std.proofs.lemmas.Bool.{eqb-true, ltb-true}
 use Rattle.std.proofs.lemmas.Bool.Decides.{nat_tests}
 use Rattle.std.proofs.KnownBytes.{Appends-trans, Consumes-trans}
 use Rattle.std.specs.Prelude.{IsErrOf}
@@ -14,9 +15,11 @@ use Rattle.usb_pcap.specs.declared.capturing.PcapFault.{PcapFault}
 use Rattle.usb_pcap.specs.declared.capturing.PcapFault.TheVariants.{Read, Line as BadLine, TooLong, Write}
 use Rattle.usb_pcap.specs.declared.attempt.TracedAttempt.{TracedAttempt}
 use Rattle.usb_pcap.specs.Attempt.{IsAttemptLine}
-use Rattle.usb_pcap.specs.Report.{is_report}
+use Rattle.usb_pcap.specs.Grammar.{fits}
+use Rattle.usb_pcap.specs.Report.{IsReport, has_form, plug_form, report_forms}
+use Rattle.usb_pcap.proofs.Forms.{is_report-complete, is_report-sound, no_plug, plug_taken}
 use Rattle.usb_pcap.specs.Record.{AreRecords, attempt_packets, header}
-use Rattle.usb_pcap.specs.Capture.{Captures, ComesOf, IsCapture, LineRecords, StandsBehind, WroteFront, WroteLines, next_number}
+use Rattle.usb_pcap.specs.Capture.{Captures, ComesOf, IsCapture, IsRunLine, IsTold, LineRecords, RecordsOf, RefusedLine, StandsBehind, WroteFront, WroteLines, longest, next_number}
 
 few_taken : (k : ℕ) (l : List ℕ) → length (take k l) < k → length l < k
 few_taken k l h = let e = length-take k l in omega (arith, e)
@@ -42,7 +45,7 @@ taken_more k line front b e room =
       both_few k (length line) (length (line ++ b ∷ [])) (omega arith) (omega (arith, long)),
     )
 
--- the same where there is no room
+-- the same where there is non room
 taken_long : (k : ℕ) (line front : List ℕ) (b : ℕ) → front ≡ take k line → length front ≡ k → (front ≡ take k (line ++ b ∷ [])) × (nat_lt k (length (line ++ b ∷ [])) ≡ true)
 taken_long k line front b e full =
     let many = many_taken k line (subst (λ l. length l ≡ k) e full) in
@@ -66,9 +69,9 @@ stands_first w now s h number front long = record {
 }
 
 pub stands_more : (w now : Option (List ℕ)) (text : List ℕ) (b : ℕ) (s t : OpenLine) → b ≢ 10 → StandsBehind w now text s → t.number ≡ s.number
-    → length s.front.items < 700 → t.front.items ≡ s.front.items ++ b ∷ [] → t.is_long ≡ s.is_long → StandsBehind w now (text ++ b ∷ []) t
+    → length s.front.items < longest → t.front.items ≡ s.front.items ++ b ∷ [] → t.is_long ≡ s.is_long → StandsBehind w now (text ++ b ∷ []) t
 stands_more w now text b s t other h number room front long =
-    let more = taken_more 700 h.line s.front.items b h.begins room in
+    let more = taken_more longest h.line s.front.items b h.begins room in
     record {
       n = h.n;
       front = h.front;
@@ -84,9 +87,9 @@ stands_more w now text b s t other h number room front long =
     }
 
 pub stands_long : (w now : Option (List ℕ)) (text : List ℕ) (b : ℕ) (s t : OpenLine) → b ≢ 10 → StandsBehind w now text s → t.number ≡ s.number
-    → length s.front.items ≡ 700 → t.front.items ≡ s.front.items → t.is_long ≡ true → StandsBehind w now (text ++ b ∷ []) t
+    → length s.front.items ≡ longest → t.front.items ≡ s.front.items → t.is_long ≡ true → StandsBehind w now (text ++ b ∷ []) t
 stands_long w now text b s t other h number full front long =
-    let more = taken_long 700 h.line s.front.items b h.begins full in
+    let more = taken_long longest h.line s.front.items b h.begins full in
     record {
       n = h.n;
       front = h.front;
@@ -103,7 +106,11 @@ stands_long w now text b s t other h number full front long =
 
 -- the records of a line, by its first bytes
 abbrev Tells : OpenLine → List ℕ → Type 0
-Tells s records = (line : List ℕ) → s.front.items ≡ take 700 line → s.is_long ≡ nat_lt 700 (length line) → LineRecords line records
+Tells s records = (line : List ℕ) → s.front.items ≡ take longest line → s.is_long ≡ nat_lt longest (length line) → LineRecords line records
+
+-- the line is none of a run, by its first bytes
+abbrev Refuses : OpenLine → Type 0
+Refuses s = (line : List ℕ) → s.front.items ≡ take longest line → s.is_long ≡ nat_lt longest (length line) → IsRunLine line → ⊥
 
 closed : (w now : Option (List ℕ)) (text records : List ℕ) (s : OpenLine) (h : StandsBehind w now text s) → Tells s records → IsCapture (h.n + 1) (text ++ 10 ∷ []) (h.file ++ records)
 closed w now text records s h tells =
@@ -142,27 +149,35 @@ went_front w mid now text records s h tells gone = (
   },
 )
 
-pub went_lines : (w now : Option (List ℕ)) (text rest : List ℕ) (s : OpenLine) → StandsBehind w now text s → (n : ℕ) × WroteLines w now (text ++ rest) n × (s.number ≡ next_number n)
-went_lines w now text rest s h = (
+-- the line has ended, and is none of a run
+pub went_refused : (w now : Option (List ℕ)) (text : List ℕ) (s : OpenLine) → StandsBehind w now text s → Refuses s
+    → (n : ℕ) × (s.number ≡ next_number n) × RefusedLine w now (text ++ 10 ∷ []) n
+went_refused w now text s h none = (
   h.n,
+  h.number,
   record {
     front = h.front;
-    rest = h.line ++ rest;
+    line = h.line;
+    rest = [];
     file = h.file;
-    split = ap (λ l. l ++ rest) h.split ∙ append_assoc h.front h.line rest;
+    split = ap (λ l. l ++ 10 ∷ []) h.split;
+    one = h.one;
+    other = none h.line h.begins h.long;
     captured = h.captured;
     gone = h.gone;
   },
-  h.number,
 )
 
 -- a fault stays what it is, whatever the text goes on with
-lines_more : (w now : Option (List ℕ)) (text rest : List ℕ) (n : ℕ) → WroteLines w now text n → WroteLines w now (text ++ rest) n
-lines_more w now text rest n h = record {
+refused_more : (w now : Option (List ℕ)) (text rest : List ℕ) (n : ℕ) → RefusedLine w now text n → RefusedLine w now (text ++ rest) n
+refused_more w now text rest n h = record {
   front = h.front;
+  line = h.line;
   rest = h.rest ++ rest;
   file = h.file;
-  split = ap (λ l. l ++ rest) h.split ∙ append_assoc h.front h.rest rest;
+  split = ap (λ l. l ++ rest) h.split ∙ append_assoc (h.front ++ h.line) (10 ∷ h.rest) rest;
+  one = h.one;
+  other = h.other;
   captured = h.captured;
   gone = h.gone;
 }
@@ -178,28 +193,52 @@ front_more w now text rest n h = record {
 }
 
 pub comes_more : (w now : Option (List ℕ)) (text rest : List ℕ) (f : PcapFault) (s t : OpenLine) → ComesOf w now text (Err f) s → ComesOf w now (text ++ rest) (Err f) t
-comes_more w now text rest (BadLine number) s t (n, h, e) = (n, lines_more w now text rest n h, e)
+comes_more w now text rest (BadLine number) s t (n, e, h) = (n, e, refused_more w now text rest n h)
 comes_more w now text rest Write s t (n, h) = (n, front_more w now text rest n h)
 comes_more w now text rest Read s t h = absurd h
 comes_more w now text rest TooLong s t h = absurd h
 
-captures_more : (w now : Option (List ℕ)) (text rest : List ℕ) (f : PcapFault) → Captures w now text (Err f) → Captures w now (text ++ rest) (Err f)
-captures_more w now text rest (BadLine number) (n, h, e) = (n, lines_more w now text rest n h, e)
-captures_more w now text rest Write (n, h) = (n, front_more w now text rest n h)
-captures_more w now text rest Read (n, h) = (n, lines_more w now text rest n h)
-captures_more w now text rest TooLong (n, h) = (n, lines_more w now text rest n h)
-
 pub comes_captures : (w now : Option (List ℕ)) (text : List ℕ) (f : PcapFault) (s : OpenLine) → ComesOf w now text (Err f) s → Captures w now text (Err f)
-comes_captures w now text (BadLine number) s h = h
+comes_captures w now text (BadLine number) s (n, e, h) = (n, e, inl h)
 comes_captures w now text Write s h = h
 comes_captures w now text Read s h = absurd h
 comes_captures w now text TooLong s h = absurd h
 
 -- what was read is a front of the text
-pub captures_front : (a b w now : Option (List ℕ)) (done : List ℕ) (f : PcapFault) → Consumes a b done → Captures w now done (Err f) → IfSome a (λ text. Captures w now text (Err f))
-captures_front None b w now done f e h = tt
-captures_front (Some text) None w now done f e h = absurd e
-captures_front (Some text) (Some rest) w now done f e h = subst (λ t. Captures w now t (Err f)) (sym e) (captures_more w now done rest f h)
+pub comes_front : (a b w now : Option (List ℕ)) (done : List ℕ) (f : PcapFault) (s : OpenLine) → Consumes a b done → ComesOf w now done (Err f) s
+    → IfSome a (λ text. Captures w now text (Err f))
+comes_front None b w now done f s e h = tt
+comes_front (Some text) None w now done f s e h = absurd e
+comes_front (Some text) (Some rest) w now done f s e h =
+    subst (λ t. Captures w now t (Err f)) (sym e) (comes_captures w now (done ++ rest) f s (comes_more w now done rest f s s h))
+
+stopped : (w now : Option (List ℕ)) (text rest : List ℕ) (s : OpenLine) → StandsBehind w now text s → (n : ℕ) × WroteLines w now (text ++ rest) n
+stopped w now text rest s h = (
+  h.n,
+  record {
+    front = h.front;
+    rest = h.line ++ rest;
+    file = h.file;
+    split = ap (λ l. l ++ rest) h.split ∙ append_assoc h.front h.line rest;
+    captured = h.captured;
+    gone = h.gone;
+  },
+)
+
+pub read_failed : (a b w now : Option (List ℕ)) (done : List ℕ) (s : OpenLine) → Consumes a b done → StandsBehind w now done s
+    → IfSome a (λ text. Captures w now text (Err Read))
+read_failed None b w now done s e h = tt
+read_failed (Some text) None w now done s e h = absurd e
+read_failed (Some text) (Some rest) w now done s e h = subst (λ t. Captures w now t (Err Read)) (sym e) (stopped w now done rest s h)
+
+pub read_on : (a b w now : Option (List ℕ)) (done : List ℕ) (s : OpenLine) → Consumes a b done → StandsBehind w now done s → 2 ^ 64 - 1 ≤ length done
+    → IfSome a (λ text. Captures w now text (Err TooLong))
+read_on None b w now done s e h long = tt
+read_on (Some text) None w now done s e h long = absurd e
+read_on (Some text) (Some rest) w now done s e h long =
+    let (n, wrote) = stopped w now done rest s h in
+    let both = length-append done rest in
+    subst (λ t. Captures w now t (Err TooLong)) (sym e) (n, wrote, omega (arith, both, long))
 
 -- all of the text was read
 pub captures_all : (a b w now : Option (List ℕ)) (done : List ℕ) (r : Result (Unit {0}) PcapFault) → Consumes a b done → IsAtEnd b → Captures w now done r → IfSome a (λ text. Captures w now text r)
@@ -209,27 +248,68 @@ captures_all (Some text) (Some rest) w now done r e end h = subst (λ t. Capture
 
 pub ended_well : (w now : Option (List ℕ)) (text : List ℕ) (s : OpenLine) → s.front.items ≡ [] → StandsBehind w now text s → Captures w now text (Ok tt)
 ended_well w now text s empty h =
-    let few = few_taken 700 h.line (subst (λ l. length l < 700) (sym empty ∙ h.begins) (omega arith)) in
-    let none : h.line ≡ [] = sym (take_all 700 h.line (omega arith)) ∙ sym h.begins ∙ empty in
+    let few = few_taken longest h.line (subst (λ l. length l < longest) (sym empty ∙ h.begins) (omega arith)) in
+    let none : h.line ≡ [] = sym (take_all longest h.line (omega arith)) ∙ sym h.begins ∙ empty in
     (h.n, h.file, subst (λ t. IsCapture h.n t h.file) (sym (h.split ∙ ap (λ l. h.front ++ l) none ∙ append-nil h.front)) h.captured, h.gone)
 
-pub ended_early : (w now : Option (List ℕ)) (text : List ℕ) (s : OpenLine) → StandsBehind w now text s → Captures w now text (Err (BadLine s.number))
-ended_early w now text s h = let (n, wrote, number) = went_lines w now text [] s h in (n, subst (λ t. WroteLines w now t n) (append-nil text) wrote, number)
+pub no_items : (l : List ℕ) → (length l == 0) ≡ true → l ≡ []
+no_items [] e = refl
+no_items (c ∷ l) e = let none = eqb-true (length (c ∷ l)) 0 e in absurd (omega (arith, none))
 
-pub report_records : (front line records : List ℕ) → front ≡ take 700 line → is_report front ≡ true → records ≡ [] → LineRecords line records
-report_records front line records e report none = subst (LineRecords line) (sym none) (LineRecords.report (subst (λ l. is_report l ≡ true) e report))
+pub some_items : (l : List ℕ) → (length l == 0) ≡ false → l ≢ []
+some_items l e is = let none : (length {A = ℕ} [] == 0) ≡ false = subst (λ (k : List ℕ). (length k == 0) ≡ false) is e in absurd (cc)
 
-pub attempt_records : (front line records : List ℕ) (is_long : Bool) (a : TracedAttempt) → is_long ≡ false → IsAttemptLine front a → AreRecords a.number (attempt_packets a.pre a.exchange) records
-    → front ≡ take 700 line → is_long ≡ nat_lt 700 (length line) → LineRecords line records
-attempt_records front line records is_long a short of made e long =
-    let few : length line ≤ 700 = not_more 700 (length line) (sym long ∙ short) in
-    LineRecords.attempt a records (subst (λ l. IsAttemptLine l a) (e ∙ take_all 700 line few) of) made
+pub ended_early : (w now : Option (List ℕ)) (text : List ℕ) (s : OpenLine) → s.front.items ≢ [] → StandsBehind w now text s → Captures w now text (Err (BadLine s.number))
+ended_early w now text s begun h = (
+  h.n,
+  h.number,
+  inr (record {
+    front = h.front;
+    line = h.line;
+    file = h.file;
+    split = h.split;
+    one = h.one;
+    begun = λ none. begun (h.begins ∙ ap (λ l. take longest l) none);
+    captured = h.captured;
+    gone = h.gone;
+  }),
+)
 
-pub attempt_some : (front : List ℕ) (is_long : Bool) (a : TracedAttempt) (o : Option (ArrayVec ℕ)) → is_long ≡ false → IsAttemptLine front a
-    → IfSome o (λ r. AreRecords a.number (attempt_packets a.pre a.exchange) r.items)
-    → IfSome o (λ r. (line : List ℕ) → front ≡ take 700 line → is_long ≡ nat_lt 700 (length line) → LineRecords line r.items)
-attempt_some front is_long a None short of made = tt
-attempt_some front is_long a (Some r) short of made = λ line e long. attempt_records front line r.items is_long a short of made e long
+-- ---- a line, by its first bytes
+
+short_whole : (front line : List ℕ) → front ≡ take longest line → length line ≤ longest → front ≡ line
+short_whole front line e few = e ∙ take_all longest line few
+
+pub told_records : (front line : List ℕ) (records : ArrayVec ℕ) → records.items ≡ [] → IsTold line → RecordsOf line (Some records)
+told_records front line records none told = subst (λ l. LineRecords line l) (sym none) (LineRecords.told told)
+
+pub plug_records : (front line : List ℕ) (records : ArrayVec ℕ) → front ≡ take longest line → fits plug_form front ≡ true → records.items ≡ [] → RecordsOf line (Some records)
+plug_records front line records e fit none = told_records front line records none (inl (plug_taken front line e fit))
+
+pub report_records : (front line : List ℕ) (is_long : Bool) (records : ArrayVec ℕ) → front ≡ take longest line → is_long ≡ nat_lt longest (length line) → is_long ≡ false
+    → has_form report_forms front ≡ true → records.items ≡ [] → RecordsOf line (Some records)
+report_records front line is_long records e long short fit none =
+    let few : length line ≤ longest = not_more longest (length line) (sym long ∙ short) in
+    told_records front line records none (inr (few, subst IsReport (short_whole front line e few) (is_report-sound front fit)))
+
+pub long_refused : (front line : List ℕ) (is_long : Bool) → front ≡ take longest line → is_long ≡ nat_lt longest (length line) → is_long ≡ true → fits plug_form front ≡ false → IsRunLine line → ⊥
+long_refused front line is_long e long fit none (inl (inl plug)) = no_plug front line e none plug
+long_refused front line is_long e long fit none (inl (inr (few, report))) = let over = ltb-true longest (length line) (sym long ∙ fit) in absurd (omega arith)
+long_refused front line is_long e long fit none (inr (a, (few, of))) = let over = ltb-true longest (length line) (sym long ∙ fit) in absurd (omega arith)
+
+pub attempt_records : (front line : List ℕ) (is_long : Bool) (a : TracedAttempt) (records : ArrayVec ℕ) → front ≡ take longest line → is_long ≡ nat_lt longest (length line)
+    → is_long ≡ false → IsAttemptLine front a → AreRecords a.number (attempt_packets a.pre a.exchange) records.items → RecordsOf line (Some records)
+attempt_records front line is_long a records e long short of made =
+    let few : length line ≤ longest = not_more longest (length line) (sym long ∙ short) in
+    LineRecords.attempt a records.items (few, subst (λ l. IsAttemptLine l a) (short_whole front line e few) of) made
+
+pub none_refused : (front line : List ℕ) (is_long : Bool) → front ≡ take longest line → is_long ≡ nat_lt longest (length line) → is_long ≡ false
+    → fits plug_form front ≡ false → has_form report_forms front ≡ false → ((a : TracedAttempt) → IsAttemptLine front a → None ≡ Some a) → IsRunLine line → ⊥
+none_refused front line is_long e long short no_p no_r no_a (inl (inl plug)) = no_plug front line e no_p plug
+none_refused front line is_long e long short no_p no_r no_a (inl (inr (few, report))) =
+    let fit = is_report-complete front (subst IsReport (sym (short_whole front line e few)) report) in absurd (cc)
+none_refused front line is_long e long short no_p no_r no_a (inr (a, (few, of))) =
+    let found = no_a a (subst (λ l. IsAttemptLine l a) (sym (short_whole front line e few)) of) in absurd (cc)
 
 pub torn_header : (a w now : Option (List ℕ)) → AppendsFront w now header → IfSome a (λ text. Captures w now text (Err Write))
 torn_header None w now h = tt
@@ -241,6 +321,10 @@ piece_more w now text piece i b s below is h =
     let more : take (i + 1) piece ≡ take i piece ++ b ∷ [] = take_more piece i 0 below ∙ ap (λ x. take i piece ++ x ∷ []) (sym is) in
     subst (λ t. StandsBehind w now t s) (append_assoc text (take i piece) (b ∷ []) ∙ ap (λ l. text ++ l) (sym more)) h
 
+-- all of a piece
+pub piece_taken : (w now : Option (List ℕ)) (text piece : List ℕ) (i : ℕ) (s : OpenLine) → length piece ≤ i → StandsBehind w now (text ++ take i piece) s → StandsBehind w now (text ++ piece) s
+piece_taken w now text piece i s over h = subst (λ t. StandsBehind w now (text ++ t) s) (take_all i piece over) h
+
 pub piece_failed : (w now : Option (List ℕ)) (text piece : List ℕ) (i b : ℕ) (f : PcapFault) (s t : OpenLine) → i < length piece → b ≡ get_or piece i 0 → ComesOf w now ((text ++ take i piece) ++ b ∷ []) (Err f) s → ComesOf w now (text ++ piece) (Err f) t
 piece_failed w now text piece i b f s t below is h =
     let more : take (i + 1) piece ≡ take i piece ++ b ∷ [] = take_more piece i 0 below ∙ ap (λ x. take i piece ++ x ∷ []) (sym is) in
@@ -251,19 +335,6 @@ piece_failed w now text piece i b f s t below is h =
 pub not_err : {A E : Type 0} {P : Type 0} (r : Result A E) → is_err r ≡ false → OnOk r P → P
 not_err (Ok x) e h = h
 not_err (Err x) e h = absurd (cc)
-
-pub stopped : (w now : Option (List ℕ)) (text : List ℕ) (s : OpenLine) → StandsBehind w now text s → (n : ℕ) × WroteLines w now text n
-stopped w now text s h = (
-  h.n,
-  record {
-    front = h.front;
-    rest = h.line;
-    file = h.file;
-    split = h.split;
-    captured = h.captured;
-    gone = h.gone;
-  },
-)
 
 pub never_read : {P : Type 0} (w now : Option (List ℕ)) (text : List ℕ) (f : PcapFault) (s : OpenLine) → ComesOf w now text (Err f) s → IsErrOf {T = Unit {0}} (Err f) Read → P
 never_read w now text Read s h is = absurd h

@@ -3,4 +3,7 @@ mod Reading
 mod Packets
 mod Records
 mod Attempts
+mod Printed
+mod Items
+mod Forms
 mod Captures

@@ -1,5 +1,5 @@
 -- What a reading of a packet or a mark took from the front of a text is as it is printed.
-use Rattle.std.proofs.Common.{◌≡◌, ℕ, ◌&&◌, nat_lt, if◌then◌else◌, List, [], ◌∷◌, ◌++◌, Some, None, option_map, codes, decimal, refl, sym, ap, subst, ◌∙◌, append_assoc}
+use Rattle.std.proofs.Common.{◌≡◌, ℕ, zero, suc, ◌<◌, ◌≤◌, length, slice_index, arith, ◌&&◌, nat_lt, if◌then◌else◌, List, [], ◌∷◌, ◌++◌, Some, None, option_map, codes, decimal, refl, sym, ap, subst, ◌∙◌, append_assoc}
 use Rattle.std.proofs.lemmas.Option.{option_and_then_some, same_Some}
 use Rattle.std.proofs.lemmas.Bool.{and_parts, ltb-true}
 use Rattle.std.specs.Option.{option_and_then}
@@ -10,18 +10,18 @@ use Rattle.usb_packet.specs.declared.Toggle.{Toggle}
 use Rattle.usb_packet.specs.declared.Toggle.TheVariants.{Zero, One}
 use Rattle.usb_packet.specs.declared.Packet.{Packet}
 use Rattle.usb_packet.specs.declared.Packet.TheVariants.{Token, Payload, Ack, Nak, Stall}
-use Rattle.usb_packet.specs.Spelling.{HasFields}
+use Rattle.usb_packet.specs.Spelling.{HasData, HasFields, IsBytes}
 use Rattle.usb_packet.specs.Text.{data_name, text_of, token_name}
 use Rattle.usb_world.specs.declared.wire.Mark.{Mark}
 use Rattle.usb_world.specs.declared.wire.Mark.TheVariants.{Whole, Lost, PreLost, Flipped}
 use Rattle.usb_bus.specs.Trace.{mark_text}
 use Rattle.usb_pcap.specs.Text.{bytes_on, decimal_in, strip}
 use Rattle.usb_pcap.specs.Packet.{bit_in, data_in, data_of, fitting_token, handshake_in, packet_in, packet_mark_in, token_in}
-use Rattle.usb_pcap.proofs.Reading.{bytes_on-some, decimal_in-some, found_some, if_some, map_some, strip-some}
+use Rattle.usb_pcap.proofs.Reading.{bytes_on-data, bytes_on-some, decimal_in-some, found_some, if_some, map_some, strip-some}
 
 -- a text is that of a packet with this behind it
 abbrev pub BeginsAs : List ℕ → Packet × List ℕ → Type 0
-BeginsAs text r = (text ≡ text_of r.0 ++ r.1) × HasFields r.0
+BeginsAs text r = (text ≡ text_of r.0 ++ r.1) × HasFields r.0 × HasData r.0
 
 begins : (text : List ℕ) (r s : Packet × List ℕ) → BeginsAs text r → Some r ≡ Some s → BeginsAs text s
 begins text r s h e = subst (BeginsAs text) (same_Some r s e) h
@@ -38,27 +38,32 @@ token_in-some kind text r e =
     let two = decimal_in-some rest ep second in
     let spelled : token_name kind ++ text ≡ (token_name kind ++ decimal addr.0 ++ codes "." ++ decimal ep.0) ++ ep.1 =
     ap (λ l. token_name kind ++ l) (one.0 ∙ ap (λ l. decimal addr.0 ++ l) (strip-some (codes ".") addr.1 rest dot ∙ ap (λ l. codes "." ++ l) two.0)) ∙ simp append_assoc in
-    begins (token_name kind ++ text) (Token kind addr.0 ep.0, ep.1) r (spelled, (ltb-true addr.0 128 tests.0, ltb-true ep.0 16 tests.1)) is))))
+    begins (token_name kind ++ text) (Token kind addr.0 ep.0, ep.1) r (spelled, (ltb-true addr.0 128 tests.0, ltb-true ep.0 16 tests.1), tt) is))))
 
-data_of-some : (toggle : Toggle) (text : List ℕ) (b r : _) → data_of toggle b ≡ Some r → text ≡ encode_upper b.0 ++ b.1 → BeginsAs (data_name toggle ++ text) r
-data_of-some toggle text ([], rest) r is e = absurd (cc)
-data_of-some toggle text (byte ∷ bytes, rest) r is e =
-    begins (data_name toggle ++ text) (Payload toggle (record { items = byte ∷ bytes }), rest) r (ap (λ l. data_name toggle ++ l) e ∙ sym (append_assoc (data_name toggle) (encode_upper (byte ∷ bytes)) rest), tt) is
+data_of-some : (toggle : Toggle) (text : List ℕ) (b r : _) → data_of toggle b ≡ Some r → text ≡ encode_upper b.0 ++ b.1 → (length b.0 ≤ 64) × IsBytes b.0
+    → BeginsAs (data_name toggle ++ text) r
+data_of-some toggle text ([], rest) r is e fits = absurd (cc)
+data_of-some toggle text (byte ∷ bytes, rest) r is e fits =
+    begins (data_name toggle ++ text) (Payload toggle (record { items = byte ∷ bytes }), rest) r (ap (λ l. data_name toggle ++ l) e ∙ sym (append_assoc (data_name toggle) (encode_upper (byte ∷ bytes)) rest), tt, fits) is
+
+no_bytes : (i : ℕ) → slice_index [] i < 256
+no_bytes zero = omega arith
+no_bytes (suc i) = omega arith
 
 data_in-some : (toggle : Toggle) (text : List ℕ) (r : Packet × List ℕ) → data_in toggle text ≡ Some r → BeginsAs (data_name toggle ++ text) r
 unfolding data_in encode_with
 data_in-some toggle text r e =
     found_some (strip (codes "-") text) (λ rest. Some (Payload toggle (record { items = [] }), rest)) (option_and_then (data_of toggle) (bytes_on [] text)) r e
     (λ rest dash is. begins (data_name toggle ++ text) (Payload toggle (record { items = [] }), rest) r
-    (ap (λ l. data_name toggle ++ l) (strip-some (codes "-") text rest dash) ∙ sym (append_assoc (data_name toggle) (codes "-") rest), tt) is)
-    (λ more. option_and_then_some (data_of toggle) (bytes_on [] text) r more (λ b digits is. data_of-some toggle text b r is (bytes_on-some [] text b digits)))
+    (ap (λ l. data_name toggle ++ l) (strip-some (codes "-") text rest dash) ∙ sym (append_assoc (data_name toggle) (codes "-") rest), tt, (omega arith, no_bytes)) is)
+    (λ more. option_and_then_some (data_of toggle) (bytes_on [] text) r more (λ b digits is. data_of-some toggle text b r is (bytes_on-some [] text b digits) (bytes_on-data [] text b (omega arith) no_bytes digits)))
 
 handshake_in-some : (text : List ℕ) (r : Packet × List ℕ) → handshake_in text ≡ Some r → BeginsAs text r
 unfolding handshake_in
 handshake_in-some text r e =
-    found_some (strip (codes "ACK") text) (λ rest. Some (Ack, rest)) _ r e (λ rest ack is. begins text (Ack, rest) r (strip-some (codes "ACK") text rest ack, tt) is) (λ no_ack.
-    found_some (strip (codes "NAK") text) (λ rest. Some (Nak, rest)) _ r no_ack (λ rest nak is. begins text (Nak, rest) r (strip-some (codes "NAK") text rest nak, tt) is) (λ no_nak.
-    map_some (λ rest. (Stall, rest)) (strip (codes "STALL") text) r no_nak (λ rest stall is. subst (BeginsAs text) is (strip-some (codes "STALL") text rest stall, tt))))
+    found_some (strip (codes "ACK") text) (λ rest. Some (Ack, rest)) _ r e (λ rest ack is. begins text (Ack, rest) r (strip-some (codes "ACK") text rest ack, tt, tt) is) (λ no_ack.
+    found_some (strip (codes "NAK") text) (λ rest. Some (Nak, rest)) _ r no_ack (λ rest nak is. begins text (Nak, rest) r (strip-some (codes "NAK") text rest nak, tt, tt) is) (λ no_nak.
+    map_some (λ rest. (Stall, rest)) (strip (codes "STALL") text) r no_nak (λ rest stall is. subst (BeginsAs text) is (strip-some (codes "STALL") text rest stall, tt, tt))))
 
 -- a word, and what is read behind it
 worded : (word text rest : List ℕ) (r : Packet × List ℕ) → strip word text ≡ Some rest → BeginsAs (word ++ rest) r → BeginsAs text r

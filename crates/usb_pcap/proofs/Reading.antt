@@ -1,9 +1,10 @@
 -- What a reading took from the front of a text is as it is printed.
-use Rattle.std.proofs.Common.{◌≡◌, ℕ, zero, suc, ◌+◌, ◌-◌, ◌*◌, ◌/◌, ◌%◌, ◌^◌, ◌<◌, inl, inr, ◌==◌, ◌&&◌, nat_lt, Bool, true, false, if◌then◌else◌, List, [], ◌∷◌, ◌++◌, length, slice_index, Option, Some, None, option_map, decimal, refl, sym, ap, ap₂, subst, ◌∙◌, arith, append_assoc}
+use Rattle.std.proofs.Common.{◌≡◌, ℕ, zero, suc, ◌+◌, ◌-◌, ◌*◌, ◌/◌, ◌%◌, ◌^◌, ◌<◌, ◌≤◌, inl, inr, ◌==◌, ◌&&◌, nat_lt, Bool, true, false, if◌then◌else◌, List, [], ◌∷◌, ◌++◌, length, slice_index, Option, Some, None, option_map, decimal, refl, sym, ap, ap₂, subst, ◌∙◌, arith, append_assoc, length-append}
 use Rattle.std.proofs.lemmas.Option.{option_and_then_some, same_Some}
 use Rattle.std.proofs.lemmas.Bool.{and_parts, cases_lt, eqb-true, ltb-true}
 use Rattle.std.proofs.lemmas.Bool.Decides.{nat_tests}
 use Rattle.std.specs.Char.{is_ascii_digit}
+use Rattle.usb_packet.specs.Spelling.{IsBytes}
 use Rattle.hex.specs.Hex.{encode_upper, encode_with, upper_digits}
 use Rattle.usb_pcap.specs.Text.{bytes_on, decimal_in, if_found, is_digit, number_on, strip, value_of}
 
@@ -104,3 +105,26 @@ bytes_on-some bytes (h ∷ l ∷ text) r e =
     let front : encode_upper (bytes ++ byte ∷ []) ≡ encode_upper bytes ++ h ∷ l ∷ [] = encode_upper-append bytes (byte ∷ []) ∙ ap (λ d. encode_upper bytes ++ d) pair in
     sym (ap (λ d. d ++ text) front ∙ append_assoc (encode_upper bytes) (h ∷ l ∷ []) text) ∙ bytes_on-some (bytes ++ byte ∷ []) text r rest))
     (λ other end. ap (λ (s : List ℕ × List ℕ). encode_upper s.0 ++ s.1) (same_Some (bytes, h ∷ l ∷ text) r end))
+
+push_small : (xs : List ℕ) (b : ℕ) → IsBytes xs → b < 256 → (i : ℕ) → slice_index (xs ++ b ∷ []) i < 256
+push_small [] b h few zero = few
+push_small [] b h few (suc i) = omega arith
+push_small (x ∷ xs) b h few zero = h zero
+push_small (x ∷ xs) b h few (suc i) = push_small xs b (λ j. h (suc j)) few i
+
+pub bytes_on-data : (bytes text : List ℕ) (r : List ℕ × List ℕ) → length bytes ≤ 64 → IsBytes bytes → bytes_on bytes text ≡ Some r → (length r.0 ≤ 64) × IsBytes r.0
+unfolding bytes_on
+bytes_on-data bytes [] r few small e = subst (λ (s : List ℕ × List ℕ). (length s.0 ≤ 64) × IsBytes s.0) (same_Some (bytes, []) r e) (few, small)
+bytes_on-data bytes (h ∷ []) r few small e = subst (λ (s : List ℕ × List ℕ). (length s.0 ≤ 64) × IsBytes s.0) (same_Some (bytes, h ∷ []) r e) (few, small)
+bytes_on-data bytes (h ∷ l ∷ text) r few small e =
+    let byte : ℕ = value_of h * 16 + value_of l in
+    if_either (is_digit h && is_digit l) (if nat_lt (length bytes) 64 then bytes_on (bytes ++ byte ∷ []) text else None) (Some (bytes, h ∷ l ∷ text)) r e
+    (λ digits more. if_some (nat_lt (length bytes) 64) (bytes_on (bytes ++ byte ∷ []) text) r more (λ room rest.
+    let both = and_parts (is_digit h) (is_digit l) digits in
+    let high = (digit_there h both.0).1 in
+    let low = (digit_there l both.1).1 in
+    let below : byte < 256 = omega (arith, high, low) in
+    let long = length-append bytes (byte ∷ []) in
+    let free = ltb-true (length bytes) 64 room in
+    bytes_on-data (bytes ++ byte ∷ []) text r (omega (arith, long, free)) (push_small bytes byte small below) rest))
+    (λ other end. subst (λ (s : List ℕ × List ℕ). (length s.0 ≤ 64) × IsBytes s.0) (same_Some (bytes, h ∷ l ∷ text) r end) (few, small))

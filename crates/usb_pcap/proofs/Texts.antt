@@ -1,5 +1,5 @@
 -- Lemmas on words at the front of a text.
-use Rattle.std.proofs.Common.{◌≡◌, ℕ, ◌-◌, ◌*◌, ◌<◌, ◌≤◌, ◌++◌, get_or, arith, Bool, true, false, ◌&&◌, ◌==◌, if◌then◌else◌, List, [], ◌∷◌, length, take, drop, Option, Some, None, refl, sym, ap, ◌∙◌, ◌+◌, is_some, Bor}
+use Rattle.std.proofs.Common.{◌≡◌, ℕ, ◌-◌, ◌*◌, ◌<◌, ◌≤◌, ◌++◌, get_or, arith, Bool, true, false, ◌&&◌, ◌==◌, if◌then◌else◌, List, [], ◌∷◌, length, take, drop, Option, Some, None, refl, sym, ap, ◌∙◌, ◌+◌, is_some, option_map, Bor}
 use Rattle.std.proofs.lemmas.List.{take_all}
 use Rattle.std.proofs.lemmas.Bool.{lt-ltb}
 use Rattle.std.specs.Option.{MatchOption}
@@ -39,3 +39,10 @@ bytes_on-pair bytes (h ∷ []) two high low room = absurd (omega arith)
 bytes_on-pair bytes (h ∷ l ∷ rest) two high low room =
     let all : take (length (h ∷ l ∷ rest) - 2) rest ≡ rest = take_all (length (h ∷ l ∷ rest) - 2) rest (omega arith) in
     rw (high, low, lt-ltb (length bytes) 64 room, all)
+
+-- the same of what it found
+pub strip_result : (word text : List ℕ) (found : Option (Bor (List ℕ)))
+    → MatchOption found (pointwise (λ a b. a == b) (take (length word) text) word ≡ false) (λ x. (pointwise (λ a b. a == b) (take (length word) text) word ≡ true) × (x.now ≡ drop (length word) text) × (length x.now + length word ≡ length text))
+    → option_map (λ x. x.now) found ≡ strip word text
+strip_result word text None h = sym (strip_none word text h)
+strip_result word text (Some x) h = sym (strip_found word text x.now h.0 h.1)

@@ -4,13 +4,14 @@ use Rattle.std.specs.Option.{option_and_then}
 use Rattle.usb_packet.specs.declared.TokenKind.TheVariants.{OutTok, InTok, SetupTok}
 use Rattle.usb_packet.specs.declared.Packet.{Packet}
 use Rattle.usb_packet.specs.declared.Packet.TheVariants.{Token, Sof, Payload, Ack, Nak, Stall, Pre}
-use Rattle.usb_packet.specs.Spelling.{HasFields}
+use Rattle.usb_packet.specs.Spelling.{HasData, HasFields}
 use Rattle.usb_bus.specs.Trace.{attempt_line}
 use Rattle.usb_world.specs.declared.exchange.ExchangeAnswer.{ExchangeAnswer}
 use Rattle.usb_world.specs.declared.exchange.ExchangeAnswer.TheVariants.{Nothing, One, Collision}
 use Rattle.usb_world.specs.declared.wire.Mark.{Mark}
 use Rattle.usb_world.specs.declared.wire.Mark.TheVariants.{Whole, Lost, PreLost, Flipped}
 use Rattle.usb_world.specs.declared.wire.Outgoing.{Outgoing}
+use Rattle.usb_world.specs.Wire.{bit_count}
 use Rattle.usb_pcap.specs.declared.attempt.TracedAttempt.{TracedAttempt}
 use Rattle.usb_pcap.specs.Text.{decimal_in, if_found, strip}
 use Rattle.usb_pcap.specs.Packet.{packet_in, packet_mark_in}
@@ -31,19 +32,19 @@ data_follow Nak = None
 data_follow Stall = None
 data_follow Pre = None
 
--- PRE is lost only where there is one
-abbrev pub may_be_marked : Bool → Mark → Bool
-may_be_marked pre Whole = true
-may_be_marked pre Lost = true
-may_be_marked pre PreLost = pre
-may_be_marked pre (Flipped bit) = true
+-- PRE is lost only where there is one, and a flipped bit is one of the packet's
+abbrev pub may_be_marked : Bool → Mark → Packet → Bool
+may_be_marked pre Whole packet = true
+may_be_marked pre Lost packet = true
+may_be_marked pre PreLost packet = pre
+may_be_marked pre (Flipped bit) packet = nat_lt bit (bit_count packet)
 
 abbrev pub behind_pre : Bool → List ℕ → Option (List ℕ)
 behind_pre false text = Some text
 behind_pre true text = strip (codes "PRE ") text
 
 abbrev pub outgoing_of : Bool → Packet → Mark × List ℕ → Option (Outgoing × List ℕ)
-outgoing_of pre packet mark = if may_be_marked pre mark.0 then Some (record { packet = packet; mark = mark.0 }, mark.1) else None
+outgoing_of pre packet mark = if may_be_marked pre mark.0 packet then Some (record { packet = packet; mark = mark.0 }, mark.1) else None
 
 -- a packet of the host and its mark
 unfoldable pub host_in : Bool → List ℕ → Option (Outgoing × List ℕ)
@@ -159,15 +160,17 @@ read_attempt line = option_and_then whole_line (attempt_in line)
 
 -- ---- what is so of an attempt that a line tells
 
+-- fields and data that a packet has room for, and a mark that it may have
 abbrev pub IsSent : Bool → Outgoing → Type 0
-IsSent pre s = HasFields s.packet × (may_be_marked pre s.mark ≡ true)
+IsSent pre s = HasFields s.packet × HasData s.packet × (may_be_marked pre s.mark s.packet ≡ true)
 
 abbrev pub IsMarkedAnswer : ExchangeAnswer → Mark → Type 0
 IsMarkedAnswer Nothing mark = mark ≡ Whole
 IsMarkedAnswer Collision mark = mark ≡ Whole
-IsMarkedAnswer (One p) mark = HasFields p × (is_answer p ≡ true) × (may_be_marked false mark ≡ true)
+IsMarkedAnswer (One p) mark = (is_answer p ≡ true) × IsSent false (record { packet = p; mark = mark })
 
--- a number with a time, a token, the host's data behind SETUP and OUT, an answer, and maybe the host's ACK
+-- a number with a time, a token, the host's data behind SETUP and OUT, an answer, and maybe the host's ACK; what no line
+-- tells is false
 pub record IsTraced (a : TracedAttempt) : Type 0 where
   pub timed : a.number < no_time
   pub token : IsSent a.pre a.exchange.token
@@ -175,6 +178,8 @@ pub record IsTraced (a : TracedAttempt) : Type 0 where
   pub payload : IfSome a.exchange.payload (λ s. IsSent a.pre s × (is_data_packet s.packet ≡ true))
   pub answer : IsMarkedAnswer a.exchange.answer a.exchange.answer_mark
   pub reply : IfSome a.exchange.reply (λ s. IsSent a.pre s × (is_ack_packet s.packet ≡ true))
+  pub kept : a.exchange.address_lost ≡ false
+  pub uncleared : a.exchange.change_cleared ≡ false
 
 -- the line is that of the attempt
 pub record IsAttemptLine (line : List ℕ) (a : TracedAttempt) : Type 0 where

@@ -1,5 +1,6 @@
 -- What a text's pcap file is: its header, and the records of each line in their order.
-use Rattle.std.specs.Prelude.{◌≡◌, ◌≢◌, ℕ, ◌+◌, ◌-◌, ◌^◌, nat_lt, min, true, List, [], ◌∷◌, ◌++◌, length, take, All, Option, Result, Ok, Err}
+use Rattle.std.specs.Prelude.{◌⊎◌, ◌≡◌, ◌≢◌, ℕ, ◌+◌, ◌-◌, ◌^◌, ◌≤◌, nat_lt, min, List, [], ◌∷◌, ◌++◌, length, take, All, Option, Some, None, Result, Ok, Err}
+use Rattle.arrayvec.specs.ArrayVec.{ArrayVec}
 use Rattle.std.specs.Io.KnownBytes.{Appends}
 use Rattle.usb_bus.specs.Watch.{AppendsFront}
 use Rattle.usb_pcap.specs.declared.attempt.TracedAttempt.{TracedAttempt}
@@ -7,13 +8,28 @@ use Rattle.usb_pcap.specs.declared.capturing.OpenLine.{OpenLine}
 use Rattle.usb_pcap.specs.declared.capturing.PcapFault.{PcapFault}
 use Rattle.usb_pcap.specs.declared.capturing.PcapFault.TheVariants.{Read, Line as BadLine, TooLong, Write}
 use Rattle.usb_pcap.specs.Attempt.{IsAttemptLine}
-use Rattle.usb_pcap.specs.Report.{is_report}
+use Rattle.usb_pcap.specs.Report.{IsPlug, IsReport}
 use Rattle.usb_pcap.specs.Record.{AreRecords, attempt_packets, header}
+
+-- no line of a run is longer, but that of a plug: a configuration of 65535 bytes, and what stands beside it
+abbrev pub longest : ℕ
+longest = 131200
+
+-- a line of an event, a listing, a transfer or a bound
+abbrev pub IsTold : List ℕ → Type 0
+IsTold line = IsPlug line ⊎ ((length line ≤ longest) × IsReport line)
+
+abbrev pub IsTraceLine : List ℕ → TracedAttempt → Type 0
+IsTraceLine line a = (length line ≤ longest) × IsAttemptLine line a
+
+-- a line of a run
+abbrev pub IsRunLine : List ℕ → Type 0
+IsRunLine line = IsTold line ⊎ ((a : TracedAttempt) × IsTraceLine line a)
 
 -- the records of a line: of an attempt's line those of its packets, of any other line of a run none
 pub data LineRecords (line : List ℕ) : List ℕ → Type 0 where
-  report : is_report (take 700 line) ≡ true → LineRecords line []
-  attempt : (a : TracedAttempt) (records : List ℕ) → IsAttemptLine line a
+  told : IsTold line → LineRecords line []
+  attempt : (a : TracedAttempt) (records : List ℕ) → IsTraceLine line a
       → AreRecords a.number (attempt_packets a.pre a.exchange) records → LineRecords line records
 
 -- a text of n lines, and its file
@@ -44,13 +60,36 @@ pub record WroteFront (old new : Option (List ℕ)) (text : List ℕ) (n : ℕ) 
   pub captured : IsCapture n front file
   pub gone : AppendsFront old new file
 
+-- the same where the next line is none of a run
+pub record RefusedLine (old new : Option (List ℕ)) (text : List ℕ) (n : ℕ) : Type 0 where
+  pub front : List ℕ
+  pub line : List ℕ
+  pub rest : List ℕ
+  pub file : List ℕ
+  pub split : text ≡ front ++ line ++ 10 ∷ rest
+  pub one : All (λ c. c ≢ 10) line
+  pub other : IsRunLine line → ⊥
+  pub captured : IsCapture n front file
+  pub gone : Appends old new file
+
+-- the same where nothing ends the next line
+pub record OpenEnd (old new : Option (List ℕ)) (text : List ℕ) (n : ℕ) : Type 0 where
+  pub front : List ℕ
+  pub line : List ℕ
+  pub file : List ℕ
+  pub split : text ≡ front ++ line
+  pub one : All (λ c. c ≢ 10) line
+  pub begun : line ≢ []
+  pub captured : IsCapture n front file
+  pub gone : Appends old new file
+
 -- what went out of a text: its file, or that of the lines before the fault
 abbrev pub Captures : Option (List ℕ) → Option (List ℕ) → List ℕ → Result (Unit {0}) PcapFault → Type 0
 Captures old new text (Ok done) = (n : ℕ) × (file : List ℕ) × IsCapture n text file × Appends old new file
-Captures old new text (Err (BadLine number)) = (n : ℕ) × WroteLines old new text n × (number ≡ next_number n)
+Captures old new text (Err (BadLine number)) = (n : ℕ) × (number ≡ next_number n) × (RefusedLine old new text n ⊎ OpenEnd old new text n)
 Captures old new text (Err Write) = (n : ℕ) × WroteFront old new text n
 Captures old new text (Err Read) = (n : ℕ) × WroteLines old new text n
-Captures old new text (Err TooLong) = (n : ℕ) × WroteLines old new text n
+Captures old new text (Err TooLong) = (n : ℕ) × WroteLines old new text n × (2 ^ 64 - 1 ≤ length text)
 
 -- ---- of the private functions
 
@@ -64,14 +103,19 @@ pub record StandsBehind (old new : Option (List ℕ)) (text : List ℕ) (state :
   pub captured : IsCapture n front file
   pub gone : Appends old new file
   pub one : All (λ c. c ≢ 10) line
-  pub begins : state.front.items ≡ take 700 line
-  pub long : state.is_long ≡ nat_lt 700 (length line)
+  pub begins : state.front.items ≡ take longest line
+  pub long : state.is_long ≡ nat_lt longest (length line)
   pub number : state.number ≡ next_number n
+
+-- the records of a line, None where it is none of a run
+abbrev pub RecordsOf : List ℕ → Option (ArrayVec ℕ) → Type 0
+RecordsOf text (Some records) = LineRecords text records.items
+RecordsOf text None = IsRunLine text → ⊥
 
 -- what came of the text so far
 abbrev pub ComesOf : Option (List ℕ) → Option (List ℕ) → List ℕ → Result (Unit {0}) PcapFault → OpenLine → Type 0
 ComesOf old new text (Ok done) state = StandsBehind old new text state
-ComesOf old new text (Err (BadLine number)) state = (n : ℕ) × WroteLines old new text n × (number ≡ next_number n)
+ComesOf old new text (Err (BadLine number)) state = (n : ℕ) × (number ≡ next_number n) × RefusedLine old new text n
 ComesOf old new text (Err Write) state = (n : ℕ) × WroteFront old new text n
 ComesOf old new text (Err Read) state = ⊥
 ComesOf old new text (Err TooLong) state = ⊥

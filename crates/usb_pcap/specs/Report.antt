@@ -1,34 +1,55 @@
--- What the lines of a run begin with that are of no attempt.
-use Rattle.std.specs.Prelude.{ℕ, ◌==◌, ◌&&◌, ◌||◌, nat_le, Bool, false, List, [], ◌∷◌, is_some, codes, if◌then◌else◌}
-use Rattle.usb_pcap.specs.Text.{strip}
+-- The lines of a run that are of no attempt.
+use Rattle.std.specs.Prelude.{◌⊎◌, ℕ, ◌||◌, Bool, false, List, [], ◌∷◌, codes}
+use Rattle.usb_pcap.specs.Grammar.{IsForm, Piece, fits}
+use Rattle.usb_pcap.specs.Grammar.Piece.{word, one_of, path, number, bytes, string, name}
 
-abbrev pub begins : List ℕ → List ℕ → Bool
-begins word line = is_some (strip word line)
+-- why a device was refused
+abbrev pub causes : List (List ℕ)
+causes =
+    codes "silent" ∷ codes "busy" ∷ codes "stalled device" ∷ codes "stalled address" ∷ codes "stalled config" ∷ codes "stalled set config"
+    ∷ codes "bad device" ∷ codes "too deep" ∷ codes "no power" ∷ codes "bad hub" ∷ codes "lost" ∷ codes "no address" ∷ []
 
--- an event, a listing's first and last line, a transfer, a bound
-unfoldable pub is_event : List ℕ → Bool
-is_event line =
-    begins (codes "plug ") line || begins (codes "unplug ") line || begins (codes "listing ") line || begins (codes "end") line
-    || begins (codes "send ") line || begins (codes "receive ") line || begins (codes "clear ") line || begins (codes "bound ") line
+-- why a transfer was not done
+abbrev pub failures : List (List ℕ)
+failures = codes "no device" ∷ codes "no endpoint" ∷ codes "stalled" ∷ codes "busy" ∷ codes "no answer" ∷ codes "broken" ∷ []
 
--- the number of a port, or a dot
-abbrev pub is_path_unit : ℕ → Bool
-is_path_unit c = (nat_le 49 c && nat_le c 55) || c == 46
+-- plug PATH NAME
+abbrev pub plug_form : List Piece
+plug_form = word (codes "plug ") ∷ path ∷ word (codes " ") ∷ name ∷ []
 
-unfoldable pub behind_path : List ℕ → List ℕ
-behind_path [] = []
-behind_path (c ∷ line) = if is_path_unit c then behind_path line else c ∷ line
+-- an unplug, the lines of a listing, the lines of transfers, a bound
+abbrev pub report_forms : List (List Piece)
+report_forms =
+    (word (codes "unplug ") ∷ path ∷ [])
+    ∷ (word (codes "listing ") ∷ number ∷ [])
+    ∷ (word (codes "end") ∷ [])
+    ∷ (path ∷ word (codes " address ") ∷ number ∷ one_of (codes " full " ∷ codes " low " ∷ []) ∷ bytes ∷ [])
+    ∷ (path ∷ word (codes " config ") ∷ number ∷ word (codes " ") ∷ bytes ∷ [])
+    ∷ (path ∷ word (codes " config ") ∷ number ∷ word (codes " ") ∷ bytes ∷ word (codes " *") ∷ [])
+    ∷ (path ∷ word (codes " hub ") ∷ number ∷ word (codes " ports ") ∷ number ∷ word (codes " mA") ∷ [])
+    ∷ (path ∷ one_of (codes " manufacturer \"" ∷ codes " product \"" ∷ codes " serial \"" ∷ []) ∷ string ∷ word (codes "\"") ∷ [])
+    ∷ (path ∷ word (codes " refused ") ∷ one_of causes ∷ [])
+    ∷ (path ∷ word (codes " refused bad configuration ") ∷ number ∷ [])
+    ∷ (word (codes "send ") ∷ path ∷ word (codes " done ") ∷ number ∷ [])
+    ∷ (word (codes "receive ") ∷ path ∷ word (codes " done ") ∷ bytes ∷ [])
+    ∷ (word (codes "clear ") ∷ path ∷ word (codes " done") ∷ [])
+    ∷ (one_of (codes "send " ∷ codes "receive " ∷ codes "clear " ∷ []) ∷ path ∷ word (codes " failed ") ∷ one_of failures ∷ [])
+    ∷ (word (codes "bound ") ∷ number ∷ [])
+    ∷ []
 
--- what is told of a device behind its path
-unfoldable pub is_told : List ℕ → Bool
-is_told line =
-    begins (codes " address ") line || begins (codes " config ") line || begins (codes " hub ") line || begins (codes " manufacturer ") line
-    || begins (codes " product ") line || begins (codes " serial ") line || begins (codes " refused ") line
+-- a line of one of the forms
+abbrev pub HasForm : List (List Piece) → List ℕ → Type 0
+HasForm [] line = ⊥
+HasForm (form ∷ forms) line = IsForm form line ⊎ HasForm forms line
 
--- a path, and what was found there
-abbrev pub is_found : List ℕ → Bool
-is_found [] = false
-is_found (c ∷ line) = is_path_unit c && is_told (behind_path line)
+abbrev pub IsPlug : List ℕ → Type 0
+IsPlug line = IsForm plug_form line
 
-abbrev pub is_report : List ℕ → Bool
-is_report line = is_event line || is_found line
+abbrev pub IsReport : List ℕ → Type 0
+IsReport line = HasForm report_forms line
+
+-- ---- reading
+
+abbrev pub has_form : List (List Piece) → List ℕ → Bool
+has_form [] line = false
+has_form (form ∷ forms) line = fits form line || has_form forms line

@@ -14,6 +14,15 @@ abbrev pub if_found : {A B : Type 0} → Option A → (A → Option B) → Optio
 if_found (Some x) read other = read x
 if_found None read other = other
 
+-- what stands behind the first of the words that the text begins with
+unfoldable pub strip_any : List (List ℕ) → List ℕ → Option (List ℕ)
+strip_any [] text = None
+strip_any (word ∷ words) text = if_found (strip word text) Some (strip_any words text)
+
+-- a value with a digit more; None where it is 2 ^ 64 or more
+abbrev pub with_digit : ℕ → ℕ → Option ℕ
+with_digit value c = if nat_lt (value * 10 + (c - 48)) (2 ^ 64) then Some (value * 10 + (c - 48)) else None
+
 -- the value of the digits that a text begins with, behind those of a value; None where it is 2 ^ 64 or more
 unfoldable pub number_on : ℕ → List ℕ → Option ℕ
 number_on value [] = Some value

@@ -1,6 +1,7 @@
 //! The line of an attempt.
-ghost use Rattle.std.specs.Prelude.{◌≡◌, IfSome, option_map};
-ghost use Rattle.usb_pcap.specs.Attempt.{IsAttemptLine, answer_in, attempt_in, data_follow, host_ack_in, host_data_in, host_in, is_ack_packet, is_answer, is_data_packet, next_in, read_attempt};
+ghost use Rattle.std.specs.Prelude.{◌≡◌, IfSome, Some, option_map};
+ghost use Rattle.usb_pcap.specs.Attempt.{IsAttemptLine, answer_in, attempt_in, data_follow, host_ack_in, host_data_in, host_in, is_ack_packet, is_answer, is_data_packet, may_be_marked, next_in, read_attempt};
+ghost use Rattle.usb_world.specs.Wire.{bit_count};
 
 use crate::packet::{packet_in, packet_mark_in};
 use crate::text::Text;
@@ -26,6 +27,7 @@ const NO_TIME: u64 = 4_294_967_296_000_000;
 pub fn read_attempt(line: &[u8]) -> Option<TracedAttempt>
     ensures exact { result ≡ read_attempt line.now }
     ensures found { IfSome result (λ a. IsAttemptLine line.now a) }
+    ensures each { (a : TracedAttempt) → IsAttemptLine line.now a → result ≡ Some a }
 {
     attempt_of(line)
 }
@@ -95,10 +97,32 @@ fn host_in(pre: bool, text: &mut Text<'_>) -> Option<Outgoing>
     }
     let packet = packet_in(text)?;
     let mark = packet_mark_in(text)?;
-    if matches!(mark, Mark::PreLost) && !pre {
+    if !may_be_marked(pre, mark, &packet) {
         return None;
     }
     Some(Outgoing { packet, mark })
+}
+
+/// Whether PRE, where it is lost, was sent, and whether a flipped bit is one of the packet's.
+fn may_be_marked(pre: bool, mark: Mark, packet: &Packet) -> bool
+    ensures { result ≡ may_be_marked pre mark packet.now }
+{
+    match mark {
+        Mark::Whole | Mark::Lost => true,
+        Mark::PreLost => pre,
+        Mark::Flipped(bit) => usize::from(bit) < bit_count(packet),
+    }
+}
+
+/// How many bits the packet has: eight for each byte (8.4).
+fn bit_count(packet: &Packet) -> usize
+    ensures { result ≡ bit_count packet.now }
+{
+    match packet {
+        Packet::Token { .. } | Packet::Sof(_) => 24,
+        Packet::Payload { bytes, .. } => 24 + 8 * bytes.len(),
+        Packet::Ack | Packet::Nak | Packet::Stall | Packet::Pre => 8,
+    }
 }
 
 /// Reads a further packet of the host.

@@ -1,11 +1,11 @@
 //! A run's text in, a pcap file out.
 ghost use Rattle.std.specs.Prelude.{◌≡◌, ◌≢◌, ℕ, List, Option, [], ◌∷◌, ◌++◌, length, nat_lt, take, true, false, Err, IfSome, IsErrOf};
 ghost use Rattle.usb_bus.specs.Watch.{inner_of, has_failed};
-ghost use Rattle.usb_pcap.specs.Capture.{Captures, ComesOf, LineRecords, StandsBehind};
+ghost use Rattle.usb_pcap.specs.Capture.{Captures, ComesOf, RecordsOf, StandsBehind, longest};
 
 use crate::attempt::read_attempt;
 use crate::record::{HEADER, Records, records_of};
-use crate::report::is_report;
+use crate::report::{is_plug, is_report};
 use arrayvec::ArrayVec;
 use std::io::{Read, Write};
 use thiserror::Error;
@@ -20,7 +20,7 @@ pub enum PcapFault {
     /// No run writes the line of this number, or nothing ends it.
     #[error("pcap: line {0}")]
     Line(u64),
-    /// There were 2 ^ 64 - 1 reads.
+    /// 2 ^ 64 - 1 reads did not come to the end.
     #[error("pcap: text too long")]
     TooLong,
     /// The writer failed.
@@ -28,13 +28,16 @@ pub enum PcapFault {
     Write,
 }
 
+/// No line of a run is longer, but that of a plug: a configuration of 65535 bytes, and what stands beside it.
+const LONGEST: usize = 131_200;
+
 /// A line that has begun.
 #[derive(Drop)]
 pub(crate) struct OpenLine {
     /// Its number, from 1 on, up to the greatest `u64`.
     number: u64,
-    /// Its first bytes: no line of an attempt has more.
-    front: ArrayVec<u8, 700>,
+    /// Its first bytes: no line of a run has more, but that of a plug.
+    front: ArrayVec<u8, LONGEST>,
     /// Whether it has more.
     is_long: bool,
 }
@@ -42,8 +45,9 @@ pub(crate) struct OpenLine {
 /// Reads the text of a run, and writes the header of a pcap file and a record for each packet of its attempts.
 ///
 /// # Errors
-/// Read where the reader failed, Line at the first line that no run writes, Write where the writer failed. The records
-/// of the lines before have gone out.
+/// `Line(n)` where line n is the first that has the form of no line of a run, or the last and nothing ends it; `TooLong`
+/// where the text has 2 ^ 64 - 1 bytes or more, and as many reads did not come to its end; `Read` where the reader
+/// failed, `Write` where the writer failed. The records of the lines before have gone out.
 pub fn capture<R: Read, W: Write>(
     reader: &mut Watched<R>,
     writer: &mut Watched<W>,
@@ -127,7 +131,7 @@ impl OpenLine {
         if byte == b'\n' {
             return self.close(writer);
         }
-        if self.front.len() < 700 {
+        if self.front.len() < LONGEST {
             self.front.push(byte);
         } else {
             self.is_long = true;
@@ -159,14 +163,20 @@ impl OpenLine {
 
 /// The records of a line, by its first bytes; None for a line that no run writes.
 fn line_records(front: &[u8], is_long: bool) -> Option<Records>
-    ensures { IfSome result (λ records. (line : List ℕ) → front.now ≡ take 700 line
-        → is_long ≡ nat_lt 700 (length line) → LineRecords line records.items) }
+    ensures { (line : List ℕ) → front.now ≡ take longest line
+        → is_long ≡ nat_lt longest (length line) → RecordsOf line result }
 {
-    if is_report(front) {
+    if is_plug(front) {
         return Some(Records::new());
     }
     if is_long {
         return None;
     }
-    records_of(&read_attempt(front)?)
+    if is_report(front) {
+        return Some(Records::new());
+    }
+    match read_attempt(front) {
+        Some(attempt) => Some(records_of(&attempt)),
+        None => None,
+    }
 }

@@ -6,7 +6,9 @@
 
 mod attempt;
 mod capturing;
+mod item;
 mod packet;
+mod part;
 mod record;
 mod report;
 mod text;

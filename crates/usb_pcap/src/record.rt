@@ -1,8 +1,8 @@
 //! Records of a pcap file: a packet's time and length, and its bytes.
-ghost use Rattle.std.specs.Prelude.{◌≡◌, ◌+◌, ◌*◌, ◌^◌, ◌<◌, ◌≤◌, ◌↔◌, ◌++◌, ◌∷◌, [], length, IfSome, IsSome, OnSome};
+ghost use Rattle.std.specs.Prelude.{◌≡◌, ◌+◌, ◌*◌, ◌^◌, ◌<◌, ◌≤◌, ◌++◌, ◌∷◌, [], length, true, IfSome};
 ghost use Rattle.std.specs.Int.{to_le_bytes, w32};
 ghost use Rattle.usb_packet.specs.Spelling.{HasFields, flipped};
-ghost use Rattle.usb_pcap.specs.Attempt.{IsMarkedAnswer, IsTraced};
+ghost use Rattle.usb_pcap.specs.Attempt.{IsMarkedAnswer, IsSent, IsTraced, may_be_marked};
 ghost use Rattle.usb_pcap.specs.Record.{AppendsRecords, AreRecords, HasBit, answer_packets, attempt_packets, damaged, host_packets, next_packets, own_mark, pre_mark, pre_packets, record_head};
 
 use crate::attempt::TracedAttempt;
@@ -18,11 +18,11 @@ pub(crate) const HEADER: [u8; 24] = [
     0xd4, 0xc3, 0xb2, 0xa1, 2, 0, 4, 0, 0, 0, 0, 0, 0, 0, 0, 0, 0xff, 0xff, 0, 0, 0x26, 1, 0, 0,
 ];
 
-/// The records of an attempt's packets in their order; None where a mark names a bit that its packet has not.
-pub(crate) fn records_of(attempt: &TracedAttempt) -> Option<Records>
+/// The records of an attempt's packets in their order.
+pub(crate) fn records_of(attempt: &TracedAttempt) -> Records
     requires { IsTraced attempt.now }
-    ensures { IfSome result (λ records. AreRecords attempt.now.number
-        (attempt_packets attempt.now.pre attempt.now.exchange) records.items) }
+    ensures { AreRecords attempt.now.number
+        (attempt_packets attempt.now.pre attempt.now.exchange) result.items }
 {
     let TracedAttempt {
         number,
@@ -30,43 +30,41 @@ pub(crate) fn records_of(attempt: &TracedAttempt) -> Option<Records>
         exchange,
     } = attempt;
     let mut records = Records::new();
-    push_host(&mut records, *number, *pre, &exchange.token)?;
-    push_next(&mut records, *number, *pre, &exchange.payload)?;
+    push_host(&mut records, *number, *pre, &exchange.token);
+    push_next(&mut records, *number, *pre, &exchange.payload);
     push_answer(
         &mut records,
         *number,
         &exchange.answer,
         exchange.answer_mark,
-    )?;
-    push_next(&mut records, *number, *pre, &exchange.reply)?;
-    Some(records)
+    );
+    push_next(&mut records, *number, *pre, &exchange.reply);
+    records
 }
 
 /// A packet of the host, and PRE before it.
-fn push_host(records: &mut Records, number: u64, pre: bool, sent: &Outgoing) -> Option<()>
+fn push_host(records: &mut Records, number: u64, pre: bool, sent: &Outgoing)
     requires room { length records.old.items ≤ 415 }
     requires timed { number < 2 ^ 32 * 1000000 }
-    requires fields { HasFields sent.now.packet }
-    ensures written { OnSome result (AppendsRecords number (host_packets pre sent.now)
-        records.old.items records.new.items) }
+    requires sent { IsSent pre sent.now }
+    ensures written { AppendsRecords number (host_packets pre sent.now)
+        records.old.items records.new.items }
     ensures few { length records.new.items ≤ length records.old.items + 166 }
 {
-    push_pre(records, number, pre, sent.mark)?;
-    push_record(records, number, &sent.packet, own_mark(sent.mark))
+    push_pre(records, number, pre, sent.mark);
+    push_record(records, number, &sent.packet, own_mark(sent.mark));
 }
 
 /// The PRE before a packet with this mark.
-fn push_pre(records: &mut Records, number: u64, pre: bool, mark: Mark) -> Option<()>
+fn push_pre(records: &mut Records, number: u64, pre: bool, mark: Mark)
     requires room { length records.old.items ≤ 498 }
     requires timed { number < 2 ^ 32 * 1000000 }
-    ensures written { OnSome result (AppendsRecords number (pre_packets pre mark)
-        records.old.items records.new.items) }
+    ensures written { AppendsRecords number (pre_packets pre mark)
+        records.old.items records.new.items }
     ensures few { length records.new.items ≤ length records.old.items + 83 }
 {
     if pre {
-        push_record(records, number, &Packet::Pre, pre_mark(mark))
-    } else {
-        Some(())
+        push_record(records, number, &Packet::Pre, pre_mark(mark));
     }
 }
 
@@ -91,53 +89,46 @@ fn own_mark(mark: Mark) -> Mark
 }
 
 /// A further packet of the host, where there is one.
-fn push_next(records: &mut Records, number: u64, pre: bool, sent: &Option<Outgoing>) -> Option<()>
+fn push_next(records: &mut Records, number: u64, pre: bool, sent: &Option<Outgoing>)
     requires room { length records.old.items ≤ 415 }
     requires timed { number < 2 ^ 32 * 1000000 }
-    requires fields { IfSome sent.now (λ s. HasFields s.packet) }
-    ensures written { OnSome result (AppendsRecords number (next_packets pre sent.now)
-        records.old.items records.new.items) }
+    requires sent { IfSome sent.now (λ s. IsSent pre s) }
+    ensures written { AppendsRecords number (next_packets pre sent.now)
+        records.old.items records.new.items }
     ensures few { length records.new.items ≤ length records.old.items + 166 }
 {
-    match sent {
-        Some(sent) => push_host(records, number, pre, sent),
-        None => Some(()),
+    if let Some(sent) = sent {
+        push_host(records, number, pre, sent);
     }
 }
 
 /// The answer of one device. Of two at once no byte is known.
-fn push_answer(
-    records: &mut Records,
-    number: u64,
-    answer: &ExchangeAnswer,
-    mark: Mark,
-) -> Option<()>
+fn push_answer(records: &mut Records, number: u64, answer: &ExchangeAnswer, mark: Mark)
     requires room { length records.old.items ≤ 498 }
     requires timed { number < 2 ^ 32 * 1000000 }
-    requires fields { IsMarkedAnswer answer.now mark }
-    ensures written { OnSome result (AppendsRecords number (answer_packets answer.now mark)
-        records.old.items records.new.items) }
+    requires answer { IsMarkedAnswer answer.now mark }
+    ensures written { AppendsRecords number (answer_packets answer.now mark)
+        records.old.items records.new.items }
     ensures few { length records.new.items ≤ length records.old.items + 83 }
 {
-    match answer {
-        ExchangeAnswer::One(packet) => push_record(records, number, packet, mark),
-        ExchangeAnswer::Nothing | ExchangeAnswer::Collision => Some(()),
+    if let ExchangeAnswer::One(packet) = answer {
+        push_record(records, number, packet, mark);
     }
 }
 
 /// The record of one packet, at its attempt's time.
-fn push_record(records: &mut Records, number: u64, packet: &Packet, mark: Mark) -> Option<()>
+fn push_record(records: &mut Records, number: u64, packet: &Packet, mark: Mark)
     requires room { length records.old.items ≤ 498 }
     requires timed { number < 2 ^ 32 * 1000000 }
     requires fields { HasFields packet.now }
-    ensures written { OnSome result (AppendsRecords number ((packet.now, mark) ∷ [])
-        records.old.items records.new.items) }
+    requires marked { may_be_marked true mark packet.now ≡ true }
+    ensures written { AppendsRecords number ((packet.now, mark) ∷ [])
+        records.old.items records.new.items }
     ensures few { length records.new.items ≤ length records.old.items + 83 }
 {
-    let bytes = damaged(encode(packet), mark)?;
+    let bytes = damaged(encode(packet), mark);
     push_head(records, number, bytes.len() as u32);
     push_bytes(records, bytes.as_slice());
-    Some(())
 }
 
 /// A packet's time and its length, twice.
@@ -167,19 +158,18 @@ fn push_bytes(records: &mut Records, bytes: &[u8])
     records.try_extend_from_slice(bytes).unwrap();
 }
 
-/// A packet's bytes as damage leaves them; None where they have not the bit. The last bit is one of the check.
-fn damaged(bytes: ArrayVec<u8, 67>, mark: Mark) -> Option<ArrayVec<u8, 67>>
-    requires { 0 < length bytes.items }
-    ensures value { IfSome result (λ b. b.items ≡ damaged mark bytes.items) }
-    ensures bit { IsSome result ↔ HasBit mark bytes.items }
-    ensures same { IfSome result (λ b. length b.items ≡ length bytes.items) }
+/// A packet's bytes as damage leaves them. The last bit is one of the check.
+fn damaged(bytes: ArrayVec<u8, 67>, mark: Mark) -> ArrayVec<u8, 67>
+    requires some { 0 < length bytes.items }
+    requires bit { HasBit mark bytes.items }
+    ensures value { result.items ≡ damaged mark bytes.items }
+    ensures same { length result.items ≡ length bytes.items }
 {
     let last = 8 * bytes.len() - 1;
     match mark {
-        Mark::Whole | Mark::PreLost => Some(bytes),
-        Mark::Lost => Some(flipped(bytes, last)),
-        Mark::Flipped(bit) if usize::from(bit) <= last => Some(flipped(bytes, usize::from(bit))),
-        Mark::Flipped(_) => None,
+        Mark::Whole | Mark::PreLost => bytes,
+        Mark::Lost => flipped(bytes, last),
+        Mark::Flipped(bit) => flipped(bytes, usize::from(bit)),
     }
 }
 

@@ -1,79 +1,101 @@
 //! The lines of a run that are of no attempt.
-ghost use Rattle.std.specs.Prelude.{◌≡◌};
-ghost use Rattle.usb_pcap.specs.Report.{begins, behind_path, is_event, is_found, is_path_unit, is_report, is_told};
+ghost use Rattle.std.specs.Prelude.{◌≡◌, map};
+ghost use Rattle.usb_pcap.specs.Grammar.{fits, piece_of};
+ghost use Rattle.usb_pcap.specs.Report.{has_form, plug_form, report_forms};
 
-use crate::text::Text;
+use crate::part::Part::{self, Bytes, Name, Number, OneOf, Path, Text, Word};
+use crate::part::fits;
 
-/// Whether a line begins as one of an event, a listing, a transfer or a bound.
+/// Why a device was refused.
+const CAUSES: [&str; 12] = [
+    "silent",
+    "busy",
+    "stalled device",
+    "stalled address",
+    "stalled config",
+    "stalled set config",
+    "bad device",
+    "too deep",
+    "no power",
+    "bad hub",
+    "lost",
+    "no address",
+];
+
+/// Why a transfer was not done.
+const FAILURES: [&str; 6] = [
+    "no device",
+    "no endpoint",
+    "stalled",
+    "busy",
+    "no answer",
+    "broken",
+];
+
+/// `plug PATH NAME`.
+const PLUG: [Part; 4] = [Word("plug "), Path, Word(" "), Name];
+
+/// An unplug, the lines of a listing, the lines of transfers, a bound.
+const REPORTS: [&[Part]; 15] = [
+    &[Word("unplug "), Path],
+    &[Word("listing "), Number],
+    &[Word("end")],
+    &[
+        Path,
+        Word(" address "),
+        Number,
+        OneOf(&[" full ", " low "]),
+        Bytes,
+    ],
+    &[Path, Word(" config "), Number, Word(" "), Bytes],
+    &[Path, Word(" config "), Number, Word(" "), Bytes, Word(" *")],
+    &[
+        Path,
+        Word(" hub "),
+        Number,
+        Word(" ports "),
+        Number,
+        Word(" mA"),
+    ],
+    &[
+        Path,
+        OneOf(&[" manufacturer \"", " product \"", " serial \""]),
+        Text,
+        Word("\""),
+    ],
+    &[Path, Word(" refused "), OneOf(&CAUSES)],
+    &[Path, Word(" refused bad configuration "), Number],
+    &[Word("send "), Path, Word(" done "), Number],
+    &[Word("receive "), Path, Word(" done "), Bytes],
+    &[Word("clear "), Path, Word(" done")],
+    &[
+        OneOf(&["send ", "receive ", "clear "]),
+        Path,
+        Word(" failed "),
+        OneOf(&FAILURES),
+    ],
+    &[Word("bound "), Number],
+];
+
+/// Whether a line is that of a plug.
+pub(crate) fn is_plug(line: &[u8]) -> bool
+    ensures { result ≡ fits plug_form line.now }
+{
+    fits(&PLUG, line)
+}
+
+/// Whether a line is of another event, a listing, a transfer or a bound.
 pub(crate) fn is_report(line: &[u8]) -> bool
-    ensures { result ≡ is_report line.now }
+    ensures { result ≡ has_form report_forms line.now }
 {
-    is_event(line) || is_found(line)
+    has_form(&REPORTS, line)
 }
 
-fn begins(line: &[u8], word: &[u8]) -> bool
-    ensures { result ≡ begins word.now line.now }
+fn has_form(forms: &[&[Part]], line: &[u8]) -> bool
+    ensures { result ≡ has_form (map (λ f. map piece_of f.now) forms.now) line.now }
 {
-    Text::new(line).begins_with(word)
-}
-
-/// What is no line of a device, and begins with a word.
-#[tactic(auto, unfolding(crate::specs::Report::is_event))]
-fn is_event(line: &[u8]) -> bool
-    ensures { result ≡ is_event line.now }
-{
-    begins(line, b"plug ")
-        || begins(line, b"unplug ")
-        || begins(line, b"listing ")
-        || begins(line, b"end")
-        || begins(line, b"send ")
-        || begins(line, b"receive ")
-        || begins(line, b"clear ")
-        || begins(line, b"bound ")
-}
-
-/// A path, and what was found there.
-fn is_found(line: &[u8]) -> bool
-    ensures { result ≡ is_found line.now }
-{
-    match line {
-        [first, rest @ ..] => is_path_unit(*first) && is_told(behind_path(rest)),
-        [] => false,
-    }
-}
-
-/// What is told of a device behind its path.
-#[tactic(auto, unfolding(crate::specs::Report::is_told))]
-fn is_told(line: &[u8]) -> bool
-    ensures { result ≡ is_told line.now }
-{
-    begins(line, b" address ")
-        || begins(line, b" config ")
-        || begins(line, b" hub ")
-        || begins(line, b" manufacturer ")
-        || begins(line, b" product ")
-        || begins(line, b" serial ")
-        || begins(line, b" refused ")
-}
-
-/// The number of a port, or a dot.
-fn is_path_unit(c: u8) -> bool
-    ensures { result ≡ is_path_unit c }
-{
-    matches!(c, b'1'..=b'7') || c == b'.'
-}
-
-/// What stands behind the numbers and dots that a line begins with.
-#[tactic(auto, unfolding(crate::specs::Report::behind_path))]
-fn behind_path(line: &[u8]) -> &[u8]
-    ensures { result.now ≡ behind_path line.now }
-{
-    let [first, rest @ ..] = line else {
-        return line;
+    let [form, forms @ ..] = forms else {
+        return false;
     };
-    if is_path_unit(*first) {
-        behind_path(rest)
-    } else {
-        line
-    }
+    fits(form, line) || has_form(forms, line)
 }

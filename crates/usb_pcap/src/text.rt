@@ -1,6 +1,7 @@
 //! What is left of a line, and the words and numbers that it begins with.
 ghost use Rattle.std.specs.Prelude.{◌≡◌, ◌<◌, true, option_map};
-ghost use Rattle.usb_pcap.specs.Text.{bytes_on, is_digit, number_on, value_of};
+ghost use Rattle.usb_pcap.specs.Text.{bytes_on, is_digit, number_on, value_of, with_digit};
+ghost use Rattle.std.specs.Char.{is_ascii_digit};
 
 use arrayvec::{ArrayString, ArrayVec};
 use std::marker::Model;
@@ -38,6 +39,13 @@ impl<'a> Text<'a> {
         self.rest.is_empty()
     }
 
+    /// What is left.
+    pub(crate) fn rest(&self) -> &'a [u8]
+        ensures { result.now ≡ self.now }
+    {
+        self.rest
+    }
+
     /// Goes behind a word, and says whether it stood next. Where it did not, nothing changes.
     pub(crate) fn skip(&mut self, word: &[u8]) -> bool
         ensures found { strip word.now self.old ≡ (if result then Some self.new else None) }
@@ -64,7 +72,7 @@ impl<'a> Text<'a> {
     pub(crate) fn number(&mut self) -> Option<u64>
         ensures { decimal_in self.old ≡ option_map (λ n. (n, self.new)) result }
     {
-        let number = number_on(0, self.rest)?;
+        let number = number_of(self.rest)?;
         let mut digits = ArrayString::new();
         push_decimal(&mut digits, number);
         if self.skip(digits.as_str().as_bytes()) {
@@ -107,32 +115,41 @@ fn bytes_on(mut bytes: ArrayVec<u8, 64>, text: &[u8]) -> Option<(ArrayVec<u8, 64
     bytes_on(bytes, rest)
 }
 
-/// The value of the digits that a text begins with, behind those of a value; None where it is 2 ^ 64 or more.
-#[tactic(auto, unfolding(crate::specs::Text::number_on))]
-fn number_on(value: u64, text: &[u8]) -> Option<u64>
-    ensures { result ≡ number_on value text.now }
+/// The value of the digits that a text begins with; None where it is 2 ^ 64 or more.
+fn number_of(text: &[u8]) -> Option<u64>
+    ensures { result ≡ number_on 0 text.now }
 {
-    let [digit, rest @ ..] = text else {
-        return Some(value);
-    };
-    if !digit.is_ascii_digit() {
-        return Some(value);
+    let mut value: u64 = 0;
+    'digits: for digit in text {
+        if !digit.is_ascii_digit() {
+            return Some(value);
+        }
+        match with_digit(value, *digit) {
+            Some(more) => value = more,
+            None => return None,
+        }
     }
-    let more = value
-        .checked_mul(10)?
-        .checked_add(u64::from(*digit - b'0'))?;
-    number_on(more, rest)
+    Some(value)
+}
+
+/// A value with a digit more; None where it is 2 ^ 64 or more.
+fn with_digit(value: u64, digit: u8) -> Option<u64>
+    requires { is_ascii_digit digit ≡ true }
+    ensures { result ≡ with_digit value digit }
+{
+    let tens = value.checked_mul(10)?;
+    tens.checked_add(u64::from(digit - b'0'))
 }
 
 /// An upper-case hexadecimal digit.
-fn is_digit(c: u8) -> bool
+pub(crate) fn is_digit(c: u8) -> bool
     ensures { result ≡ is_digit c }
 {
     c.is_ascii_digit() || matches!(c, b'A'..=b'F')
 }
 
 /// The value of an upper-case hexadecimal digit.
-fn value_of(c: u8) -> u8
+pub(crate) fn value_of(c: u8) -> u8
     requires { is_digit c ≡ true }
     ensures value { result ≡ value_of c }
     ensures few { result < 16 }

@@ -122,16 +122,97 @@ fn files_of_texts(rt: HostRuntime) -> Result<(), Fail> {
     Ok(())
 }
 
-/// A line of an event may have any length; a line of an attempt may not.
+/// Lines of no attempt that runs write.
+const REPORTS: &[&str] = &[
+    "plug 1 a",
+    "plug 1.2.3.4.5.6.7 two words ",
+    "unplug 7",
+    "listing 0",
+    "end",
+    "1 address 127 low -",
+    "1.2 address 1 full 12AF",
+    "1 config 0 -",
+    "1 config 7 09 *",
+    "1 hub 7 ports 100 mA",
+    "1 manufacturer \"\"",
+    "1 product \"a b~\\u0022\\u005C\\u00E9\\uD83D\"",
+    "1 serial \"0\"",
+    "1 refused stalled set config",
+    "1 refused bad configuration 255",
+    "send 1 done 18446744073709551615",
+    "receive 1 done -",
+    "clear 1.1 done",
+    "send 1 failed no endpoint",
+    "receive 1 failed broken",
+    "clear 1 failed no answer",
+    "bound 58631002",
+];
+
+/// Lines that none writes.
+const OTHERS: &[&str] = &[
+    "",
+    "plug 1 ",
+    "plug 8 a",
+    "plug 1. a",
+    "plug 1.1.1.1.1.1.1.1 a",
+    "unplug 1 ",
+    "unplug",
+    "listing",
+    "listing 01",
+    "listing 18446744073709551616",
+    "end of it",
+    "1 address 1 fast 12",
+    "1 address 1 full 1",
+    "1 address 1 full 1a",
+    "1 address 1 full ",
+    "1 config 0 09 **",
+    "1 config 0",
+    "1 hub 2 ports 500",
+    "1 product \"a",
+    "1 product \"a\"\"",
+    "1 product \"\\u0041\"",
+    "1 product \"\\u00e9\"",
+    "1 product \"\\u00E\"",
+    "1 vendor \"a\"",
+    "1 refused tired",
+    "1 refused bad configuration",
+    "1 refused lost ",
+    "send 1 done",
+    "send 1 done -",
+    "send 1 failed stalled device",
+    "receive 1 done 1",
+    "clear 1 done 1",
+    "clear 1 failed",
+    "bound -1",
+    "SETUP 0.0",
+];
+
+#[test]
+fn reports(rt: HostRuntime) -> Result<(), Fail> {
+    for (lines, fault) in [(REPORTS, None), (OTHERS, Some(PcapFault::Line(1)))] {
+        for line in lines {
+            let text = format!(in rt.alloc(); "{line}\n")?;
+            let mut reader = Watched::new(text.as_bytes());
+            let mut writer = Watched::new(Vec::new(rt.alloc()));
+            assert_eq!(rt; capture(&mut reader, &mut writer).err(), fault, "{line}");
+        }
+    }
+    Ok(())
+}
+
+/// The name of a device may have any length, a configuration 65,535 bytes; a line of an attempt is short.
 #[test]
 fn long_lines(rt: HostRuntime) -> Result<(), Fail> {
-    for (begin, fault) in [
-        ("plug 1 ", None),
-        ("1 IN 0.0 / NAK", Some(PcapFault::Line(1))),
+    for (begin, piece, times, fault) in [
+        ("plug 1 ", "n", 200_000u32, None),
+        ("1.2.3.4.5.6.7 config 7 ", "0A", 65_535, None),
+        ("1 config 0 ", "0A", 66_000, Some(PcapFault::Line(1))),
+        ("1 IN 0.0 / NAK", " ", 200_000, Some(PcapFault::Line(1))),
+        ("", "0", 200_000, Some(PcapFault::Line(1))),
     ] {
         let mut text = String::from_str(rt.alloc(), begin)?;
-        for _ in 0..2000 {
-            text.push('n')?;
+        for _ in 0..times {
+            text.push_str(piece)?;
         }
         text.push('\n')?;
         let mut reader = Watched::new(text.as_bytes());

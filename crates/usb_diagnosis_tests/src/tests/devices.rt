@@ -1,6 +1,7 @@
 //! Faults of a second device, which begins on line 8.
 use super::{FUNCTION, Row, check_rows};
 use std::alloc::AllocError;
+use usb_diagnosis::check_text;
 
 const MISSING: [Row; 4] = [
     Row {
@@ -59,7 +60,7 @@ const HUB: &str =
     "[[device]]\nname = \"hub\"\nspeed = \"full\"\ndescriptor = \"0102030409\"\nconfigs = []\n";
 
 /// Further lines of it, the first of which is line 13.
-const VALUES: [Row; 14] = [
+const VALUES: [Row; 21] = [
     Row {
         text: "strings = [\"04\", 5]\n",
         told: "p.toml:13: plan: device 2: bad value\n  device 2 \"hub\", line 8: `strings` is [\"04\", 5]\n  allowed: at most 256 texts, each of two hexadecimal digits for each of at most 255 bytes\n",
@@ -116,6 +117,34 @@ const VALUES: [Row; 14] = [
         text: "strings = \"0123456789012345678901234567890123456789012345678901234567890\"\n",
         told: "p.toml:13: plan: device 2: bad value\n  device 2 \"hub\", line 8: `strings` is \"01234567890123456789012345678901234567890123456789012345678...\n  allowed: at most 256 texts, each of two hexadecimal digits for each of at most 255 bytes\n",
     },
+    Row {
+        text: "ports = 0\n",
+        told: "p.toml:13: plan: device 2: bad value\n  device 2 \"hub\", line 8: `ports` is 0\n  allowed: a number from 1 to 7, at full speed, where the descriptor's fifth byte is 09\n",
+    },
+    Row {
+        text: "ports = 1\nhub_descriptor = \"0929 0\"\n",
+        told: "p.toml:14: plan: device 2: bad hex\n  device 2 \"hub\", line 8: `hub_descriptor` is \"0929 0\"\n  allowed: two hexadecimal digits for each of at most 255 bytes, of a hub with as many `ports`\n",
+    },
+    Row {
+        text: "busy = 0\n",
+        told: "p.toml:13: plan: device 2: bad value\n  device 2 \"hub\", line 8: `busy` is 0\n  allowed: true or false\n",
+    },
+    Row {
+        text: "naks = -1\n",
+        told: "p.toml:13: plan: device 2: bad value\n  device 2 \"hub\", line 8: `naks` is -1\n  allowed: a number from 0 to 200\n",
+    },
+    Row {
+        text: "stalls = true\n",
+        told: "p.toml:13: plan: device 2: bad value\n  device 2 \"hub\", line 8: `stalls` is true\n  allowed: an array of \"device\", \"address\", \"config\", \"set_config\", \"status\", \"hub\", \"string\"\n",
+    },
+    Row {
+        text: "source = 0\n",
+        told: "p.toml:13: plan: device 2: bad value\n  device 2 \"hub\", line 8: `source` is 0\n  allowed: two hexadecimal digits for each of at most 65535 bytes\n",
+    },
+    Row {
+        text: "halt_after = 65536\n",
+        told: "p.toml:13: plan: device 2: bad value\n  device 2 \"hub\", line 8: `halt_after` is 65536\n  allowed: a number from 1 to 65535\n",
+    },
 ];
 
 #[test]
@@ -125,7 +154,7 @@ fn a_device_of_a_bad_value(rt: HostRuntime) -> Result<(), AllocError> {
     check_rows(&rt, rt.alloc(), before.as_str(), &VALUES)
 }
 
-const PARTS: [Row; 5] = [
+const PARTS: [Row; 9] = [
     Row {
         text: "[[device]]\nname = \"k\"\nspeed = \"fulll\"\ndescriptor = \"\"\nconfigs = []\n",
         told: "p.toml:10: plan: device 2: bad value\n  device 2 \"k\", line 8: `speed` is \"fulll\"\n  allowed: \"full\" or \"low\"\n  did you mean \"full\"?\n",
@@ -146,9 +175,76 @@ const PARTS: [Row; 5] = [
         text: "[[device]]\nname = \"k\"\nspeed = \"full\"\ndescriptor = \"\"\nconfigs = [\"\", \"\", \"\", \"\", \"\", \"\", \"\", \"\", \"\"]\n",
         told: "p.toml:12: plan: device 2: bad value\n  device 2 \"k\", line 8: `configs` is [\"\", \"\", \"\", \"\", \"\", \"\", \"\", \"\", \"\"]\n  allowed: at most 8 texts, each of two hexadecimal digits for each of at most 65535 bytes\n",
     },
+    Row {
+        text: "[[device]]\nname = \"k\"\nspeed = 1\ndescriptor = \"\"\nconfigs = []\n",
+        told: "p.toml:10: plan: device 2: bad value\n  device 2 \"k\", line 8: `speed` is 1\n  allowed: \"full\" or \"low\"\n",
+    },
+    Row {
+        text: "[[device]]\nname = \"k\"\nspeed = \"full\"\ndescriptor = 12\nconfigs = []\n",
+        told: "p.toml:11: plan: device 2: bad value\n  device 2 \"k\", line 8: `descriptor` is 12\n  allowed: two hexadecimal digits for each of at most 255 bytes\n",
+    },
+    Row {
+        text: "[[device]]\nname = \"k\"\nspeed = \"full\"\ndescriptor = \"\"\nconfigs = \"09\"\n",
+        told: "p.toml:12: plan: device 2: bad value\n  device 2 \"k\", line 8: `configs` is \"09\"\n  allowed: at most 8 texts, each of two hexadecimal digits for each of at most 65535 bytes\n",
+    },
+    Row {
+        text: "[[device]]\nname = \"k\"\nspeed = \"full\"\ndescriptor = \"\"\nconfigs = [\"09\", \"9\"]\n",
+        told: "p.toml:12: plan: device 2: bad hex\n  device 2 \"k\", line 8: `configs` is [\"09\", \"9\"]\n  allowed: at most 8 texts, each of two hexadecimal digits for each of at most 65535 bytes\n",
+    },
 ];
 
 #[test]
 fn a_device_of_bad_parts(rt: HostRuntime) -> Result<(), AllocError> {
     check_rows(&rt, rt.alloc(), FUNCTION, &PARTS)
+}
+
+/// Further lines of the hub with a value of this many bytes 00, one more than the key may have, and what is told of it.
+struct Long {
+    before: &'static str,
+    count: u32,
+    after: &'static str,
+    told: &'static str,
+}
+
+const LONGS: [Long; 4] = [
+    Long {
+        before: "strings = [\"",
+        count: 256,
+        after: "\"]\n",
+        told: "p.toml:13: plan: device 2: bad value\n  device 2 \"hub\", line 8: `strings` is [\"0000000000000000000000000000000000000000000000000000000000...\n  allowed: at most 256 texts, each of two hexadecimal digits for each of at most 255 bytes\n",
+    },
+    Long {
+        before: "ports = 1\nhub_descriptor = \"",
+        count: 256,
+        after: "\"\n",
+        told: "p.toml:14: plan: device 2: bad value\n  device 2 \"hub\", line 8: `hub_descriptor` is \"00000000000000000000000000000000000000000000000000000000000...\n  allowed: two hexadecimal digits for each of at most 255 bytes, of a hub with as many `ports`\n",
+    },
+    Long {
+        before: "source = \"",
+        count: 65_536,
+        after: "\"\n",
+        told: "p.toml:13: plan: device 2: bad value\n  device 2 \"hub\", line 8: `source` is \"00000000000000000000000000000000000000000000000000000000000...\n  allowed: two hexadecimal digits for each of at most 65535 bytes\n",
+    },
+    Long {
+        before: "[[device]]\nname = \"d\"\nspeed = \"low\"\nconfigs = []\ndescriptor = \"",
+        count: 256,
+        after: "\"\n",
+        told: "p.toml:17: plan: device 3: bad value\n  device 3 \"d\", line 13: `descriptor` is \"00000000000000000000000000000000000000000000000000000000000...\n  allowed: two hexadecimal digits for each of at most 255 bytes\n",
+    },
+];
+
+#[test]
+fn a_value_too_long(rt: HostRuntime) -> Result<(), AllocError> {
+    for long in &LONGS {
+        let mut text = String::from_str(rt.alloc(), FUNCTION)?;
+        text.push_str(HUB)?;
+        text.push_str(long.before)?;
+        for _ in 0..long.count {
+            text.push_str("00")?;
+        }
+        text.push_str(long.after)?;
+        let checked = check_text(rt.alloc(), "p.toml", text.as_bytes())?;
+        assert_eq!(rt; checked.lines.as_str(), long.told);
+    }
+    Ok(())
 }

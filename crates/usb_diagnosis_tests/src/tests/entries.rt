@@ -36,19 +36,45 @@ fn lines_of_entries_and_keys(rt: HostRuntime) -> Result<(), AllocError> {
     check_rows(&rt, rt.alloc(), "", &LAYOUTS)
 }
 
+/// Entries, each with its number between two texts, and what is told of the last one, which is one too many.
+struct Excess {
+    start: &'static str,
+    end: &'static str,
+    count: u32,
+    told: &'static str,
+}
+
+const EXCESSES: [Excess; 3] = [
+    Excess {
+        start: "[[device]]\nname = \"d",
+        end: "\"\nspeed = \"full\"\ndescriptor = \"\"\nconfigs = []\n",
+        count: 128,
+        told: "p.toml:638: plan: device 128: bad value\n  device 128 \"d128\", line 638: one too many\n  allowed: at most 127 devices\n",
+    },
+    Excess {
+        start: "[[event]]\ndo = \"show\"\nafter = ",
+        end: "\n",
+        count: 10_001,
+        told: "p.toml:30003: plan: event 10001: bad value\n  event 10001, line 30003: one too many\n  allowed: at most 10000 events\n",
+    },
+    Excess {
+        start: "[[damage]]\nattempt = ",
+        end: "\npacket = 1\nhow = \"lose\"\n",
+        count: 10_001,
+        told: "p.toml:40003: plan: damage 10001: bad value\n  damage 10001, line 40003: one too many\n  allowed: at most 10000 damages\n",
+    },
+];
+
 #[test]
-fn a_device_too_many(rt: HostRuntime) -> Result<(), AllocError> {
-    let alloc = rt.alloc();
-    let mut text = String::from_str(alloc, "limit = 1\nroots = 1\n")?;
-    for number in 0..128u32 {
-        let head = format!(in alloc; "[[device]]\nname = \"d{number}\"\n")?;
-        text.push_str(head.as_str())?;
-        text.push_str("speed = \"full\"\ndescriptor = \"\"\nconfigs = []\n")?;
+fn an_entry_too_many(rt: HostRuntime) -> Result<(), AllocError> {
+    for excess in &EXCESSES {
+        let mut text = String::from_str(rt.alloc(), "limit = 1\nroots = 1\n")?;
+        for number in 1..=excess.count {
+            let entry = format!(in rt.alloc(); "{}{number}{}", excess.start, excess.end)?;
+            text.push_str(entry.as_str())?;
+        }
+        let checked = check_text(rt.alloc(), "p.toml", text.as_bytes())?;
+        assert_eq!(rt; checked.lines.as_str(), excess.told);
     }
-    let checked = check_text(alloc, "p.toml", text.as_bytes())?;
-    assert_eq!(rt;
-        checked.lines.as_str(),
-        "p.toml:638: plan: device 128: bad value\n  device 128 \"d127\", line 638: one too many\n  allowed: at most 127 devices\n"
-    );
     Ok(())
 }

@@ -3,7 +3,7 @@ use super::{FUNCTION, Row, check_rows};
 use std::alloc::AllocError;
 
 /// An event that begins on line 8.
-const EVENTS: [Row; 15] = [
+const EVENTS: [Row; 25] = [
     Row {
         text: "[[event]]\npath = \"1\"\n",
         told: "p.toml:8: plan: event 1: missing key\n  event 1, line 8: no key `do`\n  allowed: \"plug\", \"unplug\", \"show\", \"send\", \"receive\" or \"clear\"\n  such as: do = \"plug\"\n",
@@ -64,6 +64,46 @@ const EVENTS: [Row; 15] = [
         text: "[[event]]\ndo = \"plug\"\npath = 1\ndevice = \"fn\"\n",
         told: "p.toml:10: plan: event 1: bad value\n  event 1, line 8: `path` is 1\n  allowed: the numbers of ports from a root port on, joined by dots\n",
     },
+    Row {
+        text: "[[event]]\ndo = 5\n",
+        told: "p.toml:9: plan: event 1: bad value\n  event 1, line 8: `do` is 5\n  allowed: \"plug\", \"unplug\", \"show\", \"send\", \"receive\" or \"clear\"\n",
+    },
+    Row {
+        text: "[[event]]\ndo = \"unplug\"\n",
+        told: "p.toml:8: plan: event 1: missing key\n  event 1, line 8: no key `path`\n  allowed: the numbers of ports from a root port on, joined by dots\n  such as: path = \"1\"\n",
+    },
+    Row {
+        text: "[[event]]\ndo = \"receive\"\npath = \"1\"\n",
+        told: "p.toml:8: plan: event 1: missing key\n  event 1, line 8: no key `packets`\n  allowed: a number from 0 to 1000\n  such as: packets = 1\n",
+    },
+    Row {
+        text: "[[event]]\ndo = \"show\"\nafter = 1_000_000_001\n",
+        told: "p.toml:10: plan: event 1: bad value\n  event 1, line 8: `after` is 1000000001\n  allowed: a number from 0 to 1000000000\n",
+    },
+    Row {
+        text: "[[event]]\ndo = \"plug\"\npath = \"1\"\ndevice = 5\n",
+        told: "p.toml:11: plan: event 1: bad value\n  event 1, line 8: `device` is 5\n  allowed: the name of a device of the plan\n",
+    },
+    Row {
+        text: "[[event]]\ndo = \"send\"\npath = \"1\"\nbytes = 5\n",
+        told: "p.toml:11: plan: event 1: bad value\n  event 1, line 8: `bytes` is 5\n  allowed: two hexadecimal digits for each byte\n",
+    },
+    Row {
+        text: "[[event]]\ndo = \"clear\"\npath = \"1.8\"\n",
+        told: "p.toml:10: plan: event 1: bad path\n  event 1, line 8: `path` is \"1.8\"\n  allowed: the numbers of ports from a root port on, joined by dots\n",
+    },
+    Row {
+        text: "[[event]]\ndo = \"unplug\"\npath = \"\"\n",
+        told: "p.toml:10: plan: event 1: bad path\n  event 1, line 8: `path` is \"\"\n  allowed: the numbers of ports from a root port on, joined by dots\n",
+    },
+    Row {
+        text: "[[event]]\ndo = \"send\"\npath = \"2\"\nbytes = \"\"\n",
+        told: "p.toml:10: plan: event 1: bad path\n  event 1, line 8: `path` is \"2\"\n  allowed: the numbers of ports from a root port on, joined by dots\n",
+    },
+    Row {
+        text: "[[event]]\ndo = \"plug\"\npath = \"1.1\"\ndevice = \"fn\"\n",
+        told: "p.toml:10: plan: event 1: bad path\n  event 1, line 8: `path` is \"1.1\"\n  allowed: the numbers of ports from a root port on, joined by dots\n",
+    },
 ];
 
 #[test]
@@ -72,7 +112,7 @@ fn a_fault_of_an_event(rt: HostRuntime) -> Result<(), AllocError> {
 }
 
 /// A damage that begins on line 8.
-const DAMAGES: [Row; 7] = [
+const DAMAGES: [Row; 14] = [
     Row {
         text: "[[damage]]\npacket = 1\nhow = \"lose\"\n",
         told: "p.toml:8: plan: damage 1: missing key\n  damage 1, line 8: no key `attempt`\n  allowed: a number above 0 and above that of the damage before it\n  such as: attempt = 1\n",
@@ -100,6 +140,34 @@ const DAMAGES: [Row; 7] = [
     Row {
         text: "[[damage]]\nattempt = 9\npacket = 1\nhow = \"lose\"\n[[damage]]\nattempt = 9\npacket = 2\nhow = \"lose\"\n",
         told: "p.toml:13: plan: damage 2: bad value\n  damage 2, line 12: `attempt` is 9\n  allowed: a number above 0 and above that of the damage before it\n",
+    },
+    Row {
+        text: "[[damage]]\nattempt = 1\nhow = \"lose\"\n",
+        told: "p.toml:8: plan: damage 1: missing key\n  damage 1, line 8: no key `packet`\n  allowed: 1, 2 or 3\n  such as: packet = 1\n",
+    },
+    Row {
+        text: "[[damage]]\nattempt = 1\npacket = 1\n",
+        told: "p.toml:8: plan: damage 1: missing key\n  damage 1, line 8: no key `how`\n  allowed: \"lose\", \"pre\" or \"flip\"\n  such as: how = \"lose\"\n",
+    },
+    Row {
+        text: "[[damage]]\nattempt = 0\npacket = 1\nhow = \"lose\"\n",
+        told: "p.toml:9: plan: damage 1: bad value\n  damage 1, line 8: `attempt` is 0\n  allowed: a number above 0 and above that of the damage before it\n",
+    },
+    Row {
+        text: "[[damage]]\nattempt = \"1\"\npacket = 1\nhow = \"lose\"\n",
+        told: "p.toml:9: plan: damage 1: bad value\n  damage 1, line 8: `attempt` is \"1\"\n  allowed: a number above 0 and above that of the damage before it\n",
+    },
+    Row {
+        text: "[[damage]]\nattempt = 1\npacket = 0\nhow = \"lose\"\n",
+        told: "p.toml:10: plan: damage 1: bad value\n  damage 1, line 8: `packet` is 0\n  allowed: 1, 2 or 3\n",
+    },
+    Row {
+        text: "[[damage]]\nattempt = 1\npacket = 1\nhow = 2\n",
+        told: "p.toml:11: plan: damage 1: bad value\n  damage 1, line 8: `how` is 2\n  allowed: \"lose\", \"pre\" or \"flip\"\n",
+    },
+    Row {
+        text: "[[damage]]\nattempt = 1\npacket = 1\nhow = \"lose\"\nbits = 0\n",
+        told: "p.toml:12: plan: damage 1: bad value\n  damage 1, line 8: unknown key `bits`\n  allowed: `attempt`, `packet`, `how`, `bit`\n  did you mean `bit`?\n",
     },
 ];
 

@@ -2,7 +2,7 @@
 use super::{Row, check_rows};
 use std::alloc::AllocError;
 
-const ROWS: [Row; 9] = [
+const ROWS: [Row; 13] = [
     Row {
         text: "",
         told: "p.toml: plan: top: missing key\n  top: no key `limit`\n  allowed: a number from 0 to 100000000000000\n  such as: limit = 10000\n",
@@ -38,6 +38,22 @@ const ROWS: [Row; 9] = [
     Row {
         text: "limit = 1\nroots = 1\n\"a\\tb\" = 2\n",
         told: "p.toml:3: plan: top: bad value\n  top: unknown key `a\\u0009b`\n  allowed: `limit`, `roots`, `device`, `event`, `damage`\n",
+    },
+    Row {
+        text: "limit = 100_000_000_000_001\nroots = 1\n",
+        told: "p.toml:1: plan: top: bad value\n  top: `limit` is 100000000000001\n  allowed: a number from 0 to 100000000000000\n",
+    },
+    Row {
+        text: "limit = 1\nroots = 0\n",
+        told: "p.toml:2: plan: top: bad value\n  top: `roots` is 0\n  allowed: a number from 1 to 7\n",
+    },
+    Row {
+        text: "limit = 1\nroots = true\n",
+        told: "p.toml:2: plan: top: bad value\n  top: `roots` is true\n  allowed: a number from 1 to 7\n",
+    },
+    Row {
+        text: "limit = 1\nroots = 1\ndamage = \"none\"\n",
+        told: "p.toml:3: plan: top: bad value\n  top: `damage` is \"none\"\n  allowed: tables, each headed [[damage]]\n",
     },
 ];
 

@@ -1,9 +1,9 @@
-use Rattle.std.proofs.Common.{[], ◌∷◌, ◌∙◌, refl}
-use Rattle.usb_pcap.proofs.Captures.{stands_closed, went_front, went_lines}
+use Rattle.std.proofs.Common.{◌∙◌, refl}
+use Rattle.usb_pcap.proofs.Captures.{stands_closed, went_front, went_refused}
 use Rattle.usb_pcap.proofs.capturing.OpenLine.close.Goals as goal
 
 pub returns-in_default-clause-comes : goal.returns-in_default-clause-comes
-returns-in_default-clause-comes g c = λ w text h. went_lines w _ text (10 ∷ []) _ h
+returns-in_default-clause-comes g c = λ w text h. went_refused w _ text _ h (λ line e long. c.in_default.ensures line (c.as_slice.ensures.value ∙ e) long)
 
 pub returns-in-Err-clause-comes : goal.returns-in-Err-clause-comes
 returns-in-Err-clause-comes g c = λ w text h.

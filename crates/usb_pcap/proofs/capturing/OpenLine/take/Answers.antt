@@ -2,8 +2,8 @@ use Rattle.std.proofs.Common.{arith, refl}
 use Rattle.usb_pcap.proofs.Captures.{stands_long, stands_more}
 use Rattle.usb_pcap.proofs.capturing.OpenLine.take.Goals as goal
 
-pub returns-then-len-lt700-clause-comes : goal.returns-then-len-lt700-clause-comes
-returns-then-len-lt700-clause-comes g c = λ w text h. stands_more w _ text c.args.byte _ _ c.if-byte-eq10.false h refl (omega arith) c.push.ensures.items refl
+pub returns-then-len-lt-LONGEST-clause-comes : goal.returns-then-len-lt-LONGEST-clause-comes
+returns-then-len-lt-LONGEST-clause-comes g c = λ w text h. stands_more w _ text c.args.byte _ _ c.if-byte-eq10.false h refl (omega arith) c.push.ensures.items refl
 
-pub returns-else-len-lt700-clause-comes : goal.returns-else-len-lt700-clause-comes
-returns-else-len-lt700-clause-comes g c = λ w text h. stands_long w _ text c.args.byte _ _ c.if-byte-eq10.false h refl (omega arith) refl refl
+pub returns-else-len-lt-LONGEST-clause-comes : goal.returns-else-len-lt-LONGEST-clause-comes
+returns-else-len-lt-LONGEST-clause-comes g c = λ w text h. stands_long w _ text c.args.byte _ _ c.if-byte-eq10.false h refl (omega arith) refl refl

@@ -1,0 +1,132 @@
+-- What the lines of a run are made of, and how a text is read by it.
+use Rattle.std.specs.Prelude.{◌⊎◌, ◌≡◌, ◌≢◌, ℕ, ◌*◌, ◌+◌, ◌^◌, ◌<◌, zero, suc, ◌==◌, ◌&&◌, not, nat_le, Bool, true, false, List, [], ◌∷◌, ◌++◌, length, map, Option, Some, None, option_map, codes, decimal, if◌then◌else◌}
+use Rattle.usb_pcap.specs.declared.item.Item.{Item}
+use Rattle.usb_pcap.specs.declared.item.Item.TheVariants.{Port, Byte, Letter}
+use Rattle.usb_pcap.specs.declared.part.Part.{Part}
+use Rattle.usb_pcap.specs.declared.part.Part.TheVariants as part
+use Rattle.usb_pcap.specs.Text.{decimal_in, if_found, is_digit, strip, strip_any, value_of}
+
+-- ---- the grammar
+
+-- the digit of a port's number
+abbrev pub is_port_digit : ℕ → Bool
+is_port_digit d = nat_le 49 d && nat_le d 55
+
+-- a character of a string that stands for itself: printable, and neither a quotation mark nor a backslash
+abbrev pub is_plain : ℕ → Bool
+is_plain c = nat_le 32 c && nat_le c 126 && not (c == 34) && not (c == 92)
+
+-- four digits of a unit that has no character of its own
+abbrev pub is_escape : ℕ → ℕ → ℕ → ℕ → Bool
+is_escape a b c d = is_digit a && is_digit b && is_digit c && is_digit d && not (a == 48 && b == 48 && is_plain (value_of c * 16 + value_of d))
+
+-- a dot and a port's number; two digits; a character of a string, or \uXXXX
+abbrev pub IsItem : Item → List ℕ → Type 0
+IsItem Port item = (d : ℕ) × (is_port_digit d ≡ true) × (item ≡ 46 ∷ d ∷ [])
+IsItem Byte item = (h : ℕ) × (l : ℕ) × ((is_digit h && is_digit l) ≡ true) × (item ≡ h ∷ l ∷ [])
+IsItem Letter item =
+    ((c : ℕ) × (is_plain c ≡ true) × (item ≡ c ∷ []))
+    ⊎ ((a : ℕ) × (b : ℕ) × (c : ℕ) × (d : ℕ) × (is_escape a b c d ≡ true) × (item ≡ 92 ∷ 117 ∷ a ∷ b ∷ c ∷ d ∷ []))
+
+-- at most n items, one behind the other
+abbrev pub AreItems : Item → ℕ → List ℕ → Type 0
+AreItems kind zero text = text ≡ []
+AreItems kind (suc n) text = (text ≡ []) ⊎ ((item : List ℕ) × (more : List ℕ) × IsItem kind item × AreItems kind n more × (text ≡ item ++ more))
+
+abbrev pub IsOneOf : List (List ℕ) → List ℕ → Type 0
+IsOneOf [] text = ⊥
+IsOneOf (w ∷ ws) text = (text ≡ w) ⊎ IsOneOf ws text
+
+-- a piece of a line
+pub data Piece : Type 0 where
+  word : List ℕ → Piece
+  one_of : List (List ℕ) → Piece
+  path : Piece
+  number : Piece
+  bytes : Piece
+  string : Piece
+  name : Piece
+
+-- the texts of a piece
+abbrev pub IsPiece : Piece → List ℕ → Type 0
+IsPiece (Piece.word w) text = text ≡ w
+IsPiece (Piece.one_of words) text = IsOneOf words text
+IsPiece Piece.path text = (d : ℕ) × (more : List ℕ) × (is_port_digit d ≡ true) × AreItems Port 6 more × (text ≡ d ∷ more)
+IsPiece Piece.number text = (n : ℕ) × (n < 2 ^ 64) × (text ≡ decimal n)
+IsPiece Piece.bytes text =
+    (text ≡ codes "-")
+    ⊎ ((n : ℕ) × (first : List ℕ) × (more : List ℕ) × IsItem Byte first × AreItems Byte n more × (text ≡ first ++ more))
+IsPiece Piece.string text = (n : ℕ) × AreItems Letter n text
+IsPiece Piece.name text = text ≢ []
+
+-- the texts of a row of pieces
+abbrev pub IsForm : List Piece → List ℕ → Type 0
+IsForm [] text = text ≡ []
+IsForm (piece ∷ form) text = (first : List ℕ) × (more : List ℕ) × IsPiece piece first × IsForm form more × (text ≡ first ++ more)
+
+-- ---- reading
+
+abbrev pub behind_port : List ℕ → Option (List ℕ)
+behind_port [] = None
+behind_port (c ∷ []) = None
+behind_port (c ∷ d ∷ text) = if c == 46 && is_port_digit d then Some text else None
+
+abbrev pub behind_byte : List ℕ → Option (List ℕ)
+behind_byte [] = None
+behind_byte (h ∷ []) = None
+behind_byte (h ∷ l ∷ text) = if is_digit h && is_digit l then Some text else None
+
+abbrev pub behind_escape : List ℕ → Option (List ℕ)
+behind_escape (u ∷ a ∷ b ∷ c ∷ d ∷ text) = if u == 117 && is_escape a b c d then Some text else None
+behind_escape _ = None
+
+abbrev pub behind_letter : List ℕ → Option (List ℕ)
+behind_letter [] = None
+behind_letter (c ∷ text) = if is_plain c then Some text else if c == 92 then behind_escape text else None
+
+-- what stands behind an item
+unfoldable pub behind_item : Item → List ℕ → Option (List ℕ)
+behind_item Port text = behind_port text
+behind_item Byte text = behind_byte text
+behind_item Letter text = behind_letter text
+
+-- what stands behind as many items as there are, up to n
+unfoldable pub behind_items : Item → ℕ → List ℕ → List ℕ
+behind_items kind zero text = text
+behind_items kind (suc n) text = elim (behind_item kind text) [ None ↦ text | Some rest ↦ behind_items kind n rest ]
+
+abbrev pub behind_path : List ℕ → Option (List ℕ)
+behind_path [] = None
+behind_path (d ∷ text) = if is_port_digit d then Some (behind_items Port 6 text) else None
+
+abbrev pub behind_bytes : List ℕ → Option (List ℕ)
+behind_bytes text = if_found (strip (codes "-") text) Some (option_map (λ rest. behind_items Byte (length rest) rest) (behind_item Byte text))
+
+abbrev pub behind_name : List ℕ → Option (List ℕ)
+behind_name [] = None
+behind_name (c ∷ text) = Some []
+
+-- what stands behind a piece
+unfoldable pub behind_piece : Piece → List ℕ → Option (List ℕ)
+behind_piece (Piece.word w) text = strip w text
+behind_piece (Piece.one_of words) text = strip_any words text
+behind_piece Piece.path text = behind_path text
+behind_piece Piece.number text = option_map (λ n. n.1) (decimal_in text)
+behind_piece Piece.bytes text = behind_bytes text
+behind_piece Piece.string text = Some (behind_items Letter (length text) text)
+behind_piece Piece.name text = behind_name text
+
+-- whether a text is of a row of pieces
+unfoldable pub fits : List Piece → List ℕ → Bool
+fits [] text = length text == 0
+fits (piece ∷ form) text = elim (behind_piece piece text) [ None ↦ false | Some rest ↦ fits form rest ]
+
+-- a part, as the grammar has it
+abbrev pub piece_of : Part → Piece
+piece_of (part.Word w) = Piece.word w.now
+piece_of (part.OneOf words) = Piece.one_of (map (λ w. w.now) words.now)
+piece_of part.Path = Piece.path
+piece_of part.Number = Piece.number
+piece_of part.Bytes = Piece.bytes
+piece_of part.Text = Piece.string
+piece_of part.Name = Piece.name

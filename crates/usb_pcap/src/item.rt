@@ -1,0 +1,106 @@
+//! Items of a text that stand one behind the other.
+ghost use Rattle.std.specs.Prelude.{◌≡◌, option_map};
+ghost use Rattle.usb_pcap.specs.Grammar.{behind_byte, behind_escape, behind_item, behind_items, behind_letter, behind_port, is_escape, is_plain, is_port_digit};
+
+use crate::text::{is_digit, value_of};
+
+/// A kind of items.
+#[derive(Clone, Copy)]
+pub(crate) enum Item {
+    /// A dot and the number of a port.
+    Port,
+    /// A byte, as two digits.
+    Byte,
+    /// A unit of a string, as its character or as `\uXXXX`.
+    Letter,
+}
+
+/// What stands behind as many items as there are, up to a number of them.
+#[tactic(auto, unfolding(crate::specs::Grammar::behind_items))]
+pub(crate) fn behind_items(kind: Item, most: usize, text: &[u8]) -> &[u8]
+    ensures { result.now ≡ behind_items kind most text.now }
+{
+    let mut rest = text;
+    'items: for _ in 0..most {
+        match behind_item(kind, rest) {
+            Some(more) => rest = more,
+            None => return rest,
+        }
+    }
+    rest
+}
+
+/// What stands behind an item.
+#[tactic(auto, unfolding(crate::specs::Grammar::behind_item))]
+pub(crate) fn behind_item(kind: Item, text: &[u8]) -> Option<&[u8]>
+    ensures { option_map (λ r. r.now) result ≡ behind_item kind text.now }
+{
+    match kind {
+        Item::Port => behind_port(text),
+        Item::Byte => behind_byte(text),
+        Item::Letter => behind_letter(text),
+    }
+}
+
+fn behind_port(text: &[u8]) -> Option<&[u8]>
+    ensures { option_map (λ r. r.now) result ≡ behind_port text.now }
+{
+    match text {
+        [b'.', digit, rest @ ..] if is_port_digit(*digit) => Some(rest),
+        _ => None,
+    }
+}
+
+fn behind_byte(text: &[u8]) -> Option<&[u8]>
+    ensures { option_map (λ r. r.now) result ≡ behind_byte text.now }
+{
+    match text {
+        [high, low, rest @ ..] if is_digit(*high) && is_digit(*low) => Some(rest),
+        _ => None,
+    }
+}
+
+fn behind_letter(text: &[u8]) -> Option<&[u8]>
+    ensures { option_map (λ r. r.now) result ≡ behind_letter text.now }
+{
+    match text {
+        [c, rest @ ..] if is_plain(*c) => Some(rest),
+        [b'\\', rest @ ..] => behind_escape(rest),
+        _ => None,
+    }
+}
+
+/// What stands behind `uXXXX`.
+fn behind_escape(text: &[u8]) -> Option<&[u8]>
+    ensures { option_map (λ r. r.now) result ≡ behind_escape text.now }
+{
+    match text {
+        [b'u', a, b, c, d, rest @ ..] if is_escape(*a, *b, *c, *d) => Some(rest),
+        _ => None,
+    }
+}
+
+/// The digit of a port's number.
+pub(crate) fn is_port_digit(c: u8) -> bool
+    ensures { result ≡ is_port_digit c }
+{
+    matches!(c, b'1'..=b'7')
+}
+
+/// A character of a string that stands for itself.
+fn is_plain(c: u8) -> bool
+    ensures { result ≡ is_plain c }
+{
+    matches!(c, b' '..=b'~') && c != b'"' && c != b'\\'
+}
+
+/// Four digits of a unit that has no character of its own.
+fn is_escape(a: u8, b: u8, c: u8, d: u8) -> bool
+    ensures { result ≡ is_escape a b c d }
+{
+    is_digit(a)
+        && is_digit(b)
+        && is_digit(c)
+        && is_digit(d)
+        && !(a == b'0' && b == b'0' && is_plain(value_of(c) * 16 + value_of(d)))
+}
