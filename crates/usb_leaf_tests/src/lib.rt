@@ -1,4 +1,4 @@
-//! Tests of the crates that stand on no device: check fields, packets, requests, descriptors, ports
+//! Tests of the crates that stand on no device: check fields, packets, requests, descriptors, ports, lines
 //! and resources.
 #![tactic(auto)]
 

@@ -5,3 +5,4 @@ mod packet;
 mod port;
 mod request;
 mod resources;
+mod wire;

@@ -1,0 +1,427 @@
+//! The lines of a host and its far end: questions, what is said to them, and lines that say nothing.
+use arrayvec::{ArrayString, ArrayVec};
+use std::fmt::Write;
+use usb_packet::Toggle;
+use usb_port::PortCall;
+use usb_request::Setup;
+use usb_wire::{
+    Asked, DataPacket, Endpoint, Question, Speed, WireFault, question_line, read_question,
+    read_said, said_line,
+};
+
+/// A question as plain data.
+#[derive(Clone, Copy)]
+enum Asking {
+    Hello,
+    Setup(Speed, u8, Setup),
+    Out(Speed, Endpoint, Toggle, &'static [u8]),
+    In(Speed, Endpoint, u8),
+    Port(u8, PortCall),
+    Wait,
+}
+
+/// A question, which answers it has, and its line.
+struct QuestionRow {
+    asking: Asking,
+    asked: Asked,
+    line: &'static str,
+}
+
+/// GET_DESCRIPTOR of 64 bytes of the device descriptor (9.4.3).
+const GET_DEVICE: Setup = Setup {
+    request_type: 0x80,
+    request: 6,
+    value: 0x0100,
+    index: 0,
+    length: 64,
+};
+
+const QUESTIONS: &[QuestionRow] = &[
+    QuestionRow {
+        asking: Asking::Hello,
+        asked: Asked::Hello,
+        line: "usbplan live 1",
+    },
+    QuestionRow {
+        asking: Asking::Setup(Speed::Full, 0, GET_DEVICE),
+        asked: Asked::Attempt,
+        line: "SETUP 0.0 / DATA0 8006000100004000",
+    },
+    QuestionRow {
+        asking: Asking::Setup(Speed::LowBelowHub, 5, GET_DEVICE),
+        asked: Asked::Attempt,
+        line: "PRE SETUP 5.0 / PRE DATA0 8006000100004000",
+    },
+    QuestionRow {
+        asking: Asking::Out(
+            Speed::Low,
+            Endpoint {
+                address: 1,
+                number: 2,
+            },
+            Toggle::One,
+            &[0x0a, 0xff],
+        ),
+        asked: Asked::Attempt,
+        line: "low OUT 1.2 / DATA1 0AFF",
+    },
+    QuestionRow {
+        asking: Asking::Out(
+            Speed::Full,
+            Endpoint {
+                address: 9,
+                number: 0,
+            },
+            Toggle::One,
+            &[],
+        ),
+        asked: Asked::Attempt,
+        line: "OUT 9.0 / DATA1 -",
+    },
+    QuestionRow {
+        asking: Asking::In(
+            Speed::Full,
+            Endpoint {
+                address: 127,
+                number: 15,
+            },
+            64,
+        ),
+        asked: Asked::Attempt,
+        line: "IN 127.15 64",
+    },
+    QuestionRow {
+        asking: Asking::Port(2, PortCall::SetReset),
+        asked: Asked::Port,
+        line: "port 2 set PORT_RESET",
+    },
+    QuestionRow {
+        asking: Asking::Port(7, PortCall::ClearConnectionChange),
+        asked: Asked::Port,
+        line: "port 7 clear C_PORT_CONNECTION",
+    },
+    QuestionRow {
+        asking: Asking::Wait,
+        asked: Asked::Wait,
+        line: "wait",
+    },
+];
+
+/// The bytes, of which there are at most 64.
+fn few(bytes: &[u8]) -> ArrayVec<u8, 64> {
+    let mut all = ArrayVec::new();
+    let _ = all.try_extend_from_slice(bytes);
+    all
+}
+
+fn question(asking: Asking) -> Question {
+    match asking {
+        Asking::Hello => Question::Hello,
+        Asking::Setup(speed, address, setup) => Question::Setup {
+            speed,
+            endpoint: Endpoint { address, number: 0 },
+            setup,
+        },
+        Asking::Out(speed, endpoint, toggle, bytes) => Question::Out {
+            speed,
+            endpoint,
+            sent: DataPacket {
+                toggle,
+                bytes: few(bytes),
+            },
+        },
+        Asking::In(speed, endpoint, most) => Question::In {
+            speed,
+            endpoint,
+            most,
+        },
+        Asking::Port(number, call) => Question::Port { number, call },
+        Asking::Wait => Question::Wait,
+    }
+}
+
+#[test]
+fn questions(rt: HostRuntime) {
+    for row in QUESTIONS {
+        let asked = question(row.asking);
+        let line = question_line(&asked);
+        assert_eq!(rt; (asked.asked(), line.as_str()), (row.asked, row.line));
+        let read = read_question(row.line.as_bytes()).expect(&rt, row.line);
+        assert_eq!(rt; question_line(&read).as_str(), row.line);
+    }
+}
+
+/// Lines that ask nothing.
+const NO_QUESTIONS: &[&str] = &[
+    "",
+    "wait ",
+    "usbplan live 2",
+    "ACK",
+    "SETUP 0.0 / DATA1 8006000100004000",
+    "SETUP 0.0 / DATA0 80060001000040",
+    "SETUP 128.0 / DATA0 8006000100004000",
+    "OUT 1.1 / PRE DATA0 00",
+    "PRE OUT 1.1 / DATA0 00",
+    "OUT 1.1 DATA0 00",
+    "OUT 1.1 / DATA0 0",
+    "OUT 1.1 / DATA2 00",
+    "low PRE IN 1.1 8",
+    "IN 1.16 8",
+    "IN 01.1 8",
+    "IN 1 8",
+    "IN 1.1 0",
+    "IN 1.1 65",
+    "port 8 set PORT_RESET",
+    "port 0 set PORT_RESET",
+    "port 1 set PORT_ENABLE",
+    "port 1 set PORT_RESET 1",
+];
+
+#[test]
+fn lines_that_ask_nothing(rt: HostRuntime) {
+    for line in NO_QUESTIONS {
+        assert!(rt; read_question(line.as_bytes()).is_none(), "{}", *line);
+    }
+}
+
+/// A line that is said behind a question where there are three root ports, and the line that is written of what it says.
+struct SaidRow {
+    asked: Asked,
+    line: &'static str,
+    written: &'static str,
+}
+
+const SAID: &[SaidRow] = &[
+    SaidRow {
+        asked: Asked::Hello,
+        line: "roots 7",
+        written: "roots 7",
+    },
+    SaidRow {
+        asked: Asked::Attempt,
+        line: "ACK",
+        written: "ACK",
+    },
+    SaidRow {
+        asked: Asked::Attempt,
+        line: "NAK",
+        written: "NAK",
+    },
+    SaidRow {
+        asked: Asked::Attempt,
+        line: "STALL",
+        written: "STALL",
+    },
+    SaidRow {
+        asked: Asked::Attempt,
+        line: "none",
+        written: "none",
+    },
+    SaidRow {
+        asked: Asked::Attempt,
+        line: "DATA0 12aBcD",
+        written: "DATA0 12ABCD",
+    },
+    SaidRow {
+        asked: Asked::Attempt,
+        line: "DATA1 -",
+        written: "DATA1 -",
+    },
+    SaidRow {
+        asked: Asked::Attempt,
+        line: "port 3 01010100",
+        written: "port 3 01010100",
+    },
+    SaidRow {
+        asked: Asked::Port,
+        line: "ok",
+        written: "ok",
+    },
+    SaidRow {
+        asked: Asked::Wait,
+        line: "ok",
+        written: "ok",
+    },
+    SaidRow {
+        asked: Asked::Wait,
+        line: "show",
+        written: "show",
+    },
+    SaidRow {
+        asked: Asked::Wait,
+        line: "end",
+        written: "end",
+    },
+    SaidRow {
+        asked: Asked::Wait,
+        line: "send 1.7 00ff",
+        written: "send 1.7 00FF",
+    },
+    SaidRow {
+        asked: Asked::Wait,
+        line: "receive 2 1000",
+        written: "receive 2 1000",
+    },
+    SaidRow {
+        asked: Asked::Wait,
+        line: "clear 1.2.3.4.5.6.7",
+        written: "clear 1.2.3.4.5.6.7",
+    },
+];
+
+#[test]
+fn lines_that_are_said(rt: HostRuntime) {
+    for row in SAID {
+        let said = read_said(row.asked, 3, row.line.as_bytes()).expect(&rt, row.line);
+        assert_eq!(rt; said_line(&said).as_str(), row.written);
+    }
+}
+
+/// A line that says nothing behind a question where there are three root ports, and its fault.
+struct FaultRow {
+    asked: Asked,
+    line: &'static [u8],
+    fault: WireFault,
+}
+
+const FAULTS: &[FaultRow] = &[
+    FaultRow {
+        asked: Asked::Attempt,
+        line: b"ACK\r",
+        fault: WireFault::BadCharacter,
+    },
+    FaultRow {
+        asked: Asked::Attempt,
+        line: b"DATA0 \xff",
+        fault: WireFault::BadCharacter,
+    },
+    FaultRow {
+        asked: Asked::Attempt,
+        line: b"",
+        fault: WireFault::NoAnswer,
+    },
+    FaultRow {
+        asked: Asked::Attempt,
+        line: b"ok",
+        fault: WireFault::NoAnswer,
+    },
+    FaultRow {
+        asked: Asked::Port,
+        line: b"ACK",
+        fault: WireFault::NoAnswer,
+    },
+    FaultRow {
+        asked: Asked::Wait,
+        line: b"roots 3",
+        fault: WireFault::NoAnswer,
+    },
+    FaultRow {
+        asked: Asked::Attempt,
+        line: b"DATA1",
+        fault: WireFault::NoAnswer,
+    },
+    FaultRow {
+        asked: Asked::Attempt,
+        line: b"ACK ",
+        fault: WireFault::NoAnswer,
+    },
+    FaultRow {
+        asked: Asked::Hello,
+        line: b"port 1 01010100",
+        fault: WireFault::NoAnswer,
+    },
+    FaultRow {
+        asked: Asked::Attempt,
+        line: b"DATA0 123",
+        fault: WireFault::BadHex,
+    },
+    FaultRow {
+        asked: Asked::Attempt,
+        line: b"DATA0 ",
+        fault: WireFault::BadHex,
+    },
+    FaultRow {
+        asked: Asked::Attempt,
+        line: b"port 9 0g",
+        fault: WireFault::BadHex,
+    },
+    FaultRow {
+        asked: Asked::Port,
+        line: b"port 9 -",
+        fault: WireFault::BadLength,
+    },
+    FaultRow {
+        asked: Asked::Attempt,
+        line: b"DATA0 0000000000000000000000000000000000000000000000000000000000000000\
+0000000000000000000000000000000000000000000000000000000000000000FF",
+        fault: WireFault::BadLength,
+    },
+    FaultRow {
+        asked: Asked::Hello,
+        line: b"roots 8",
+        fault: WireFault::BadNumber,
+    },
+    FaultRow {
+        asked: Asked::Port,
+        line: b"port 4 01010100",
+        fault: WireFault::BadNumber,
+    },
+    FaultRow {
+        asked: Asked::Wait,
+        line: b"receive 8 1001",
+        fault: WireFault::BadNumber,
+    },
+    FaultRow {
+        asked: Asked::Wait,
+        line: b"receive 1 01",
+        fault: WireFault::BadNumber,
+    },
+    FaultRow {
+        asked: Asked::Wait,
+        line: b"clear 8",
+        fault: WireFault::BadPath,
+    },
+];
+
+#[test]
+fn lines_that_say_nothing(rt: HostRuntime) {
+    for row in FAULTS {
+        let told = read_said(row.asked, 3, row.line).err();
+        assert_eq!(rt; told, Some(row.fault), "{:?}", row.line);
+    }
+}
+
+/// How many bytes a line has, each an A, and its fault.
+const LENGTHS: &[(usize, WireFault)] = &[
+    (1024, WireFault::NoAnswer),
+    (1025, WireFault::LineTooLong),
+];
+
+#[test]
+fn long_lines(rt: HostRuntime) {
+    let bytes = [b'A'; 1025];
+    for (length, fault) in LENGTHS {
+        let line = &bytes[..bytes.len().min(*length)];
+        assert_eq!(rt; read_said(Asked::Attempt, 3, line).err(), Some(*fault));
+    }
+}
+
+/// Each fault with its words.
+const WORDS: &[(WireFault, &str)] = &[
+    (WireFault::LineTooLong, "line too long"),
+    (WireFault::BadCharacter, "bad character"),
+    (WireFault::NoAnswer, "no answer"),
+    (WireFault::BadHex, "bad hex"),
+    (WireFault::BadLength, "bad length"),
+    (WireFault::BadNumber, "bad number"),
+    (WireFault::BadPath, "bad path"),
+];
+
+#[test]
+fn words_of_faults(rt: HostRuntime) {
+    for (fault, words) in WORDS {
+        let mut told = ArrayString::<16>::new();
+        let written = write!(told, "{}", fault).is_ok();
+        assert_eq!(rt; (written, told.as_str()), (true, *words));
+    }
+}

@@ -1,0 +1,220 @@
+-- What may be said and stands in a line is read.
+use Rattle.std.proofs.Common.{◌≡◌, ℕ, ◌+◌, ◌<◌, ◌≤◌, true, List, [], ◌∷◌, ◌++◌, length, get_or, Some, ok_or, Ok, refl, sym, subst, ap, ◌∙◌, arith, append_assoc, codes, decimal, length-append, lit<, lit≤}
+use Rattle.std.proofs.lemmas.Bool.{le-ltb}
+use Rattle.std.proofs.lemmas.Fmt.{length-decimal-le}
+use Rattle.hex.specs.Hex.{IsBytes}
+use Rattle.usb_packet.specs.declared.Toggle.{Toggle}
+use Rattle.usb_packet.specs.declared.Toggle.TheVariants.{Zero, One}
+use Rattle.usb_packet.specs.Text.{data_name, hex_text}
+use Rattle.usb_port.specs.Path.{IsPath, path_text}
+use Rattle.usb_port.proofs.Paths.{length-path_text, reads_back}
+use Rattle.usb_wire.specs.declared.answer.Answer.{Answer}
+use Rattle.usb_wire.specs.declared.answer.Answer.TheVariants.{Roots, Ack, Nak, Stall, Nothing, Data, Done, Show, End, Send, Receive, Clear}
+use Rattle.usb_wire.specs.declared.answer.Said.{Said}
+use Rattle.usb_wire.specs.declared.answer.Said.TheVariants.{Changed, Answered}
+use Rattle.usb_wire.specs.declared.fault.WireFault.TheVariants.{BadNumber, BadPath}
+use Rattle.usb_wire.specs.declared.question.Asked.{Asked}
+use Rattle.usb_wire.specs.declared.question.Asked.TheVariants.{Hello, Attempt, Port, Wait}
+use Rattle.usb_wire.specs.Answers.{IsAnswer, IsLineOf, MayPush, MaySay, answer_bytes, answer_with, said_bytes, said_line, said_with}
+use Rattle.usb_wire.specs.Fields.{hex_value}
+use Rattle.usb_wire.specs.Reading.{alone, bytes_in, clear_answer, data_answer, line_says, number_in, path_in, pushed, receive_answer, roots_answer, send_answer, status_in, text_in, three_say, with_one, with_two, words_say}
+use Rattle.usb_wire.specs.Words.{all_printable, words}
+use Rattle.usb_wire.proofs.FieldLemmas.{all_visible-decimal, all_visible-hex, all_visible-path_text, bytes_in-value, hex_value-hex_text, hex_value-length, spelled-value, status_in-value, within-decimal}
+use Rattle.usb_wire.proofs.WordLemmas.{HasNoSpace-visible, all_printable-append, all_printable-visible, all_visible, words_cut, words_none}
+
+-- ---- single words, each visible and short
+
+-- the word has no space, and at most so many bytes
+pub record IsWord (most : ℕ) (word : List ℕ) : Type 0 where
+  pub visible : all_visible word ≡ true
+  pub short : length word ≤ most
+
+pub bytes_word : (word xs : List ℕ) → hex_value word ≡ Some xs → length xs ≤ 64 → IsWord 129 word
+bytes_word word xs e few =
+    let spelled = spelled-value word xs e in
+    record { visible = all_visible-hex word spelled.hex; short = omega (arith, hex_value-length word xs e) }
+
+pub number_word : (n : ℕ) → n ≤ 1000 → IsWord 129 (decimal n)
+number_word n few =
+    let short = length-decimal-le 4 n (lit< tt) (omega arith) (omega arith) in
+    record { visible = all_visible-decimal n (omega arith); short = omega (arith, short) }
+
+path_word : (p : List ℕ) → IsPath p → IsWord 129 (path_text p)
+path_word p h =
+    record { visible = all_visible-path_text p h.2; short = omega (arith, length-path_text p, h.1) }
+
+pub read_bytes : (word xs : List ℕ) → hex_value word ≡ Some xs → length xs ≤ 64 → bytes_in word ≡ Ok xs
+read_bytes word xs e few =
+    let spelled = spelled-value word xs e in
+    bytes_in-value word (length xs) xs (record { hex = spelled.hex; count = spelled.count }) few e
+
+read_status : (word xs : List ℕ) → hex_value word ≡ Some xs → length xs ≡ 4 → status_in word ≡ Ok xs
+read_status word xs e four =
+    let spelled = spelled-value word xs e in
+    status_in-value word xs (record { hex = spelled.hex; count = spelled.count ∙ four }) e
+
+pub read_number : (least most n : ℕ) → least ≤ n → n ≤ most → n ≤ 1000 → number_in least most (decimal n) ≡ Ok n
+unfolding number_in
+read_number least most n low high few = ap (λ o. ok_or o BadNumber) (within-decimal least most n low high (omega arith))
+
+read_path : (p : List ℕ) → IsPath p → path_in (path_text p) ≡ Ok p
+unfolding path_in
+read_path p h = ap (λ o. ok_or o BadPath) (reads_back p h)
+
+-- ---- lines of one, two and three words
+
+-- the line is read as this
+record Reads (asked : Asked) (count : ℕ) (line : List ℕ) (s : Said) : Type 0 where
+  short : length line ≤ 1024
+  printable : all_printable line ≡ true
+  says : words_say asked count (words line) ≡ Ok s
+
+-- a first word with a space behind it, which is cut off
+record IsFront (front first : List ℕ) : Type 0 where
+  short : length front ≤ 10
+  printable : all_printable front ≡ true
+  cut : (rest : List ℕ) → words (front ++ rest) ≡ first ∷ words rest
+
+read_two : (asked : Asked) (count : ℕ) (front first word : List ℕ) (s : Said) → IsFront front first → IsWord 129 word → words_say asked count (first ∷ word ∷ []) ≡ Ok s → Reads asked count (front ++ word) s
+read_two asked count front first word s f w e =
+    let cut : words (front ++ word) ≡ first ∷ word ∷ [] = f.cut word ∙ ap (λ ws. first ∷ ws) (words_none word (HasNoSpace-visible word w.visible)) in
+    record {
+      short = omega (arith, length-append front word, f.short, w.short);
+      printable = all_printable-append front word f.printable (all_printable-visible word w.visible);
+      says = ap (words_say asked count) cut ∙ e;
+    }
+
+read_three : (asked : Asked) (count : ℕ) (front first word last : List ℕ) (s : Said) → IsFront front first → IsWord 129 word → IsWord 129 last → words_say asked count (first ∷ word ∷ last ∷ []) ≡ Ok s
+    → Reads asked count (front ++ word ++ codes " " ++ last) s
+read_three asked count front first word last s f w l e =
+    let behind : words (word ++ 32 ∷ last) ≡ word ∷ last ∷ [] =
+    words_cut word last (HasNoSpace-visible word w.visible) ∙ ap (λ ws. word ∷ ws) (words_none last (HasNoSpace-visible last l.visible)) in
+    let whole : front ++ word ++ codes " " ++ last ≡ front ++ (word ++ 32 ∷ last) = append_assoc (front ++ word) (codes " ") last ∙ append_assoc front word (32 ∷ last) in
+    let cut : words (front ++ (word ++ 32 ∷ last)) ≡ first ∷ word ∷ last ∷ [] = f.cut (word ++ 32 ∷ last) ∙ ap (λ ws. first ∷ ws) behind in
+    let size : length (front ++ (word ++ 32 ∷ last)) ≡ length front + length (word ++ 32 ∷ last) = length-append front (word ++ 32 ∷ last) in
+    let more : length (word ++ 32 ∷ last) ≡ length word + length (32 ∷ last) = length-append word (32 ∷ last) in
+    let plain = all_printable-append word (32 ∷ last) (all_printable-visible word w.visible) (all_printable-visible last l.visible) in
+    subst (λ line. Reads asked count line s) (sym whole) (record {
+      short = omega (arith, size, more, f.short, w.short, l.short);
+      printable = all_printable-append front (word ++ 32 ∷ last) f.printable plain;
+      says = ap (words_say asked count) cut ∙ e;
+    })
+
+-- the first word of a data packet
+abbrev data_word : Toggle → List ℕ
+data_word Zero = codes "DATA0"
+data_word One = codes "DATA1"
+
+port_front : IsFront (codes "port ") (codes "port")
+port_front = record { short = lit≤ tt; printable = refl; cut = λ rest. refl }
+
+-- ---- each line
+
+push_said : (asked : Asked) (count number : ℕ) (status digits : List ℕ) → MayPush asked → 1 ≤ number → number ≤ count → count < 256 → hex_value digits ≡ Some status → length status ≡ 4
+    → words_say asked count (codes "port" ∷ decimal number ∷ digits ∷ []) ≡ Ok (Changed number status)
+unfolding words_say three_say pushed
+push_said Hello count number status digits may low high small e four = absurd may
+push_said Attempt count number status digits may low high small e four = rw (read_status digits status e four, read_number 1 count number low high (omega arith)) refl
+push_said Port count number status digits may low high small e four = rw (read_status digits status e four, read_number 1 count number low high (omega arith)) refl
+push_said Wait count number status digits may low high small e four = rw (read_status digits status e four, read_number 1 count number low high (omega arith)) refl
+
+read_changed : (asked : Asked) (count number : ℕ) (status digits : List ℕ) → MayPush asked → 1 ≤ number → number ≤ count → count < 256 → hex_value digits ≡ Some status → length status ≡ 4
+    → Reads asked count (codes "port " ++ decimal number ++ codes " " ++ digits) (Changed number status)
+read_changed asked count number status digits may low high small e four =
+    read_three asked count (codes "port ") (codes "port") (decimal number) digits (Changed number status) port_front (number_word number (omega arith)) (bytes_word digits status e (omega (arith, four)))
+    (push_said asked count number status digits may low high small e four)
+
+roots_said : (count n : ℕ) → 1 ≤ n → n ≤ 7 → words_say Hello count (codes "roots" ∷ decimal n ∷ []) ≡ Ok (Answered (Roots n))
+unfolding words_say with_one roots_answer
+roots_said count n low high = rw (read_number 1 7 n low high (omega arith)) refl
+
+data_said : (count : ℕ) (toggle : Toggle) (xs digits : List ℕ) → hex_value digits ≡ Some xs → length xs ≤ 64
+    → words_say Attempt count (data_word toggle ∷ digits ∷ []) ≡ Ok (Answered (Data (record { toggle = toggle; bytes = record { items = xs } })))
+unfolding words_say with_one data_answer
+data_said count Zero xs digits e few = rw (read_bytes digits xs e few) refl
+data_said count One xs digits e few = rw (read_bytes digits xs e few) refl
+
+clear_said : (count : ℕ) (p : List ℕ) → IsPath p → words_say Wait count (codes "clear" ∷ path_text p ∷ []) ≡ Ok (Answered (Clear p))
+unfolding words_say with_one clear_answer
+clear_said count p h = rw (read_path p h) refl
+
+send_said : (count : ℕ) (p xs digits : List ℕ) → IsPath p → hex_value digits ≡ Some xs → length xs ≤ 64
+    → words_say Wait count (codes "send" ∷ path_text p ∷ digits ∷ []) ≡ Ok (Answered (Send p (record { items = xs })))
+unfolding words_say three_say with_two send_answer
+send_said count p xs digits h e few = rw (read_bytes digits xs e few, read_path p h) refl
+
+receive_said : (count : ℕ) (p : List ℕ) (n : ℕ) → IsPath p → n ≤ 1000 → words_say Wait count (codes "receive" ∷ path_text p ∷ decimal n ∷ []) ≡ Ok (Answered (Receive p n))
+unfolding words_say three_say with_two receive_answer
+receive_said count p n h few = rw (read_number 0 1000 n (omega arith) few few, read_path p h) refl
+
+data_front : (toggle : Toggle) → IsFront (data_name toggle) (data_word toggle)
+data_front Zero = record { short = lit≤ tt; printable = refl; cut = λ rest. refl }
+data_front One = record { short = lit≤ tt; printable = refl; cut = λ rest. refl }
+
+-- a line that is one word
+read_one : (asked : Asked) (count : ℕ) (line : List ℕ) (s : Said) → length line ≤ 1024 → all_printable line ≡ true → words_say asked count (words line) ≡ Ok s → Reads asked count line s
+read_one asked count line s short printable says = record { short = short; printable = printable; says = says }
+
+read_answer : (asked : Asked) (count : ℕ) (digits : List ℕ) (a : Answer) → IsAnswer asked a → hex_value digits ≡ Some (answer_bytes a) → Reads asked count (answer_with digits a) (Answered a)
+unfolding words_say alone
+read_answer Hello count digits (Roots n) h e =
+    read_two Hello count (codes "roots ") (codes "roots") (decimal n) (Answered (Roots n)) (record { short = lit≤ tt; printable = refl; cut = λ rest. refl }) (number_word n (omega (arith, h.1))) (roots_said count n h.0 h.1)
+read_answer Attempt count digits Ack h e = read_one Attempt count (codes "ACK") (Answered Ack) (lit≤ tt) refl refl
+read_answer Attempt count digits Nak h e = read_one Attempt count (codes "NAK") (Answered Nak) (lit≤ tt) refl refl
+read_answer Attempt count digits Stall h e = read_one Attempt count (codes "STALL") (Answered Stall) (lit≤ tt) refl refl
+read_answer Attempt count digits Nothing h e = read_one Attempt count (codes "none") (Answered Nothing) (lit≤ tt) refl refl
+read_answer Attempt count digits (Data sent) h e =
+    read_two Attempt count (data_name sent.toggle) (data_word sent.toggle) digits (Answered (Data sent)) (data_front sent.toggle) (bytes_word digits sent.bytes.items e h.0) (data_said count sent.toggle sent.bytes.items digits e h.0)
+read_answer Port count digits Done h e = read_one Port count (codes "ok") (Answered Done) (lit≤ tt) refl refl
+read_answer Wait count digits Done h e = read_one Wait count (codes "ok") (Answered Done) (lit≤ tt) refl refl
+read_answer Wait count digits Show h e = read_one Wait count (codes "show") (Answered Show) (lit≤ tt) refl refl
+read_answer Wait count digits End h e = read_one Wait count (codes "end") (Answered End) (lit≤ tt) refl refl
+read_answer Wait count digits (Send p sent) h e =
+    read_three Wait count (codes "send ") (codes "send") (path_text p) digits (Answered (Send p sent)) (record { short = lit≤ tt; printable = refl; cut = λ rest. refl }) (path_word p h.0) (bytes_word digits sent.items e h.1.0)
+    (send_said count p sent.items digits h.0 e h.1.0)
+read_answer Wait count digits (Receive p n) h e =
+    read_three Wait count (codes "receive ") (codes "receive") (path_text p) (decimal n) (Answered (Receive p n)) (record { short = lit≤ tt; printable = refl; cut = λ rest. refl }) (path_word p h.0) (number_word n h.1)
+    (receive_said count p n h.0 h.1)
+read_answer Wait count digits (Clear p) h e =
+    read_two Wait count (codes "clear ") (codes "clear") (path_text p) (Answered (Clear p)) (record { short = lit≤ tt; printable = refl; cut = λ rest. refl }) (path_word p h) (clear_said count p h)
+read_answer _ count digits _ h e = absurd h
+
+read_line : (asked : Asked) (count : ℕ) (line : List ℕ) (s : Said) → Reads asked count line s → line_says asked count line ≡ Ok s
+unfolding line_says text_in
+read_line asked count line s h = rw (le-ltb 1024 (length line) h.short, h.printable) h.says
+
+read_said : (asked : Asked) (count : ℕ) (digits : List ℕ) (s : Said) → count < 256 → MaySay asked count s → hex_value digits ≡ Some (said_bytes s) → Reads asked count (said_with digits s) s
+read_said asked count digits (Changed number status) small h e = read_changed asked count number status digits h.0 h.1 h.2 small e h.3
+read_said asked count digits (Answered a) small h e = read_answer asked count digits a h e
+
+-- what may be said and stands in a line is read
+pub line_says-said : (asked : Asked) (count : ℕ) (line : List ℕ) (s : Said) → count < 256 → MaySay asked count s → IsLineOf line s → line_says asked count line ≡ Ok s
+line_says-said asked count line s small may is =
+    ap (line_says asked count) is.written ∙ read_line asked count (said_with is.digits s) s (read_said asked count is.digits s small may is.spelled)
+
+none_small : (i : ℕ) → get_or [] i 0 < 256
+none_small i = omega arith
+
+answer_small : (asked : Asked) (a : Answer) → IsAnswer asked a → IsBytes (answer_bytes a)
+answer_small Attempt (Data sent) h = h.1
+answer_small Wait (Send p sent) h = h.1.1
+answer_small _ (Data sent) h = absurd h
+answer_small _ (Send p sent) h = absurd h
+answer_small _ (Roots n) h = none_small
+answer_small _ Ack h = none_small
+answer_small _ Nak h = none_small
+answer_small _ Stall h = none_small
+answer_small _ Nothing h = none_small
+answer_small _ Done h = none_small
+answer_small _ Show h = none_small
+answer_small _ End h = none_small
+answer_small _ (Receive p n) h = none_small
+answer_small _ (Clear p) h = none_small
+
+small_bytes : (asked : Asked) (count : ℕ) (s : Said) → MaySay asked count s → IsBytes (said_bytes s)
+small_bytes asked count (Changed number status) h = h.4
+small_bytes asked count (Answered a) h = answer_small asked a h
+
+-- the line that is written says what it was written for
+pub IsLineOf-said_line : (asked : Asked) (count : ℕ) (s : Said) → MaySay asked count s → IsLineOf (said_line s) s
+IsLineOf-said_line asked count s may = record { digits = hex_text (said_bytes s); spelled = hex_value-hex_text (said_bytes s) (small_bytes asked count s may); written = refl }

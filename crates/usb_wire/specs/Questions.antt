@@ -1,0 +1,104 @@
+-- The questions of the host, and the line of each.
+use Rattle.std.specs.Prelude.{◌≡◌, ℕ, ◌^◌, ◌<◌, ◌≤◌, List, [], ◌++◌, codes, decimal, Some}
+use Rattle.usb_packet.specs.declared.TokenKind.{TokenKind}
+use Rattle.usb_packet.specs.declared.TokenKind.TheVariants.{OutTok, InTok, SetupTok}
+use Rattle.usb_packet.specs.declared.Toggle.{Toggle}
+use Rattle.usb_packet.specs.declared.Toggle.TheVariants.{Zero}
+use Rattle.usb_packet.specs.Text.{data_name, hex_text, token_name}
+use Rattle.usb_port.specs.declared.call.PortCall.{PortCall}
+use Rattle.usb_port.specs.declared.call.PortCall.TheVariants.{SetPower, SetReset, ClearEnable, ClearPower, ClearConnectionChange, ClearEnableChange, ClearResetChange}
+use Rattle.usb_request.specs.Layout.{bytes_of}
+use Rattle.usb_request.specs.declared.setup.Setup.{Setup as SetupData}
+use Rattle.usb_wire.specs.Answers.{IsData}
+use Rattle.usb_wire.specs.Fields.{hex_value}
+use Rattle.usb_wire.specs.declared.question.Asked.{Asked}
+use Rattle.usb_wire.specs.declared.question.Asked.TheVariants.{Hello as OfHello, Attempt as OfAttempt, Port as OfPort, Wait as OfWait}
+use Rattle.usb_wire.specs.declared.question.Endpoint.{Endpoint}
+use Rattle.usb_wire.specs.declared.question.Question.{Question}
+use Rattle.usb_wire.specs.declared.question.Question.TheVariants.{Hello, Setup, Out, In, Port, Wait}
+use Rattle.usb_wire.specs.declared.question.Speed.{Speed}
+use Rattle.usb_wire.specs.declared.question.Speed.TheVariants.{Full, Low, LowBelowHub}
+
+-- which answers a question has
+abbrev pub asked_by : Question → Asked
+asked_by Hello = OfHello
+asked_by (Setup speed endpoint setup) = OfAttempt
+asked_by (Out speed endpoint sent) = OfAttempt
+asked_by (In speed endpoint most) = OfAttempt
+asked_by (Port number call) = OfPort
+asked_by Wait = OfWait
+
+-- what stands before a token: the device is of low speed, at a root port or below a hub (8.6.5)
+abbrev pub speed_text : Speed → List ℕ
+speed_text Full = []
+speed_text Low = codes "low "
+speed_text LowBelowHub = codes "PRE "
+
+-- what stands between a token and the host's data
+abbrev pub pre_text : Speed → List ℕ
+pre_text Full = codes " / "
+pre_text Low = codes " / "
+pre_text LowBelowHub = codes " / PRE "
+
+-- a token, as in a trace
+abbrev pub token_text : TokenKind → Endpoint → List ℕ
+token_text kind e = token_name kind ++ decimal e.address ++ codes "." ++ decimal e.number
+
+-- a data packet, with the digits of its data
+abbrev pub data_with : Toggle → List ℕ → List ℕ
+data_with toggle digits = data_name toggle ++ digits
+
+-- a call of a root port, by the name of its feature (table 11-17)
+abbrev pub call_text : PortCall → List ℕ
+call_text SetPower = codes "set PORT_POWER"
+call_text SetReset = codes "set PORT_RESET"
+call_text ClearEnable = codes "clear PORT_ENABLE"
+call_text ClearPower = codes "clear PORT_POWER"
+call_text ClearConnectionChange = codes "clear C_PORT_CONNECTION"
+call_text ClearEnableChange = codes "clear C_PORT_ENABLE"
+call_text ClearResetChange = codes "clear C_PORT_RESET"
+
+-- the line of each question, with the digits of its bytes
+abbrev pub question_with : List ℕ → Question → List ℕ
+question_with digits Hello = codes "usbplan live 1"
+question_with digits (Setup speed endpoint setup) =
+    speed_text speed ++ token_text SetupTok endpoint ++ pre_text speed ++ data_with Zero digits
+question_with digits (Out speed endpoint sent) =
+    speed_text speed ++ token_text OutTok endpoint ++ pre_text speed ++ data_with sent.toggle digits
+question_with digits (In speed endpoint most) =
+    speed_text speed ++ token_text InTok endpoint ++ codes " " ++ decimal most
+question_with digits (Port number call) = codes "port " ++ decimal number ++ codes " " ++ call_text call
+question_with digits Wait = codes "wait"
+
+-- the bytes in it
+abbrev pub question_bytes : Question → List ℕ
+question_bytes (Setup speed endpoint setup) = bytes_of setup
+question_bytes (Out speed endpoint sent) = sent.bytes.items
+question_bytes _ = []
+
+-- the line as it is written: digits in upper case
+abbrev pub question_line : Question → List ℕ
+question_line question = question_with (hex_text (question_bytes question)) question
+
+-- the line asks this, in digits of either case
+pub record IsQuestionLine (line : List ℕ) (question : Question) : Type 0 where
+  pub digits : List ℕ
+  pub spelled : hex_value digits ≡ Some (question_bytes question)
+  pub written : line ≡ question_with digits question
+
+-- the fields fit their places
+abbrev pub IsEndpoint : Endpoint → Type 0
+IsEndpoint e = (e.address < 128) × (e.number < 16)
+
+abbrev pub IsSetup : SetupData → Type 0
+IsSetup s =
+    (s.request_type < 256) × (s.request < 256) × (s.value < 2 ^ 16) × (s.index < 2 ^ 16) × (s.length < 2 ^ 16)
+
+-- what may be asked
+abbrev pub IsQuestion : Question → Type 0
+IsQuestion Hello = Unit {0}
+IsQuestion (Setup speed endpoint setup) = IsEndpoint endpoint × IsSetup setup
+IsQuestion (Out speed endpoint sent) = IsEndpoint endpoint × IsData sent.bytes.items
+IsQuestion (In speed endpoint most) = IsEndpoint endpoint × (1 ≤ most) × (most ≤ 64)
+IsQuestion (Port number call) = (1 ≤ number) × (number ≤ 7)
+IsQuestion Wait = Unit {0}

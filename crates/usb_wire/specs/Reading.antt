@@ -1,0 +1,162 @@
+-- How lines are read, for the private functions.
+use Rattle.std.specs.Prelude.{ℕ, ◌&&◌, ◌||◌, nat_lt, ◌==◌, Bool, true, false, List, [], ◌∷◌, length, codes, Option, Some, None, ok_or, Result, Ok, Err, if◌then◌else◌}
+use Rattle.std.specs.Str.{bytes_eq}
+use Rattle.usb_packet.specs.declared.Toggle.{Toggle}
+use Rattle.usb_packet.specs.declared.Toggle.TheVariants.{Zero, One as OneToggle}
+use Rattle.usb_port.specs.Path.{path_of}
+use Rattle.usb_wire.specs.declared.answer.Answer.{Answer}
+use Rattle.usb_wire.specs.declared.answer.Answer.TheVariants.{Roots, Ack, Nak, Stall, Nothing, Data, Done, Show, End, Send, Receive, Clear}
+use Rattle.usb_wire.specs.declared.answer.Said.{Said}
+use Rattle.usb_wire.specs.declared.answer.Said.TheVariants.{Changed, Answered}
+use Rattle.usb_wire.specs.declared.fault.WireFault.{WireFault}
+use Rattle.usb_wire.specs.declared.fault.WireFault.TheVariants.{LineTooLong, BadCharacter, NoAnswer, BadHex, BadLength, BadNumber, BadPath}
+use Rattle.usb_wire.specs.declared.question.Asked.{Asked}
+use Rattle.usb_wire.specs.declared.question.Asked.TheVariants.{Hello, Attempt, Port, Wait}
+use Rattle.usb_wire.specs.declared.words.Words.{Words}
+use Rattle.usb_wire.specs.declared.words.Words.TheVariants.{One, Two, Three, More}
+use Rattle.usb_wire.specs.Fields.{hex_length, hex_value, is_dash, is_hex, number_within}
+use Rattle.usb_wire.specs.Words.{all_printable, words}
+
+infixl 10 ◌>>=◌
+abbrev pub ◌>>=◌ : {A B : Type 0} → Result A WireFault → (A → Result B WireFault) → Result B WireFault
+(Ok x) >>= f = f x
+(Err e) >>= f = Err e
+
+-- the fault that was told
+abbrev pub fault_in : {A : Type 0} → Result A WireFault → Option WireFault
+fault_in (Ok x) = None
+fault_in (Err e) = Some e
+
+-- what was read, seen by a view
+abbrev pub result_map : {A B : Type 0} → (A → B) → Result A WireFault → Result B WireFault
+result_map view (Ok x) = Ok (view x)
+result_map view (Err e) = Err e
+
+-- how many bytes a word spells
+unfoldable pub count_in : List ℕ → Result ℕ WireFault
+count_in word = if is_dash word || is_hex word then Ok (hex_length word) else Err BadHex
+
+unfoldable pub bytes_in : List ℕ → Result (List ℕ) WireFault
+bytes_in word = do
+  count ← count_in word
+  if nat_lt 64 count then Err BadLength else ok_or (hex_value word) BadHex
+
+unfoldable pub status_in : List ℕ → Result (List ℕ) WireFault
+status_in word = do
+  count ← count_in word
+  if count == 4 then ok_or (hex_value word) BadHex else Err BadLength
+
+unfoldable pub number_in : ℕ → ℕ → List ℕ → Result ℕ WireFault
+number_in least most word = ok_or (number_within least most word) BadNumber
+
+unfoldable pub path_in : List ℕ → Result (List ℕ) WireFault
+path_in word = ok_or (path_of word) BadPath
+
+-- the answers of one word
+unfoldable pub alone : Asked → List ℕ → Result Answer WireFault
+alone Hello word = Err NoAnswer
+alone Attempt word =
+    if bytes_eq word (codes "ACK") then Ok Ack
+    else if bytes_eq word (codes "NAK") then Ok Nak
+    else if bytes_eq word (codes "STALL") then Ok Stall
+    else if bytes_eq word (codes "none") then Ok Nothing
+    else Err NoAnswer
+alone Port word = if bytes_eq word (codes "ok") then Ok Done else Err NoAnswer
+alone Wait word =
+    if bytes_eq word (codes "ok") then Ok Done
+    else if bytes_eq word (codes "show") then Ok Show
+    else if bytes_eq word (codes "end") then Ok End
+    else Err NoAnswer
+
+unfoldable pub roots_answer : List ℕ → Result Answer WireFault
+roots_answer word = do
+  roots ← number_in 1 7 word
+  Ok (Roots roots)
+
+unfoldable pub data_answer : Toggle → List ℕ → Result Answer WireFault
+data_answer toggle word = do
+  bytes ← bytes_in word
+  Ok (Data (record { toggle = toggle; bytes = record { items = bytes } }))
+
+unfoldable pub clear_answer : List ℕ → Result Answer WireFault
+clear_answer word = do
+  path ← path_in word
+  Ok (Clear path)
+
+-- the answers of two words
+unfoldable pub with_one : Asked → List ℕ → List ℕ → Result Answer WireFault
+with_one Hello word argument = if bytes_eq word (codes "roots") then roots_answer argument else Err NoAnswer
+with_one Attempt word argument =
+    if bytes_eq word (codes "DATA0") then data_answer Zero argument
+    else if bytes_eq word (codes "DATA1") then data_answer OneToggle argument
+    else Err NoAnswer
+with_one Port word argument = Err NoAnswer
+with_one Wait word argument = if bytes_eq word (codes "clear") then clear_answer argument else Err NoAnswer
+
+unfoldable pub send_answer : List ℕ → List ℕ → Result Answer WireFault
+send_answer first second = do
+  bytes ← bytes_in second
+  path ← path_in first
+  Ok (Send path (record { items = bytes }))
+
+unfoldable pub receive_answer : List ℕ → List ℕ → Result Answer WireFault
+receive_answer first second = do
+  packets ← number_in 0 1000 second
+  path ← path_in first
+  Ok (Receive path packets)
+
+-- the answers of three words
+unfoldable pub with_two : Asked → List ℕ → List ℕ → List ℕ → Result Answer WireFault
+with_two Wait word first second =
+    if bytes_eq word (codes "send") then send_answer first second
+    else if bytes_eq word (codes "receive") then receive_answer first second
+    else Err NoAnswer
+with_two _ word first second = Err NoAnswer
+
+-- the status of a root port
+unfoldable pub pushed : ℕ → List ℕ → List ℕ → Result Said WireFault
+pushed count first second = do
+  status ← status_in second
+  number ← number_in 1 count first
+  Ok (Changed number status)
+
+abbrev pub may_push : Asked → Bool
+may_push Hello = false
+may_push _ = true
+
+abbrev pub answered : Result Answer WireFault → Result Said WireFault
+answered (Ok answer) = Ok (Answered answer)
+answered (Err fault) = Err fault
+
+-- what three words say
+unfoldable pub three_say : Asked → ℕ → List ℕ → List ℕ → List ℕ → Result Said WireFault
+three_say asked count word first second =
+    if may_push asked && bytes_eq word (codes "port") then pushed count first second
+    else answered (with_two asked word first second)
+
+-- what words say
+unfoldable pub words_say : Asked → ℕ → List (List ℕ) → Result Said WireFault
+words_say asked count [] = Err NoAnswer
+words_say asked count (word ∷ []) = answered (alone asked word)
+words_say asked count (word ∷ argument ∷ []) = answered (with_one asked word argument)
+words_say asked count (word ∷ first ∷ second ∷ []) = three_say asked count word first second
+words_say asked count (word ∷ first ∷ second ∷ third ∷ more) = Err NoAnswer
+
+unfoldable pub shape_says : Asked → ℕ → Words → Result Said WireFault
+shape_says asked count (One word) = answered (alone asked word.now)
+shape_says asked count (Two word argument) = answered (with_one asked word.now argument.now)
+shape_says asked count (Three word first second) = three_say asked count word.now first.now second.now
+shape_says asked count More = Err NoAnswer
+
+-- what is wrong with the text of a line
+unfoldable pub text_in : List ℕ → Result (List ℕ) WireFault
+text_in line =
+    if nat_lt 1024 (length line) then Err LineTooLong
+    else if all_printable line then Ok line
+    else Err BadCharacter
+
+-- what a line says
+unfoldable pub line_says : Asked → ℕ → List ℕ → Result Said WireFault
+line_says asked count line = do
+  text ← text_in line
+  words_say asked count (words text)

@@ -1,0 +1,162 @@
+//! What the far end says, and its lines.
+ghost use Rattle.std.specs.Prelude.{◌≡◌, ◌∷◌, ◌++◌, ◌+◌, ◌<◌, ◌≤◌, [], length};
+ghost use Rattle.hex.specs.Hex.{encode_upper};
+ghost use Rattle.usb_packet.specs.Text.{hex_text};
+ghost use Rattle.usb_port.specs.Path.{path_text};
+ghost use Rattle.usb_wire.specs.Answers.{said_line};
+
+use crate::question::{DataPacket, push_data};
+use arrayvec::{ArrayString, ArrayVec};
+use usb_packet::{hex_digits, push_decimal};
+use usb_port::PortPath;
+
+/// The answer to a question.
+#[derive(Debug, Drop)]
+pub enum Answer {
+    /// To the hello: how many root ports there are, 1 to 7.
+    Roots(u8),
+    /// To an attempt: the data came through (8.4.5).
+    Ack,
+    /// To an attempt: nothing to give, or no room now (8.4.5).
+    Nak,
+    /// To an attempt: halted, or a request refused (8.4.5).
+    Stall,
+    /// To an attempt: no good answer came.
+    Nothing,
+    /// To an attempt: the data that came.
+    Data(DataPacket),
+    /// To a call at a root port: it was made. Where the host asks what is wanted: nothing.
+    Done,
+    /// What is wanted: a listing.
+    Show,
+    /// What is wanted: the end.
+    End,
+    /// What is wanted: to send bytes to the bulk endpoint of the device at a port (5.8).
+    Send {
+        path: PortPath,
+        bytes: ArrayVec<u8, 64>,
+    },
+    /// What is wanted: to receive from the bulk endpoint of the device at a port (5.8).
+    Receive {
+        path: PortPath,
+        /// The most packets, 0 to 1,000.
+        packets: u16,
+    },
+    /// What is wanted: to clear the halts of the bulk endpoints of the device at a port (9.4.1).
+    Clear(PortPath),
+}
+
+/// What one line of the far end says.
+#[derive(Debug, Drop)]
+pub enum Said {
+    /// The status of a root port is another than it was when it was last told.
+    Changed {
+        /// The root port's number, from 1 on.
+        number: u8,
+        /// wPortStatus and wPortChange, each low byte first (11.24.2.7).
+        status: [u8; 4],
+    },
+    /// The answer to the question.
+    Answered(Answer),
+}
+
+/// The line of what is said, without the newline.
+pub fn said_line(said: &Said) -> ArrayString<700>
+    ensures { result.bytes ≡ said_line said.now }
+{
+    let mut line = ArrayString::new();
+    match said {
+        Said::Changed { number, status } => {
+            line.push_str("port ");
+            push_decimal(&mut line, u64::from(*number));
+            line.push(' ');
+            push_bytes(&mut line, status);
+        }
+        Said::Answered(answer) => push_answer(&mut line, answer),
+    }
+    line
+}
+
+fn push_answer(line: &mut ArrayString<700>, answer: &Answer)
+    requires { line.old.bytes ≡ [] }
+    ensures { line.new.bytes ≡ said_line (Said.Answered answer.now) }
+{
+    match answer {
+        Answer::Roots(roots) => {
+            line.push_str("roots ");
+            push_decimal(line, u64::from(*roots));
+        }
+        Answer::Data(sent) => push_data(line, sent.toggle, sent.bytes.as_slice()),
+        Answer::Send { path, bytes } => {
+            push_path(line, "send ", path);
+            line.push(' ');
+            push_bytes(line, bytes.as_slice());
+        }
+        Answer::Receive { path, packets } => {
+            push_path(line, "receive ", path);
+            line.push(' ');
+            push_decimal(line, u64::from(*packets));
+        }
+        Answer::Clear(path) => push_path(line, "clear ", path),
+        Answer::Ack => line.push_str("ACK"),
+        Answer::Nak => line.push_str("NAK"),
+        Answer::Stall => line.push_str("STALL"),
+        Answer::Nothing => line.push_str("none"),
+        Answer::Done => line.push_str("ok"),
+        Answer::Show => line.push_str("show"),
+        Answer::End => line.push_str("end"),
+    }
+}
+
+/// A word and a path.
+fn push_path(line: &mut ArrayString<700>, word: &str, path: &PortPath)
+    requires room { length line.old.bytes ≤ 600 }
+    requires short { length word.now ≤ 20 }
+    ensures text { line.new.bytes ≡ line.old.bytes ++ word.now ++ path_text path.now }
+    ensures few { length line.new.bytes ≤ length line.old.bytes + 33 }
+{
+    line.push_str(word);
+    line.push_str(path.text().as_str());
+}
+
+/// Bytes in upper-case hexadecimal digits, a dash where there are none.
+fn push_bytes(line: &mut ArrayString<700>, bytes: &[u8])
+    requires room { length line.old.bytes ≤ 500 }
+    requires few { length bytes.now ≤ 64 }
+    ensures { line.new.bytes ≡ line.old.bytes ++ hex_text bytes.now }
+{
+    if bytes.is_empty() {
+        line.push('-');
+    } else {
+        push_digits(line, bytes);
+    }
+}
+
+/// Bytes in upper-case hexadecimal digits.
+fn push_digits(line: &mut ArrayString<700>, bytes: &[u8])
+    requires room { length line.old.bytes ≤ 500 }
+    requires few { length bytes.now ≤ 64 }
+    ensures { line.new.bytes ≡ line.old.bytes ++ encode_upper bytes.now }
+{
+    'bytes: for byte in bytes {
+        push_byte(line, *byte);
+    }
+}
+
+/// The two hexadecimal digits of a byte.
+fn push_byte(line: &mut ArrayString<700>, byte: u8)
+    requires { length line.old.bytes ≤ 698 }
+    ensures { line.new.bytes ≡ line.old.bytes ++ encode_upper (byte ∷ []) }
+{
+    let [high, low] = hex_digits(byte);
+    push_ascii(line, high);
+    push_ascii(line, low);
+}
+
+fn push_ascii(line: &mut ArrayString<700>, byte: u8)
+    requires room { length line.old.bytes < 700 }
+    requires ascii { byte < 128 }
+    ensures { line.new.bytes ≡ line.old.bytes ++ byte ∷ [] }
+{
+    line.push(char::from(byte));
+}

@@ -1,0 +1,242 @@
+//! What a line of the host asks.
+ghost use Rattle.std.specs.Prelude.{◌≡◌, IfSome, option_map};
+ghost use Rattle.usb_packet.specs.declared.Toggle.TheVariants.{Zero};
+ghost use Rattle.usb_wire.specs.QuestionReading.{after_pre, asked_in, behind_pre, call_in, cut_at, data_behind, endpoint_in, in_question, out_question, port_question, question_of, setup_by, setup_in, setup_question, toggle_named, token_behind, token_in};
+ghost use Rattle.usb_wire.specs.Questions.{IsQuestion, IsQuestionLine};
+ghost use Rattle.usb_wire.specs.declared.question.Question.{Question as AQuestion};
+
+use crate::field::{bytes_in, number_in};
+use crate::question::{DataPacket, Endpoint, Question, Speed};
+use crate::reading::text_in;
+use usb_packet::Toggle;
+use usb_port::PortCall;
+use usb_request::Setup;
+
+/// The question that a line asks, without its newline; None for any other line.
+pub fn read_question(line: &[u8]) -> Option<Question>
+    // What is read is a question, and stands there.
+    ensures asked { IfSome result (λ q. IsQuestion q × IsQuestionLine line.now q) }
+    // A question that stands there is read.
+    ensures only { (q : AQuestion) → IsQuestion q → IsQuestionLine line.now q
+        → result ≡ Some q }
+{
+    question_of(line)
+}
+
+#[tactic(auto, unfolding(crate::specs::QuestionReading::question_of))]
+fn question_of(line: &[u8]) -> Option<Question>
+    ensures { result ≡ question_of line.now }
+{
+    let text = match text_in(line) {
+        Ok(text) => text,
+        Err(_) => return None,
+    };
+    match text {
+        "wait" => Some(Question::Wait),
+        "usbplan live 1" => Some(Question::Hello),
+        _ => asked_in(text),
+    }
+}
+
+/// The question of more than one word, but for the hello.
+#[tactic(auto, unfolding(crate::specs::QuestionReading::asked_in))]
+fn asked_in(text: &str) -> Option<Question>
+    ensures { result ≡ asked_in text.now }
+{
+    let (word, behind) = cut_space(text)?;
+    match word {
+        "port" => port_question(behind),
+        "low" => token_behind(Speed::Low, behind),
+        "PRE" => token_behind(Speed::LowBelowHub, behind),
+        _ => token_in(Speed::Full, word, behind),
+    }
+}
+
+/// What stands before the first space, and behind it.
+fn cut_space(text: &str) -> Option<(&str, &str)>
+    ensures { cut_at 32 text.now ≡ option_map (λ cut. (cut.0.now, cut.1.now)) result }
+{
+    text.split_once(' ')
+}
+
+/// What stands before the first dot, and behind it.
+fn cut_dot(text: &str) -> Option<(&str, &str)>
+    ensures { cut_at 46 text.now ≡ option_map (λ cut. (cut.0.now, cut.1.now)) result }
+{
+    text.split_once('.')
+}
+
+#[tactic(auto, unfolding(crate::specs::QuestionReading::token_behind))]
+fn token_behind(speed: Speed, text: &str) -> Option<Question>
+    ensures { result ≡ token_behind speed text.now }
+{
+    let (word, behind) = cut_space(text)?;
+    token_in(speed, word, behind)
+}
+
+/// An attempt, by the word of its token.
+#[tactic(auto, unfolding(crate::specs::QuestionReading::token_in))]
+fn token_in(speed: Speed, word: &str, text: &str) -> Option<Question>
+    ensures { result ≡ token_in speed word.now text.now }
+{
+    match word {
+        "SETUP" => setup_question(speed, text),
+        "OUT" => out_question(speed, text),
+        "IN" => in_question(speed, text),
+        _ => None,
+    }
+}
+
+#[tactic(auto, unfolding(crate::specs::QuestionReading::setup_question))]
+fn setup_question(speed: Speed, text: &str) -> Option<Question>
+    ensures { result ≡ setup_question speed text.now }
+{
+    let (device, behind) = cut_space(text)?;
+    let endpoint = endpoint_in(device)?;
+    let (toggle, digits) = data_behind(speed, behind)?;
+    let setup = setup_in(toggle, digits)?;
+    Some(Question::Setup {
+        speed,
+        endpoint,
+        setup,
+    })
+}
+
+#[tactic(auto, unfolding(crate::specs::QuestionReading::out_question))]
+fn out_question(speed: Speed, text: &str) -> Option<Question>
+    ensures { result ≡ out_question speed text.now }
+{
+    let (device, behind) = cut_space(text)?;
+    let endpoint = endpoint_in(device)?;
+    let (toggle, digits) = data_behind(speed, behind)?;
+    let bytes = bytes_in(digits).ok()?;
+    Some(Question::Out {
+        speed,
+        endpoint,
+        sent: DataPacket { toggle, bytes },
+    })
+}
+
+#[tactic(auto, unfolding(crate::specs::QuestionReading::in_question))]
+fn in_question(speed: Speed, text: &str) -> Option<Question>
+    ensures { result ≡ in_question speed text.now }
+{
+    let (device, behind) = cut_space(text)?;
+    let endpoint = endpoint_in(device)?;
+    let most = number_in(1, 64, behind).ok()?;
+    Some(Question::In {
+        speed,
+        endpoint,
+        most: most as u8,
+    })
+}
+
+/// An address and an endpoint, with a dot between them.
+#[tactic(auto, unfolding(crate::specs::QuestionReading::endpoint_in))]
+fn endpoint_in(word: &str) -> Option<Endpoint>
+    ensures { result ≡ endpoint_in word.now }
+{
+    let (address, number) = cut_dot(word)?;
+    let address = number_in(0, 127, address).ok()?;
+    let number = number_in(0, 15, number).ok()?;
+    Some(Endpoint {
+        address: address as u8,
+        number: number as u8,
+    })
+}
+
+/// The toggle and the digits of the host's data, behind a token and a space.
+#[tactic(auto, unfolding(crate::specs::QuestionReading::data_behind))]
+fn data_behind(speed: Speed, text: &str) -> Option<(Toggle, &str)>
+    ensures { data_behind speed text.now ≡ option_map (λ sent. (sent.0, sent.1.now)) result }
+{
+    let (slash, behind) = cut_space(text)?;
+    if slash != "/" {
+        return None;
+    }
+    let rest = after_pre(speed, behind)?;
+    let (name, digits) = cut_space(rest)?;
+    let toggle = toggle_named(name)?;
+    Some((toggle, digits))
+}
+
+/// What stands behind PRE, where it has to stand.
+#[tactic(auto, unfolding(crate::specs::QuestionReading::after_pre))]
+fn after_pre(speed: Speed, text: &str) -> Option<&str>
+    ensures { after_pre speed text.now ≡ option_map (λ rest. rest.now) result }
+{
+    match speed {
+        Speed::Full | Speed::Low => Some(text),
+        Speed::LowBelowHub => behind_pre(text),
+    }
+}
+
+#[tactic(auto, unfolding(crate::specs::QuestionReading::behind_pre))]
+fn behind_pre(text: &str) -> Option<&str>
+    ensures { behind_pre text.now ≡ option_map (λ rest. rest.now) result }
+{
+    let (word, behind) = cut_space(text)?;
+    if word == "PRE" { Some(behind) } else { None }
+}
+
+#[tactic(auto, unfolding(crate::specs::QuestionReading::toggle_named))]
+fn toggle_named(word: &str) -> Option<Toggle>
+    ensures { result ≡ toggle_named word.now }
+{
+    match word {
+        "DATA0" => Some(Toggle::Zero),
+        "DATA1" => Some(Toggle::One),
+        _ => None,
+    }
+}
+
+/// Setup data: eight bytes, in DATA0.
+#[tactic(auto, unfolding(crate::specs::QuestionReading::setup_in))]
+fn setup_in(toggle: Toggle, digits: &str) -> Option<Setup>
+    ensures { result ≡ setup_in toggle digits.now }
+{
+    let bytes = bytes_in(digits).ok()?;
+    match toggle {
+        Toggle::Zero => setup_by(bytes.as_slice()),
+        Toggle::One => None,
+    }
+}
+
+fn setup_by(bytes: &[u8]) -> Option<Setup>
+    ensures { result ≡ setup_by Zero bytes.now }
+{
+    match <[u8; 8]>::try_from(bytes) {
+        Ok(bytes) => Some(Setup::from_bytes(bytes)),
+        Err(_) => None,
+    }
+}
+
+#[tactic(auto, unfolding(crate::specs::QuestionReading::port_question))]
+fn port_question(text: &str) -> Option<Question>
+    ensures { result ≡ port_question text.now }
+{
+    let (number, behind) = cut_space(text)?;
+    let number = number_in(1, 7, number).ok()?;
+    let call = call_in(behind)?;
+    Some(Question::Port {
+        number: number as u8,
+        call,
+    })
+}
+
+/// A call of a root port, by the name of its feature (table 11-17).
+#[tactic(auto, unfolding(crate::specs::QuestionReading::call_in))]
+fn call_in(text: &str) -> Option<PortCall>
+    ensures { result ≡ call_in text.now }
+{
+    match text {
+        "set PORT_POWER" => Some(PortCall::SetPower),
+        "set PORT_RESET" => Some(PortCall::SetReset),
+        "clear PORT_ENABLE" => Some(PortCall::ClearEnable),
+        "clear PORT_POWER" => Some(PortCall::ClearPower),
+        "clear C_PORT_CONNECTION" => Some(PortCall::ClearConnectionChange),
+        "clear C_PORT_ENABLE" => Some(PortCall::ClearEnableChange),
+        "clear C_PORT_RESET" => Some(PortCall::ClearResetChange),
+        _ => None,
+    }
+}

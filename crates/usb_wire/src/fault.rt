@@ -1,0 +1,28 @@
+//! What is wrong with a line.
+use thiserror::Error;
+
+/// Why a line of the far end says nothing, in the order in which the reasons are told.
+#[derive(Clone, Copy, Debug, PartialEq, Eq, Error)]
+pub enum WireFault {
+    /// It has more than 1,024 bytes.
+    #[error("line too long")]
+    LineTooLong,
+    /// A byte is no printable ASCII.
+    #[error("bad character")]
+    BadCharacter,
+    /// It is no answer to the question and no status of a root port, or has words too many or too few.
+    #[error("no answer")]
+    NoAnswer,
+    /// Where bytes stand is neither pairs of hexadecimal digits nor a dash.
+    #[error("bad hex")]
+    BadHex,
+    /// There are more than 64 bytes of data, or not 4 of a status.
+    #[error("bad length")]
+    BadLength,
+    /// Where a number stands is none, or one that is out of its range.
+    #[error("bad number")]
+    BadNumber,
+    /// Where a path stands is none: 1 to 7 numbers of ports, each 1 to 7, with dots between them.
+    #[error("bad path")]
+    BadPath,
+}

@@ -1,0 +1,135 @@
+//! What single words stand for: bytes, numbers and paths.
+ghost use Rattle.std.specs.Prelude.{◌≡◌, ◌≤◌, IfOk, MatchResult, false, length, take, true};
+ghost use Rattle.std.specs.Char.{is_ascii_digit};
+ghost use Rattle.std.specs.List.{list_all};
+ghost use Rattle.hex.specs.Hex.{decode_sized, is_hex_digit};
+ghost use Rattle.usb_wire.specs.Fields.{is_decimal, is_hex};
+ghost use Rattle.usb_wire.specs.Reading.{bytes_in, count_in, number_in, path_in, result_map, status_in};
+
+use crate::fault::WireFault;
+use arrayvec::ArrayVec;
+use hex::FromHex;
+use usb_port::PortPath;
+
+/// At most 64 bytes.
+#[tactic(auto, unfolding(crate::specs::Reading::bytes_in))]
+pub(crate) fn bytes_in(word: &str) -> Result<ArrayVec<u8, 64>, WireFault>
+    ensures { bytes_in word.now ≡ result_map (λ b. b.items) result }
+{
+    let count = count_in(word)?;
+    if count > 64 {
+        return Err(WireFault::BadLength);
+    }
+    if count == 0 {
+        return Ok(ArrayVec::new());
+    }
+    let mut decoded = [0; 64];
+    if !decode_into(word, count, &mut decoded) {
+        return Err(WireFault::BadHex);
+    }
+    Ok(few_bytes(&decoded[..count]))
+}
+
+/// Decodes pairs of digits into so many bytes at the front, and says whether they are as many.
+fn decode_into(word: &str, count: usize, decoded: &mut [u8]) -> bool
+    requires { count ≤ length decoded.old }
+    ensures { MatchResult (decode_sized word.now count)
+        (λ bytes. (result ≡ true) × (take count decoded.new ≡ bytes)) (λ e. result ≡ false) }
+{
+    hex::decode_to_slice(word.as_bytes(), &mut decoded[..count]).is_ok()
+}
+
+/// At most 64 bytes as they are.
+pub(crate) fn few_bytes(bytes: &[u8]) -> ArrayVec<u8, 64>
+    requires { length bytes.now ≤ 64 }
+    ensures { result.items ≡ bytes.now }
+{
+    let mut few = ArrayVec::new();
+    few.try_extend_from_slice(bytes).unwrap();
+    few
+}
+
+/// The four bytes of a status.
+#[tactic(auto, unfolding(crate::specs::Reading::status_in))]
+pub(crate) fn status_in(word: &str) -> Result<[u8; 4], WireFault>
+    ensures { result ≡ status_in word.now }
+{
+    if count_in(word)? != 4 {
+        return Err(WireFault::BadLength);
+    }
+    match <[u8; 4]>::from_hex(word.as_bytes()) {
+        Ok(status) => Ok(status),
+        Err(_) => Err(WireFault::BadHex),
+    }
+}
+
+/// How many bytes a word spells, in pairs of digits or by a dash.
+#[tactic(auto, unfolding(crate::specs::Reading::count_in))]
+fn count_in(word: &str) -> Result<usize, WireFault>
+    ensures { result ≡ count_in word.now }
+{
+    if word == "-" {
+        return Ok(0);
+    }
+    if !is_hex(word.as_bytes()) {
+        return Err(WireFault::BadHex);
+    }
+    Ok(word.len() / 2)
+}
+
+/// Pairs of hexadecimal digits, of either case.
+fn is_hex(word: &[u8]) -> bool
+    ensures { result ≡ is_hex word.now }
+{
+    !word.is_empty() && word.len() % 2 == 0 && all_hex_digits(word)
+}
+
+fn all_hex_digits(word: &[u8]) -> bool
+    ensures { result ≡ list_all is_hex_digit word.now }
+{
+    word.iter().all(|digit| is_hex_digit(*digit))
+}
+
+fn is_hex_digit(digit: u8) -> bool
+    ensures { result ≡ is_hex_digit digit }
+{
+    matches!(digit, b'0'..=b'9' | b'A'..=b'F' | b'a'..=b'f')
+}
+
+/// A number in a range, in decimal digits with no zero before them.
+#[tactic(auto, unfolding(crate::specs::Reading::number_in))]
+pub(crate) fn number_in(least: u64, most: u64, word: &str) -> Result<u64, WireFault>
+    ensures value { result ≡ number_in least most word.now }
+    ensures within { IfOk result (λ n. (least ≤ n) × (n ≤ most)) }
+{
+    if !is_decimal(word.as_bytes()) {
+        return Err(WireFault::BadNumber);
+    }
+    let Ok(number) = word.parse::<u64>() else {
+        return Err(WireFault::BadNumber);
+    };
+    if least <= number && number <= most {
+        Ok(number)
+    } else {
+        Err(WireFault::BadNumber)
+    }
+}
+
+fn is_decimal(word: &[u8]) -> bool
+    ensures { result ≡ is_decimal word.now }
+{
+    !word.is_empty() && all_digits(word) && (word.len() == 1 || word[0] != b'0')
+}
+
+fn all_digits(word: &[u8]) -> bool
+    ensures { result ≡ list_all is_ascii_digit word.now }
+{
+    word.iter().all(|digit| digit.is_ascii_digit())
+}
+
+#[tactic(auto, unfolding(crate::specs::Reading::path_in))]
+pub(crate) fn path_in(word: &str) -> Result<PortPath, WireFault>
+    ensures { result ≡ path_in word.now }
+{
+    PortPath::from_text(word).ok_or(WireFault::BadPath)
+}

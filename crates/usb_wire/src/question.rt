@@ -1,0 +1,232 @@
+//! What the host asks the far end, and its lines.
+ghost use Rattle.std.specs.Prelude.{◌≡◌, ◌++◌, ◌+◌, ◌≤◌, [], length};
+ghost use Rattle.usb_packet.specs.declared.Toggle.TheVariants.{Zero};
+ghost use Rattle.usb_packet.specs.Text.{hex_text};
+ghost use Rattle.usb_request.specs.Layout.{bytes_of};
+ghost use Rattle.usb_wire.specs.Questions.{asked_by, call_text, data_with, pre_text, question_line, speed_text, token_text};
+
+use crate::field::few_bytes;
+use arrayvec::{ArrayString, ArrayVec};
+use usb_packet::{Packet, Toggle, TokenKind, push_decimal, push_packet};
+use usb_port::PortCall;
+use usb_request::Setup;
+
+/// How fast a device is, and where (8.6.5).
+#[derive(Clone, Copy, Debug, PartialEq, Eq)]
+pub enum Speed {
+    /// Full speed.
+    Full,
+    /// Low speed, at a root port.
+    Low,
+    /// Low speed, below a hub: PRE stands before each packet of the host.
+    LowBelowHub,
+}
+
+/// An endpoint of the device at an address (8.3.2).
+#[derive(Clone, Copy, Debug, PartialEq, Eq)]
+pub struct Endpoint {
+    /// The device's address, 0 to 127.
+    pub address: u8,
+    /// The endpoint's number, 0 to 15.
+    pub number: u8,
+}
+
+/// A data packet (8.4.4).
+#[derive(Debug, Drop)]
+pub struct DataPacket {
+    /// Which of the two data PIDs it has (8.6).
+    pub toggle: Toggle,
+    /// Its data: 0 to 64 bytes.
+    pub bytes: ArrayVec<u8, 64>,
+}
+
+/// What the host asks: one attempt, one call at a root port, or what is wanted.
+#[derive(Debug, Drop)]
+pub enum Question {
+    /// The first question, with the protocol's version.
+    Hello,
+    /// An attempt to send setup data, in DATA0 (8.5.3).
+    Setup {
+        speed: Speed,
+        endpoint: Endpoint,
+        setup: Setup,
+    },
+    /// An attempt to send data (8.5.1).
+    Out {
+        speed: Speed,
+        endpoint: Endpoint,
+        sent: DataPacket,
+    },
+    /// An attempt to have data sent (8.5.1).
+    In {
+        speed: Speed,
+        endpoint: Endpoint,
+        /// The most bytes of the endpoint's packets, 1 to 64.
+        most: u8,
+    },
+    /// A call at a root port (11.24).
+    Port {
+        /// The root port's number, 1 to 7.
+        number: u8,
+        call: PortCall,
+    },
+    /// The host has nothing left to do, and asks what is wanted.
+    Wait,
+}
+
+/// Which answers a question has.
+#[derive(Clone, Copy, Debug, PartialEq, Eq)]
+pub enum Asked {
+    /// That of the hello.
+    Hello,
+    /// Those of an attempt.
+    Attempt,
+    /// That of a call at a root port.
+    Port,
+    /// What may be wanted.
+    Wait,
+}
+
+impl Question {
+    /// Which answers the question has.
+    pub fn asked(&self) -> Asked
+        ensures { result ≡ asked_by self.now }
+    {
+        match self {
+            Question::Hello => Asked::Hello,
+            Question::Setup { .. } | Question::Out { .. } | Question::In { .. } => Asked::Attempt,
+            Question::Port { .. } => Asked::Port,
+            Question::Wait => Asked::Wait,
+        }
+    }
+}
+
+/// The question's line, without the newline.
+pub fn question_line(question: &Question) -> ArrayString<700>
+    ensures { result.bytes ≡ question_line question.now }
+{
+    let mut line = ArrayString::new();
+    match question {
+        Question::Hello => line.push_str("usbplan live 1"),
+        Question::Setup {
+            speed,
+            endpoint,
+            setup,
+        } => {
+            push_token(&mut line, *speed, TokenKind::SetupTok, *endpoint);
+            push_between(&mut line, *speed);
+            push_setup(&mut line, *setup);
+        }
+        Question::Out {
+            speed,
+            endpoint,
+            sent,
+        } => {
+            push_token(&mut line, *speed, TokenKind::OutTok, *endpoint);
+            push_between(&mut line, *speed);
+            push_data(&mut line, sent.toggle, sent.bytes.as_slice());
+        }
+        Question::In {
+            speed,
+            endpoint,
+            most,
+        } => {
+            push_token(&mut line, *speed, TokenKind::InTok, *endpoint);
+            line.push(' ');
+            push_decimal(&mut line, u64::from(*most));
+        }
+        Question::Port { number, call } => push_call(&mut line, *number, *call),
+        Question::Wait => line.push_str("wait"),
+    }
+    line
+}
+
+/// A token, as its device hears it.
+fn push_token(line: &mut ArrayString<700>, speed: Speed, kind: TokenKind, endpoint: Endpoint)
+    requires { length line.old.bytes ≤ 400 }
+    ensures text { line.new.bytes
+        ≡ line.old.bytes ++ (speed_text speed ++ token_text kind endpoint) }
+    ensures few { length line.new.bytes ≤ length line.old.bytes + 140 }
+{
+    line.push_str(speed_text(speed));
+    let token = Packet::Token {
+        kind,
+        addr: endpoint.address,
+        ep: endpoint.number,
+    };
+    push_packet(line, &token);
+}
+
+/// What stands between a token and the host's data.
+fn push_between(line: &mut ArrayString<700>, speed: Speed)
+    requires { length line.old.bytes ≤ 560 }
+    ensures text { line.new.bytes ≡ line.old.bytes ++ pre_text speed }
+    ensures few { length line.new.bytes ≤ length line.old.bytes + 7 }
+{
+    line.push_str(match speed {
+        Speed::Full | Speed::Low => " / ",
+        Speed::LowBelowHub => " / PRE ",
+    });
+}
+
+/// The words of a device's speed before a token.
+fn speed_text(speed: Speed) -> &'static str
+    ensures value { result.now ≡ speed_text speed }
+    ensures short { length result.now ≤ 4 }
+{
+    match speed {
+        Speed::Full => "",
+        Speed::Low => "low ",
+        Speed::LowBelowHub => "PRE ",
+    }
+}
+
+/// Setup data, in DATA0.
+fn push_setup(line: &mut ArrayString<700>, setup: Setup)
+    requires { length line.old.bytes ≤ 560 }
+    ensures { line.new.bytes ≡ line.old.bytes ++ data_with Zero (hex_text (bytes_of setup)) }
+{
+    push_data(line, Toggle::Zero, &setup.to_bytes());
+}
+
+/// A data packet.
+pub(crate) fn push_data(line: &mut ArrayString<700>, toggle: Toggle, bytes: &[u8])
+    requires room { length line.old.bytes ≤ 560 }
+    requires few { length bytes.now ≤ 64 }
+    ensures { line.new.bytes ≡ line.old.bytes ++ data_with toggle (hex_text bytes.now) }
+{
+    push_packet(
+        line,
+        &Packet::Payload {
+            toggle,
+            bytes: few_bytes(bytes),
+        },
+    );
+}
+
+/// A root port and a call of it.
+fn push_call(line: &mut ArrayString<700>, number: u8, call: PortCall)
+    requires { line.old.bytes ≡ [] }
+    ensures { line.new.bytes ≡ question_line (Question.Port number call) }
+{
+    line.push_str("port ");
+    push_decimal(line, u64::from(number));
+    line.push(' ');
+    line.push_str(call_text(call));
+}
+
+/// A call of a root port, by the name of its feature (table 11-17).
+fn call_text(call: PortCall) -> &'static str
+    ensures value { result.now ≡ call_text call }
+    ensures short { length result.now ≤ 40 }
+{
+    match call {
+        PortCall::SetPower => "set PORT_POWER",
+        PortCall::SetReset => "set PORT_RESET",
+        PortCall::ClearEnable => "clear PORT_ENABLE",
+        PortCall::ClearPower => "clear PORT_POWER",
+        PortCall::ClearConnectionChange => "clear C_PORT_CONNECTION",
+        PortCall::ClearEnableChange => "clear C_PORT_ENABLE",
+        PortCall::ClearResetChange => "clear C_PORT_RESET",
+    }
+}

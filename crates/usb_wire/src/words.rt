@@ -1,0 +1,36 @@
+//! The words of a line.
+ghost use Rattle.std.specs.Prelude.{◌≡◌, ◌∷◌, [], MatchOption};
+ghost use Rattle.usb_wire.specs.Words.{AreWords, words};
+
+/// The words of a line, one space apart.
+#[derive(Clone, Copy)]
+pub(crate) enum Words<'a> {
+    One(&'a str),
+    Two(&'a str, &'a str),
+    Three(&'a str, &'a str, &'a str),
+    /// Four and more.
+    More,
+}
+
+pub(crate) fn words_of(line: &str) -> Words<'_>
+    ensures { AreWords (words line.now) result }
+{
+    let Some((first, behind)) = first_word(line) else {
+        return Words::One(line);
+    };
+    let Some((second, third)) = first_word(behind) else {
+        return Words::Two(first, behind);
+    };
+    match first_word(third) {
+        None => Words::Three(first, second, third),
+        Some(_) => Words::More,
+    }
+}
+
+/// The first word, and what stands behind the space that follows it; None where there is one word.
+fn first_word(line: &str) -> Option<(&str, &str)>
+    ensures { MatchOption result (words line.now ≡ line.now ∷ [])
+        (λ cut. words line.now ≡ cut.0.now ∷ words cut.1.now) }
+{
+    line.split_once(' ')
+}
