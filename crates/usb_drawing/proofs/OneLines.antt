@@ -26,8 +26,9 @@ use Rattle.usb_text.specs.ListingLines.{escaped_text, is_plain_unit, unit_text}
 use Rattle.usb_drawing.specs.declared.art.Style.{Style}
 use Rattle.usb_drawing.specs.declared.art.Style.TheVariants.{Lines, Ascii}
 use Rattle.usb_drawing.specs.Art.{art, branch, goes_on, trunk, trunks}
-use Rattle.usb_drawing.specs.declared.class.ClassCodes.{ClassCodes}
-use Rattle.usb_drawing.specs.Classes.{class_text, class_word, codes_of, hid_word, ports_text, word_or_number}
+use Rattle.usb_class.specs.declared.class.ClassCodes.{ClassCodes}
+use Rattle.usb_class.specs.Classes.{class_text, class_word, hid_word, word_or_number}
+use Rattle.usb_drawing.specs.Classes.{codes_of, ports_text}
 use Rattle.usb_drawing.specs.Devices.{address_column, cause_number, cause_words, device_text, finding_text, identity_text, ids_text, power_text, speed_column, stall_words, strings_text, supply_text, word_digits}
 use Rattle.usb_drawing.specs.Drawings.{IsOneLine, deepest, drawing_lines, entry_line, entry_lines, gap, granted_at, heading, is_unbroken}
 use Rattle.usb_drawing.specs.Texts.{is_pair, is_shown, labelled_text, shown_or_escaped, shown_unit, shown_units, string_text}

@@ -12,7 +12,8 @@ use Rattle.usb_enum.specs.declared.strings.Strings.{Strings}
 use Rattle.usb_enum.specs.Device.{configuration_of}
 use Rattle.usb_enum.specs.Text.{need_of}
 use Rattle.usb_drawing.specs.declared.art.Style.{Style}
-use Rattle.usb_drawing.specs.Classes.{class_text, codes_of, ports_text}
+use Rattle.usb_class.specs.Classes.{class_text}
+use Rattle.usb_drawing.specs.Classes.{codes_of, ports_text}
 use Rattle.usb_drawing.specs.Texts.{labelled_text}
 
 -- an address, with blanks up to three digits

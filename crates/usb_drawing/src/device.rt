@@ -3,10 +3,11 @@ ghost use Rattle.std.specs.Prelude.{◌≡◌, ◌+◌, ◌<◌, ◌++◌, lengt
 ghost use Rattle.usb_drawing.specs.Devices.{address_column, device_text, finding_text, identity_text, ids_text, power_text, speed_column, strings_text, word_digits};
 
 use crate::art::Style;
-use crate::class::{codes_of, push_class, push_ports};
+use crate::class::{codes_of, push_ports};
 use crate::refusal::push_refused;
 use crate::string::push_labelled;
 use std::alloc::{AllocError, Global};
+use usb_class::push_class;
 use usb_enum::{Accepted, Finding, Strings};
 use usb_text::push_decimal;
 

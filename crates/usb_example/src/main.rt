@@ -6,7 +6,7 @@ use anyhow::Result;
 use std::str;
 use usb_bus::{Bus, SimBus};
 use usb_enum::Finding;
-use usb_host::{Host, HostFault, Round};
+use usb_host::{Host, HostFault, PortPath, Round};
 use usb_plan::read_plan;
 
 /// The world, as a plan: one root port, and a device that is plugged there. Of its 32 bytes of configuration the last
@@ -26,6 +26,48 @@ path = "1"
 device = "stick"
 "#;
 
+fn main(rt: HostRuntime) -> Result<()> {
+    let plan = read_plan(rt.alloc(), WORLD)?;
+    let mut bus = SimBus::untraced(rt.alloc(), &plan)?;
+    // The first event of the plan: the device is plugged.
+    bus.apply_next_event()?;
+    let mut host = Host::new(rt.alloc(), bus);
+    settle(&mut host)?;
+    let tree = host.tree()?;
+    for (path, finding) in tree.entries() {
+        meet(&rt, &mut host, path, finding)?;
+    }
+    println!(rt; "{} attempts", host.bus().attempts())?;
+    Ok(())
+}
+
+/// Says what was found at a port, and talks to the device that was accepted there.
+fn meet<B: Bus>(
+    rt: &impl Print,
+    host: &mut Host<B>,
+    path: &PortPath,
+    finding: &Finding,
+) -> Result<()> {
+    let port = path.text();
+    match finding {
+        Finding::Refused(cause) => println!(rt; "port {port}: refused, {cause}")?,
+        Finding::Device(device) => {
+            let address = device.address.number();
+            println!(rt; "port {port}: a device at address {address}")?;
+            talk(rt, host, path)?;
+        }
+    }
+    Ok(())
+}
+
+/// Sends bytes to the device's bulk OUT endpoint, and prints a packet of its bulk IN endpoint.
+fn talk<B: Bus>(rt: &impl Print, host: &mut Host<B>, path: &PortPath) -> Result<()> {
+    host.send(path, b"Hello, device")?;
+    let bytes = host.receive(path, 1)?;
+    println!(rt; "it says: {}", str::from_utf8(bytes.as_slice())?)?;
+    Ok(())
+}
+
 /// Lets the host work until a round finds nothing more to do. It takes a few rounds; the count is there for the proof
 /// that this ends.
 fn settle<B: Bus>(host: &mut Host<B>) -> Result<(), HostFault> {
@@ -34,29 +76,5 @@ fn settle<B: Bus>(host: &mut Host<B>) -> Result<(), HostFault> {
             break;
         }
     }
-    Ok(())
-}
-
-fn main(rt: HostRuntime) -> Result<()> {
-    let plan = read_plan(rt.alloc(), WORLD)?;
-    let mut bus = SimBus::untraced(rt.alloc(), &plan)?;
-    // The first event of the plan: the device is plugged.
-    bus.apply_next_event()?;
-    let mut host = Host::new(rt.alloc(), bus);
-    settle(&mut host)?;
-    // What the host found, port by port.
-    for (path, finding) in host.tree()?.entries() {
-        match finding {
-            Finding::Device(device) => {
-                let address = device.address.number();
-                println!(rt; "port {}: a device at address {address}", path.text())?;
-                host.send(path, b"Hello, device")?;
-                let bytes = host.receive(path, 1)?;
-                println!(rt; "it says: {}", str::from_utf8(bytes.as_slice())?)?;
-            }
-            Finding::Refused(cause) => println!(rt; "port {}: refused, {cause}", path.text())?,
-        }
-    }
-    println!(rt; "{} attempts", host.bus().attempts())?;
     Ok(())
 }

@@ -1,10 +1,13 @@
 -- The program's command line, as `clap` reads it.
-use Rattle.std.specs.Prelude.{◌≡◌, Bool, List, ℕ, codes, Some, None, true, false}
+use Rattle.std.specs.Prelude.{◌≡◌, ◌≤◌, Bool, List, [], ◌∷◌, ℕ, codes, Some, None, true, false}
+use Rattle.std.specs.Str.Parse.{IsNumeral, digits_value, without_leading_plus}
 use Rattle.clap.specs.Walk.{Row, Rule, Text, first_of, one_of}
 use Rattle.clap.specs.Simple.{App, new_app, new_rule, with_rule, with_subcommand, subcommand_of}
 use Rattle.clap.specs.declared.builder.action.ArgAction.TheVariants.{Set, SetTrue}
+use Rattle.clap.specs.declared.builder.value_parser.ValueParser.TheVariants as parser
+use Rattle.usb_words.specs.declared.words.DeviceWords.{DeviceWords}
 use Rattle.usb_words.specs.declared.words.Words.{Words}
-use Rattle.usb_words.specs.declared.words.Words.TheVariants.{Stdin, Packet, Check, Tree, Draw, Run, Pcap}
+use Rattle.usb_words.specs.declared.words.Words.TheVariants.{Stdin, Packet, Check, Tree, Draw, Run, Pcap, Device}
 
 -- the one text that a subcommand wants
 abbrev pub text_rule : Rule
@@ -20,6 +23,16 @@ ascii_rule = record (new_rule (codes "ascii")) { long = Some (codes "ascii"); ac
 abbrev pub draw_app : App
 draw_app = with_rule (text_app (codes "draw")) ascii_rule
 
+-- the name that `device` wants before its file, and its number of ports, 1 to 7, which is 7 where it is left out
+abbrev pub name_rule : Rule
+name_rule = record (new_rule (codes "name")) { required = true; action = Some Set; value_names = 1 }
+
+abbrev pub ports_rule : Rule
+ports_rule = record (new_rule (codes "ports")) { long = Some (codes "ports"); action = Some Set; value_names = 1; parser = Some (parser.Unsigned 1 7); defaults = codes "7" ∷ [] }
+
+abbrev pub device_app : App
+device_app = with_rule (with_rule (with_rule (new_app (codes "device")) name_rule) text_rule) ports_rule
+
 -- the program takes its words without its name, and has a version
 abbrev pub plain_app : App
 plain_app = let app = new_app (codes "usbplan") in record app { top = record app.top { no_binary_name = true; has_version = true } }
@@ -33,7 +46,7 @@ abbrev pub first_app : App
 first_app = with_text (with_text (with_text plain_app (codes "packet")) (codes "check")) (codes "tree")
 
 abbrev pub program_app : App
-program_app = with_text (with_text (with_subcommand first_app draw_app.top) (codes "run")) (codes "pcap")
+program_app = with_subcommand (with_text (with_text (with_subcommand first_app draw_app.top) (codes "run")) (codes "pcap")) device_app.top
 
 -- clap reads this subcommand from the words, with this text
 pub record HasSubcommand (words : List Text) (name text : List ℕ) : Type 0 where
@@ -48,6 +61,23 @@ pub record ReadsDraw (words : List Text) (ascii : Bool) (text : List ℕ) : Type
   pub left_out : one_of (codes "ascii") command.rows ≡ Some (codes "false") → ascii ≡ false
   pub absent : one_of (codes "ascii") command.rows ≡ None → ascii ≡ false
 
+-- what clap reads from the words of `device`: its name, its file, and a numeral of 1 to 7
+pub record IsDevice (rows : List Row) (asked : DeviceWords) : Type 0 where
+  pub name : first_of (codes "name") rows ≡ Some asked.name.now
+  pub file : first_of (codes "text") rows ≡ Some asked.file.now
+  pub numeral : List ℕ
+  pub given : one_of (codes "ports") rows ≡ Some numeral
+  pub is_numeral : IsNumeral 10 (without_leading_plus numeral)
+  pub value : asked.ports ≡ digits_value 10 (without_leading_plus numeral)
+  pub least : 1 ≤ asked.ports
+  pub most : asked.ports ≤ 7
+
+-- clap reads `device` from the words, with these
+pub record ReadsDevice (words : List Text) (asked : DeviceWords) : Type 0 where
+  pub rows : List Row
+  pub subcommand : subcommand_of program_app words ≡ Some (codes "device", rows)
+  pub device : IsDevice rows asked
+
 -- what the words say, by the subcommand that clap reads from them and its text
 abbrev pub ReadsWords : List Text → Words → Type 0
 ReadsWords words Stdin = subcommand_of program_app words ≡ None
@@ -57,3 +87,4 @@ ReadsWords words (Tree text) = HasSubcommand words (codes "tree") text.now
 ReadsWords words (Draw ascii text) = ReadsDraw words ascii text.now
 ReadsWords words (Run text) = HasSubcommand words (codes "run") text.now
 ReadsWords words (Pcap text) = HasSubcommand words (codes "pcap") text.now
+ReadsWords words (Device asked) = ReadsDevice words asked

@@ -3,4 +3,4 @@
 
 mod words;
 
-pub use words::{WordFault, Words, read_words};
+pub use words::{DeviceWords, WordFault, Words, read_words};

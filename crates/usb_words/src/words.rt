@@ -1,9 +1,11 @@
 //! The words after the program's name.
-ghost use Rattle.std.specs.Prelude.{◌≡◌, IfOk, map, true, false};
+ghost use Rattle.std.specs.Prelude.{◌≡◌, IfOk, IfSome, map, true, false};
 ghost use Rattle.clap.specs.Simple.{app_of, subcommand_of, subcommand_rows_of, with_subcommand};
-ghost use Rattle.clap.specs.Walk.{rule_of};
-ghost use Rattle.usb_words.specs.CommandLine.{ReadsWords, draw_app, first_app, plain_app, program_app, text_app, text_rule, with_text};
+ghost use Rattle.clap.specs.Matches.{found_of};
+ghost use Rattle.clap.specs.Walk.{rows_of, rule_of};
+ghost use Rattle.usb_words.specs.CommandLine.{IsDevice, ReadsWords, device_app, draw_app, first_app, name_rule, plain_app, ports_rule, program_app, text_app, text_rule, with_text};
 
+use clap::builder::ValueParser;
 use clap::error::ErrorKind;
 use clap::{Arg, ArgAction, ArgMatches, Command, Error};
 use std::alloc::{AllocError, Global};
@@ -28,6 +30,19 @@ pub enum Words<'a> {
     Run(&'a str),
     /// The packets of a run, by the file of its text.
     Pcap(&'a str),
+    /// The entry of a plan that a device makes.
+    Device(DeviceWords<'a>),
+}
+
+/// What entry a device makes.
+#[derive(Clone, Copy, Debug)]
+pub struct DeviceWords<'a> {
+    /// The entry's name.
+    pub name: &'a str,
+    /// The file of the device's descriptors.
+    pub file: &'a str,
+    /// How many ports it has if it is a hub, 1 to 7.
+    pub ports: u8,
 }
 
 /// Why the words ask for nothing.
@@ -42,7 +57,7 @@ pub enum WordFault {
 }
 
 /// Reads the words after the program's name: `packet HEX`, `check FILE`, `tree FILE`, `draw [--ascii] FILE`,
-/// `run FILE`, `pcap FILE` or none.
+/// `run FILE`, `pcap FILE`, `device NAME FILE [--ports N]` or none.
 ///
 /// # Errors
 /// Refused where `clap` reads no such command, or is asked for the help or the version.
@@ -80,8 +95,25 @@ pub fn read_words<'a>(alloc: Global, words: &'a [&'a str]) -> Result<Words<'a>, 
             Some(text) => Ok(Words::Pcap(text)),
             None => Err(no_command(alloc)),
         },
+        Some(("device", found)) => match device_words(found) {
+            Some(asked) => Ok(Words::Device(asked)),
+            None => Err(no_command(alloc)),
+        },
         Some(_) => Err(no_command(alloc)),
     }
+}
+
+/// What `device` asks for.
+fn device_words<'a>(found: &ArgMatches<'a>) -> Option<DeviceWords<'a>>
+    ensures { IfSome result (λ asked. IsDevice (rows_of (found_of found.now)) asked) }
+{
+    let name = found.get_str("name")?;
+    let file = found.get_str("text")?;
+    let ports = found.get_one::<u8>("ports")?;
+    if ports < 1 || ports > 7 {
+        return None;
+    }
+    Some(DeviceWords { name, file, ports })
 }
 
 /// The fault of words that are no command.
@@ -115,13 +147,15 @@ fn program<'a>(alloc: Global) -> Result<Command<'a>, AllocError>
         "Runs a plan, and prints each plug, each attempt and the devices that the host found",
         plan_file(alloc),
     )?;
-    with_text_command(
+    let with_pcap = with_text_command(
         alloc,
         with_run,
         "pcap",
         "Writes the packets of a run as a pcap file, for Wireshark",
         text(alloc, "FILE", "What `run` wrote; `-` is standard input"),
-    )
+    )?;
+    let device = device_command(alloc)?;
+    with_command(with_pcap, device)
 }
 
 /// The program with its first three commands.
@@ -164,9 +198,17 @@ fn plain_program<'a>(alloc: Global) -> Result<Command<'a>, AllocError>
             .about("Runs a USB host on a simulated bus, as a plan says, or prints one packet")
             .after_help(
                 "With no command it does what `packet` does, with the digits on standard input.\n\n\
+                 One packet: usbplan packet 2D0010\n\
                  What is wrong with a plan: usbplan check plan.toml\n\
-                 Devices as trees, in plain letters: usbplan draw --ascii plan.toml\n\
-                 Packets for Wireshark: usbplan run plan.toml | usbplan pcap - > plan.pcap",
+                 Devices at the end of a run: usbplan tree plan.toml\n\
+                 The same as trees, in plain letters: usbplan draw --ascii plan.toml\n\
+                 All packets of a run: usbplan run plan.toml\n\
+                 The same for Wireshark: usbplan run plan.toml | usbplan pcap - > plan.pcap\n\
+                 A device of Linux for a plan: usbplan device mouse \
+                 /sys/bus/usb/devices/1-1/descriptors >> plan.toml\n\n\
+                 Status: 0 done, 1 refused, 2 no such command, or help or version, 3 limit reached,\n\
+                 4 memory, input or output failed.\n\n\
+                 Plans are described in docs/PLANS.md, what is written in docs/OUTPUT.md.",
             ),
     )
 }
@@ -226,6 +268,49 @@ fn draw_command<'a>(alloc: Global) -> Result<Command<'a>, AllocError>
         .action(ArgAction::SetTrue)
         .help("Draws in plain letters, of ASCII alone, in place of lines");
     plain.arg(ascii)
+}
+
+/// The command that makes the entry of a device.
+fn device_command<'a>(alloc: Global) -> Result<Command<'a>, AllocError>
+    ensures { IfOk result (λ c. app_of c ≡ device_app) }
+{
+    let plain = Command::new(alloc, "device").about(
+        "Writes the `[[device]]` table of a plan, from a device's descriptors in Linux",
+    );
+    let named = plain.arg(entry_name(alloc))?;
+    let file = text(
+        alloc,
+        "FILE",
+        "The file `descriptors` of a device in sysfs; `-` is standard input",
+    );
+    let filed = named.arg(file)?;
+    filed.arg(ports(alloc))
+}
+
+/// The name of the entry that `device` makes.
+fn entry_name<'a>(alloc: Global) -> Arg<'a>
+    ensures local { result.global ≡ false }
+    ensures rule { rule_of result ≡ name_rule }
+{
+    Arg::new(alloc, "name")
+        .required(true)
+        .action(ArgAction::Set)
+        .value_name("NAME")
+        .help("The name that the plan gives the device")
+}
+
+/// How many ports the hub has whose entry `device` makes.
+fn ports<'a>(alloc: Global) -> Arg<'a>
+    ensures local { result.global ≡ false }
+    ensures rule { rule_of result ≡ ports_rule }
+{
+    Arg::new(alloc, "ports")
+        .long("ports")
+        .action(ArgAction::Set)
+        .value_name("N")
+        .value_parser(ValueParser::unsigned(1, 7))
+        .default_value("7")
+        .help("How many ports it has, if it is a hub: 1 to 7")
 }
 
 /// The file of a command that reads a plan.

@@ -15,6 +15,7 @@ Commands:
   draw    Runs a plan, and draws the devices that the host found as trees
   run     Runs a plan, and prints each plug, each attempt and the devices that the host found
   pcap    Writes the packets of a run as a pcap file, for Wireshark
+  device  Writes the `[[device]]` table of a plan, from a device's descriptors in Linux
   help    Print this message or the help of the given subcommand(s)
 
 Options:
@@ -23,9 +24,18 @@ Options:
 
 With no command it does what `packet` does, with the digits on standard input.
 
+One packet: usbplan packet 2D0010
 What is wrong with a plan: usbplan check plan.toml
-Devices as trees, in plain letters: usbplan draw --ascii plan.toml
-Packets for Wireshark: usbplan run plan.toml | usbplan pcap - > plan.pcap
+Devices at the end of a run: usbplan tree plan.toml
+The same as trees, in plain letters: usbplan draw --ascii plan.toml
+All packets of a run: usbplan run plan.toml
+The same for Wireshark: usbplan run plan.toml | usbplan pcap - > plan.pcap
+A device of Linux for a plan: usbplan device mouse /sys/bus/usb/devices/1-1/descriptors >> plan.toml
+
+Status: 0 done, 1 refused, 2 no such command, or help or version, 3 limit reached,
+4 memory, input or output failed.
+
+Plans are described in docs/PLANS.md, what is written in docs/OUTPUT.md.
 ";
 
 const PACKET_HELP: &str = "\
@@ -65,6 +75,32 @@ Options:
   -h, --help   Print help
 ";
 
+const DEVICE_HELP: &str = "\
+Writes the `[[device]]` table of a plan, from a device's descriptors in Linux
+
+Usage: usbplan device [OPTIONS] <NAME> <FILE>
+
+Arguments:
+  <NAME>  The name that the plan gives the device
+  <FILE>  The file `descriptors` of a device in sysfs; `-` is standard input
+
+Options:
+      --ports <N>  How many ports it has, if it is a hub: 1 to 7 [default: 7]
+  -h, --help       Print help
+";
+
+const EIGHT_PORTS: &str = "\
+error: invalid value '8' for '--ports <N>': 8 is not in 1..=7
+
+For more information, try '--help'.
+";
+
+const NO_NUMBER: &str = "\
+error: invalid value 'x' for '--ports <N>': invalid digit found in string
+
+For more information, try '--help'.
+";
+
 const NO_SUCH_COMMAND: &str = "\
 error: unrecognized subcommand 'list'
 
@@ -93,7 +129,7 @@ For more information, try '--help'.
 ";
 
 /// Words, and what they ask for, or the text that is shown in its place.
-const WORDS: [(&[&str], &str); 18] = [
+const WORDS: [(&[&str], &str); 24] = [
     (&["packet", "2D0010"], "Packet(\"2D0010\")"),
     (&[], "Stdin"),
     (&["tree", "plan.toml"], "Tree(\"plan.toml\")"),
@@ -104,12 +140,27 @@ const WORDS: [(&[&str], &str); 18] = [
     (&["draw", "--ascii", "-"], "Draw(true, \"-\")"),
     (&["draw", "-", "--ascii"], "Draw(true, \"-\")"),
     (&["draw", "--", "--ascii"], "Draw(false, \"--ascii\")"),
+    (
+        &["device", "mouse", "-"],
+        "Device(DeviceWords { name: \"mouse\", file: \"-\", ports: 7 })",
+    ),
+    (
+        &["device", "--ports", "1", "a hub", "f"],
+        "Device(DeviceWords { name: \"a hub\", file: \"f\", ports: 1 })",
+    ),
+    (
+        &["device", "", "f", "--ports=07"],
+        "Device(DeviceWords { name: \"\", file: \"f\", ports: 7 })",
+    ),
+    (&["device", "hub", "f", "--ports", "8"], EIGHT_PORTS),
+    (&["device", "hub", "f", "--ports", "x"], NO_NUMBER),
     (&["list", "plan.toml"], NO_SUCH_COMMAND),
     (&["tree", "--all"], NO_SUCH_OPTION),
     (&["run"], NO_FILE),
     (&["packet", "--help"], PACKET_HELP),
     (&["tree", "--help"], TREE_HELP),
     (&["draw", "--help"], DRAW_HELP),
+    (&["device", "--help"], DEVICE_HELP),
     (&["--help"], HELP),
     (&["--version"], "usbplan 0.2.0\n"),
 ];

@@ -89,3 +89,14 @@ returns-in-Some-get_str-6 c =
       subcommand = sym c.in-Ok.ensures ∙ pair_of c.in-Ok.matches (codes "pcap") (rows_of found) name arm.rows;
       value = sym (first_value-rows found (codes "text")) ∙ sym c.in-Some-get_str-6.ensures;
     }
+
+pub returns-in-Some-device_words : goal.returns-in-Some-device_words
+returns-in-Some-device_words c =
+    let found = found_of c.in-Some-device-default.found.now in
+    let arm = c.in-Some-device-default.ensures in
+    let name : Some (codes "device") ≡ subcommand_name_of c.in-Ok.matches = sym (ap Some c.in-Some-device-default.is-device) ∙ arm.name in
+    record {
+      rows = rows_of found;
+      subcommand = sym c.in-Ok.ensures ∙ pair_of c.in-Ok.matches (codes "device") (rows_of found) name arm.rows;
+      device = c.in-Some-device_words.ensures;
+    }

@@ -1,0 +1,3 @@
+mod Descriptors
+mod Pieces
+mod Readings

@@ -1,0 +1,10 @@
+use Rattle.std.proofs.Common.{◌-◌}
+use Rattle.std.specs.Prelude.{vec_len}
+use Rattle.usb_entry.proofs.Readings.{ReadSoFar}
+use Rattle.usb_entry.proofs.reading.entry_of.Given as goal
+
+abbrev pub invariant-configs : goal.invariant-configs
+invariant-configs l = ReadSoFar l.bytes l.device l.configs.items l.offset
+
+abbrev pub decreases-configs : goal.decreases-configs
+decreases-configs l = l.count - vec_len l.configs

@@ -1,0 +1,4 @@
+pub mod EntryData
+pub mod Speed
+pub mod Text
+pub mod Writing

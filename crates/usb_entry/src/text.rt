@@ -1,0 +1,196 @@
+//! The table of a device, and its lines.
+ghost use Rattle.std.specs.Prelude.{◌≡◌, ◌++◌, flat_map, IfOk, OnOk};
+ghost use Rattle.usb_entry.specs.Speed.{is_low};
+ghost use Rattle.usb_entry.specs.Text.{config_lines, descriptor_line, entry_codes, entry_text, first_config_codes, head_line, identity_lines, is_self_powered, ports_line, power_line, speed_line};
+
+use crate::entry::{Configuration, Entry};
+use crate::item::push_items;
+use crate::name::push_name;
+use crate::piece::{push_comment, push_decimal, push_digits, push_key, push_text, push_word};
+use crate::speed::is_low;
+use std::alloc::{AllocError, Global};
+use usb_class::{ClassCodes, first_codes, push_class};
+use usb_request::class_code::HUB_CLASS;
+
+fn first_config_codes(configs: &[Configuration<'_>]) -> ClassCodes
+    ensures { result ≡ first_config_codes configs.now }
+{
+    match configs.first() {
+        Some(config) => first_codes(config.view()),
+        None => ClassCodes {
+            class: 0,
+            subclass: 0,
+            protocol: 0,
+        },
+    }
+}
+
+/// The codes of a device, or where its class is 0 those of its first interface.
+fn entry_codes(entry: &Entry<'_>) -> ClassCodes
+    ensures { result ≡ entry_codes entry.now }
+{
+    let device = entry.device().view();
+    if device.class() == 0 {
+        return first_config_codes(entry.configs());
+    }
+    ClassCodes {
+        class: device.class(),
+        subclass: device.subclass(),
+        protocol: device.protocol(),
+    }
+}
+
+/// Adds idVendor, idProduct and the class.
+#[tactic(auto, unfolding(crate::specs::Text::head_line))]
+fn push_head(alloc: Global, out: &mut Vec<u8>, entry: &Entry<'_>) -> Result<(), AllocError>
+    ensures { OnOk result (out.new.items ≡ out.old.items ++ head_line entry.now) }
+{
+    let device = entry.device().as_slice();
+    push_text(out, "# ")?;
+    push_word(alloc, out, device, 8)?;
+    push_text(out, ":")?;
+    push_word(alloc, out, device, 10)?;
+    push_text(out, " ")?;
+    push_class(alloc, out, entry_codes(entry))?;
+    push_text(out, "\n")
+}
+
+#[tactic(auto, unfolding(crate::specs::Text::speed_line))]
+fn speed_line(low: bool) -> &'static str
+    ensures { result.now ≡ speed_line low }
+{
+    if low {
+        "speed = \"low\" # no packet has more than 8 bytes; \"full\" if the device is of full speed\n"
+    } else {
+        "speed = \"full\"\n"
+    }
+}
+
+/// Adds the line of the speed that the device is taken to have.
+fn push_speed(out: &mut Vec<u8>, entry: &Entry<'_>) -> Result<(), AllocError>
+    ensures { OnOk result (out.new.items ≡ out.old.items ++ speed_line (is_low entry.now)) }
+{
+    push_text(out, speed_line(is_low(entry)))
+}
+
+#[tactic(auto, unfolding(crate::specs::Text::descriptor_line))]
+fn push_descriptor(alloc: Global, out: &mut Vec<u8>, entry: &Entry<'_>) -> Result<(), AllocError>
+    ensures { OnOk result (out.new.items ≡ out.old.items ++ descriptor_line entry.now.device) }
+{
+    push_key(out, "descriptor")?;
+    push_text(out, "\"")?;
+    push_digits(alloc, out, entry.device().as_slice())?;
+    push_text(out, "\"\n")
+}
+
+/// Adds what a configuration is, in comments, and its bytes.
+#[tactic(auto, unfolding(crate::specs::Text::config_lines))]
+fn push_config(
+    alloc: Global,
+    out: &mut Vec<u8>,
+    config: &Configuration<'_>,
+) -> Result<(), AllocError>
+    ensures { OnOk result (out.new.items ≡ out.old.items ++ config_lines config.now) }
+{
+    let view = config.view();
+    push_comment(out, "configuration ")?;
+    push_decimal(alloc, out, u16::from(view.value()))?;
+    push_text(out, ": ")?;
+    push_decimal(alloc, out, 2 * u16::from(view.max_power()))?;
+    push_text(out, " mA\n")?;
+    push_items(alloc, out, view)?;
+    push_text(out, "  \"")?;
+    push_digits(alloc, out, config.as_slice())?;
+    push_text(out, "\",\n")
+}
+
+fn push_configs(
+    alloc: Global,
+    out: &mut Vec<u8>,
+    configs: &[Configuration<'_>],
+) -> Result<(), AllocError>
+    ensures { OnOk result (out.new.items ≡ out.old.items ++ flat_map config_lines configs.now) }
+{
+    'configs: for config in configs {
+        push_config(alloc, out, config)?;
+    }
+    Ok(())
+}
+
+/// Adds how many ports a hub has.
+#[tactic(auto, unfolding(crate::specs::Text::ports_line))]
+fn push_ports(
+    alloc: Global,
+    out: &mut Vec<u8>,
+    entry: &Entry<'_>,
+    ports: u8,
+) -> Result<(), AllocError>
+    ensures { OnOk result (out.new.items ≡ out.old.items ++ ports_line entry.now.device ports) }
+{
+    if entry.device().view().class() != HUB_CLASS {
+        return Ok(());
+    }
+    push_key(out, "ports")?;
+    push_decimal(alloc, out, u16::from(ports))?;
+    push_text(out, " # how many it has is not in these descriptors\n")
+}
+
+/// Whether the first configuration has power of its own: bit 6 of bmAttributes (section 9.6.3).
+fn is_self_powered(configs: &[Configuration<'_>]) -> bool
+    ensures { result ≡ is_self_powered configs.now }
+{
+    match configs.first() {
+        Some(config) => config.view().attributes() % 128 >= 64,
+        None => false,
+    }
+}
+
+fn power_line(self_powered: bool) -> &'static str
+    ensures { result.now ≡ power_line self_powered }
+{
+    if self_powered {
+        "self_powered = true\n"
+    } else {
+        ""
+    }
+}
+
+/// Adds what the device is: its name, its speed, its descriptor.
+#[tactic(auto, unfolding(crate::specs::Text::identity_lines))]
+fn push_identity(
+    alloc: Global,
+    out: &mut Vec<u8>,
+    name: &str,
+    entry: &Entry<'_>,
+) -> Result<(), AllocError>
+    ensures { OnOk result (out.new.items ≡ out.old.items ++ identity_lines name.now entry.now) }
+{
+    push_head(alloc, out, entry)?;
+    push_text(out, "[[device]]\n")?;
+    push_name(alloc, out, name)?;
+    push_speed(out, entry)?;
+    push_descriptor(alloc, out, entry)
+}
+
+/// The `[[device]]` table of a plan whose device has this name and these bytes, with comments on what they say.
+///
+/// The descriptors tell neither the speed, which is `low` for a device that is no hub and whose packets have at most
+/// 8 bytes, on control and interrupt endpoints alone, nor how many ports a hub has: a plan takes 1 to 7.
+#[tactic(auto, unfolding(crate::specs::Text::entry_text))]
+pub fn entry_text(
+    alloc: Global,
+    name: &str,
+    ports: u8,
+    entry: &Entry<'_>,
+) -> Result<Vec<u8>, AllocError>
+    ensures { IfOk result (λ text. text.items ≡ entry_text name.now ports entry.now) }
+{
+    let mut text = Vec::new(alloc);
+    push_identity(alloc, &mut text, name, entry)?;
+    push_text(&mut text, "configs = [\n")?;
+    push_configs(alloc, &mut text, entry.configs())?;
+    push_text(&mut text, "]\n")?;
+    push_ports(alloc, &mut text, entry, ports)?;
+    push_text(&mut text, power_line(is_self_powered(entry.configs())))?;
+    Ok(text)
+}

@@ -1,0 +1,26 @@
+use Rattle.std.proofs.Common.{◌≡◌, ◌∙◌, sym, ap, ℕ, List, Option, Some, None, codes}
+use Rattle.clap.specs.Walk.{one_of, rows_of}
+use Rattle.clap.specs.Matches.{found_of, one_text, first_value}
+use Rattle.clap.proofs.WalkLemmas.{first_value-rows, one_text-rows}
+use Rattle.usb_words.proofs.words.device_words.Goals as goal
+
+-- the text that a number is read from
+text_of : (o : Option (List ℕ)) (r : Option ℕ) (n : ℕ) → (o ≡ None → r ≡ None) → r ≡ Some n → (t : List ℕ) × (o ≡ Some t)
+text_of (Some t) r n none some = (t, λ i. Some t)
+text_of None r n none some = let gone : r ≡ None = none (λ i. None) in cc
+
+pub returns : goal.returns
+returns c =
+    let found = found_of c.args.found.now in
+    let text = text_of (one_text found (codes "ports")) c.get_one.result c.in_ok-ports.ports c.get_one.ensures.none c.in_ok-ports.was in
+    let read = c.in_ok-ports.ensures.value text.0 text.1 in
+    record {
+      name = sym (first_value-rows found (codes "name")) ∙ sym c.in_ok-name.ensures;
+      file = sym (first_value-rows found (codes "text")) ∙ sym c.in_ok-file.ensures;
+      numeral = text.0;
+      given = sym (one_text-rows found (codes "ports")) ∙ text.1;
+      is_numeral = read.0.0.0;
+      value = read.0.1;
+      least = c.if-ports-lt1.false;
+      most = c.if-ports-gt7.false;
+    }
