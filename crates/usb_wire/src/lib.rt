@@ -21,6 +21,14 @@
 //!
 //! `question_line` and `said_line` write the lines, `read_question` and `read_said` read them. Nothing here takes
 //! memory, and nothing reads or writes.
+//!
+//! # What is proved
+//!
+//! `question_line` and `said_line` write the line that the *tables* have for each value; `read_question` answers Some
+//! exactly where the line asks something that may be asked, and `read_said` Ok exactly where it says something that may
+//! be said behind the question (digits of either case), and else the first fault of the *table of faults*, each told
+//! exactly where its cause stands; what may be asked and said is read back from the line that is written of it
+//! (`lines_are_read_back`). *Only tested*: the words of the faults.
 #![tactic(auto)]
 
 mod answer;
