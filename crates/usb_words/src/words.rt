@@ -1,8 +1,8 @@
 //! The words after the program's name.
-ghost use Rattle.std.specs.Prelude.{◌≡◌, IfOk, IfSome, map, true, false};
+ghost use Rattle.std.specs.Prelude.{◌≡◌, IfOk, IfSome, List, map, true, false};
 ghost use Rattle.clap.specs.Simple.{app_of, subcommand_of, subcommand_rows_of, with_subcommand};
 ghost use Rattle.clap.specs.Matches.{found_of};
-ghost use Rattle.clap.specs.Walk.{rows_of, rule_of};
+ghost use Rattle.clap.specs.Walk.{Text, rows_of, rule_of};
 ghost use Rattle.usb_words.specs.CommandLine.{IsDevice, ReadsWords, device_app, draw_app, first_app, name_rule, plain_app, ports_rule, program_app, text_app, text_rule, with_text};
 
 use clap::builder::ValueParser;
@@ -69,37 +69,27 @@ pub fn read_words<'a>(alloc: Global, words: &'a [&'a str]) -> Result<Words<'a>, 
         Err(error) if error.kind() == ErrorKind::OutOfMemory => return Err(WordFault::Memory),
         Err(error) => return Err(WordFault::Refused(error)),
     };
+    words_of(&matches).ok_or_else(|| no_command(alloc))
+}
+
+/// What the program's subcommand asks for, if it is one of the program's and has its text.
+fn words_of<'a>(matches: &ArgMatches<'a>) -> Option<Words<'a>>
+    ensures { IfSome result (λ asked. (words : List Text)
+        → subcommand_rows_of matches.now ≡ subcommand_of program_app words
+        → ReadsWords words asked) }
+{
     match matches.subcommand() {
-        None => Ok(Words::Stdin),
-        Some(("packet", found)) => match found.get_str("text") {
-            Some(text) => Ok(Words::Packet(text)),
-            None => Err(no_command(alloc)),
-        },
-        Some(("check", found)) => match found.get_str("text") {
-            Some(text) => Ok(Words::Check(text)),
-            None => Err(no_command(alloc)),
-        },
-        Some(("tree", found)) => match found.get_str("text") {
-            Some(text) => Ok(Words::Tree(text)),
-            None => Err(no_command(alloc)),
-        },
-        Some(("draw", found)) => match found.get_str("text") {
-            Some(text) => Ok(Words::Draw(found.get_flag("ascii"), text)),
-            None => Err(no_command(alloc)),
-        },
-        Some(("run", found)) => match found.get_str("text") {
-            Some(text) => Ok(Words::Run(text)),
-            None => Err(no_command(alloc)),
-        },
-        Some(("pcap", found)) => match found.get_str("text") {
-            Some(text) => Ok(Words::Pcap(text)),
-            None => Err(no_command(alloc)),
-        },
-        Some(("device", found)) => match device_words(found) {
-            Some(asked) => Ok(Words::Device(asked)),
-            None => Err(no_command(alloc)),
-        },
-        Some(_) => Err(no_command(alloc)),
+        None => Some(Words::Stdin),
+        Some(("packet", found)) => Some(Words::Packet(found.get_str("text")?)),
+        Some(("check", found)) => Some(Words::Check(found.get_str("text")?)),
+        Some(("tree", found)) => Some(Words::Tree(found.get_str("text")?)),
+        Some(("draw", found)) => {
+            Some(Words::Draw(found.get_flag("ascii"), found.get_str("text")?))
+        }
+        Some(("run", found)) => Some(Words::Run(found.get_str("text")?)),
+        Some(("pcap", found)) => Some(Words::Pcap(found.get_str("text")?)),
+        Some(("device", found)) => Some(Words::Device(device_words(found)?)),
+        Some(_) => None,
     }
 }
 
