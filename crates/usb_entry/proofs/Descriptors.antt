@@ -7,7 +7,7 @@ use Rattle.usb_descriptor.specs.declared.fault.DescriptorFault.{DescriptorFault}
 use Rattle.usb_descriptor.specs.declared.fault.DescriptorFault.TheVariants.{Short}
 use Rattle.usb_descriptor.specs.Config.{config_of}
 use Rattle.usb_descriptor.specs.Device.{configuration_count, device_spelled}
-use Rattle.usb_entry.specs.EntryData.{FrontConfig, HasDevice, HasFault, IsDescriptor}
+use Rattle.usb_entry.specs.EntryData.{FrontConfig, BeginsWithDevice, HasEntryFault, IsDescriptor}
 use Rattle.usb_entry.specs.declared.fault.EntryFault.TheVariants.{TooMany}
 
 long_at : (b : Bool) (n : ℕ) (r : Result (List ℕ) DescriptorFault) (device : List ℕ) → nat_lt n 18 ≡ b → (if b then Err Short else r) ≡ Ok device → 18 ≤ n
@@ -26,7 +26,7 @@ descriptor_at n bytes device small e same = record {
   size = omega (arith, length-take n bytes, long_device (take n bytes) device e);
 }
 
-pub device_at : (n : ℕ) (bytes device : List ℕ) → n ≤ 18 → device_spelled false (take n bytes) ≡ Ok device → device ≡ take n bytes → configuration_count device ≤ 8 → HasDevice bytes (take n bytes)
+pub device_at : (n : ℕ) (bytes device : List ℕ) → n ≤ 18 → device_spelled false (take n bytes) ≡ Ok device → device ≡ take n bytes → configuration_count device ≤ 8 → BeginsWithDevice bytes (take n bytes)
 device_at n bytes device small e same few = record {
   is_device = descriptor_at n bytes device small e same;
   few = subst (λ d. configuration_count d ≤ 8) same few;
@@ -34,7 +34,7 @@ device_at n bytes device small e same few = record {
   text = sym (take-append-drop n bytes);
 }
 
-pub too_many : (n : ℕ) (bytes device : List ℕ) → n ≤ 18 → device_spelled false (take n bytes) ≡ Ok device → device ≡ take n bytes → 8 < configuration_count device → HasFault bytes TooMany
+pub too_many : (n : ℕ) (bytes device : List ℕ) → n ≤ 18 → device_spelled false (take n bytes) ≡ Ok device → device ≡ take n bytes → 8 < configuration_count device → HasEntryFault bytes TooMany
 too_many n bytes device small e same many =
     (take n bytes, drop n bytes, sym (take-append-drop n bytes), descriptor_at n bytes device small e same, subst (λ d. 8 < configuration_count d) same many)
 

@@ -6,7 +6,7 @@ use Rattle.usb_descriptor.specs.Config.{joined}
 use Rattle.usb_descriptor.specs.Device.{configuration_count}
 use Rattle.usb_entry.specs.declared.fault.EntryFault.{EntryFault}
 use Rattle.usb_entry.specs.declared.fault.EntryFault.TheVariants.{NoName, Empty, Device, TooMany, Configuration, Missing, LeftOver, Write, Memory}
-use Rattle.usb_entry.specs.EntryData.{FrontConfig, HasDevice, HasFault, IsDescriptor, IsEntry, IsText, NextFault, StopsAt}
+use Rattle.usb_entry.specs.EntryData.{FrontConfig, BeginsWithDevice, HasEntryFault, IsDescriptor, IsEntry, IsText, NextFault, BreaksAt}
 
 -- the device descriptor and these configurations are read, up to the offset
 pub record ReadSoFar (bytes device : List ℕ) (configs : List (List ℕ)) (offset : ℕ) : Type 0 where
@@ -25,7 +25,7 @@ each-push : (configs : List (List ℕ)) (config : List ℕ) → AllByRecursion I
 each-push [] config h new = (new, tt)
 each-push (c ∷ configs) config h new = (h.0, each-push configs config h.1 new)
 
-pub none_yet : (bytes device : List ℕ) → HasDevice bytes device → ReadSoFar bytes device [] 18
+pub none_yet : (bytes device : List ℕ) → BeginsWithDevice bytes device → ReadSoFar bytes device [] 18
 none_yet bytes device h = record {
   is_device = h.is_device;
   few = h.few;
@@ -70,7 +70,7 @@ some_left : (offset : ℕ) (bytes : List ℕ) → offset < length bytes → drop
 some_left offset bytes lt e = absurd (omega (arith, length-drop offset bytes, ap length e))
 
 pub left_over : (bytes device : List ℕ) (configs : List (List ℕ)) (offset : ℕ) → ReadSoFar bytes device configs offset
-    → configuration_count device ≤ length configs → offset < length bytes → HasFault bytes (LeftOver offset)
+    → configuration_count device ≤ length configs → offset < length bytes → HasEntryFault bytes (LeftOver offset)
 left_over bytes device configs offset h all lt = record {
   device = device;
   configs = configs;
@@ -86,7 +86,7 @@ left_over bytes device configs offset h all lt = record {
 }
 
 stops_at : (bytes device : List ℕ) (configs : List (List ℕ)) (offset at : ℕ) (Why : ℕ → List ℕ → Type 0) → ReadSoFar bytes device configs offset → at ≡ offset
-    → length configs < configuration_count device → Why (configuration_count device - length configs) (drop offset bytes) → StopsAt bytes at Why
+    → length configs < configuration_count device → Why (configuration_count device - length configs) (drop offset bytes) → BreaksAt bytes at Why
 stops_at bytes device configs offset at Why h same lt why = record {
   device = device;
   configs = configs;
@@ -103,7 +103,7 @@ stops_at bytes device configs offset at Why h same lt why = record {
 
 -- what comes next is no configuration
 pub next_fault : (bytes device : List ℕ) (configs : List (List ℕ)) (offset : ℕ) (fault : EntryFault) → ReadSoFar bytes device configs offset
-    → length configs < configuration_count device → NextFault (drop offset bytes) offset fault → HasFault bytes fault
+    → length configs < configuration_count device → NextFault (drop offset bytes) offset fault → HasEntryFault bytes fault
 next_fault bytes device configs offset (Configuration at fault) h lt next = stops_at bytes device configs offset at _ h next.0 lt (omega arith, next.1, next.2)
 next_fault bytes device configs offset (Missing at) h lt next = stops_at bytes device configs offset at _ h next.0 lt (omega arith, next.1)
 next_fault bytes device configs offset NoName h lt next = absurd next

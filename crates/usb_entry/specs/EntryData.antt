@@ -31,7 +31,7 @@ pub record IsEntry (bytes : List ℕ) (e : EntryData) : Type 0 where
   pub text : bytes ≡ e.device ++ joined e.configs
 
 -- the bytes begin with this device descriptor, of at most 8 configurations
-pub record HasDevice (bytes device : List ℕ) : Type 0 where
+pub record BeginsWithDevice (bytes device : List ℕ) : Type 0 where
   pub is_device : IsDescriptor device
   pub few : configuration_count device ≤ 8
   pub rest : List ℕ
@@ -49,7 +49,7 @@ HasFrontFault bytes fault = MatchResult (config_head_of bytes) (λ total. config
 
 -- behind the device descriptor and some of its configurations, up to the offset, the rest does not go on: so many
 -- configurations are left to come
-pub record StopsAt (bytes : List ℕ) (offset : ℕ) (Why : ℕ → List ℕ → Type 0) : Type 0 where
+pub record BreaksAt (bytes : List ℕ) (offset : ℕ) (Why : ℕ → List ℕ → Type 0) : Type 0 where
   pub device : List ℕ
   pub configs : List (List ℕ)
   pub rest : List ℕ
@@ -63,16 +63,16 @@ pub record StopsAt (bytes : List ℕ) (offset : ℕ) (Why : ℕ → List ℕ →
   pub why : Why left rest
 
 -- why the bytes are no device with its configurations: the first reason that holds
-abbrev pub HasFault : List ℕ → EntryFault → Type 0
-HasFault bytes NoName = ⊥
-HasFault bytes Empty = bytes ≡ []
-HasFault bytes (Device fault) = (bytes ≢ []) × (device_spelled false (take DEVICE_LENGTH bytes) ≡ Err fault)
-HasFault bytes TooMany = (device : List ℕ) × (rest : List ℕ) × (bytes ≡ device ++ rest) × IsDescriptor device × (8 < configuration_count device)
-HasFault bytes (Configuration offset fault) = StopsAt bytes offset (λ left rest. (0 < left) × (rest ≢ []) × HasFrontFault rest fault)
-HasFault bytes (Missing offset) = StopsAt bytes offset (λ left rest. (0 < left) × (rest ≡ []))
-HasFault bytes (LeftOver offset) = StopsAt bytes offset (λ left rest. (left ≡ 0) × (rest ≢ []))
-HasFault bytes Write = ⊥
-HasFault bytes Memory = Unit {0}
+abbrev pub HasEntryFault : List ℕ → EntryFault → Type 0
+HasEntryFault bytes NoName = ⊥
+HasEntryFault bytes Empty = bytes ≡ []
+HasEntryFault bytes (Device fault) = (bytes ≢ []) × (device_spelled false (take DEVICE_LENGTH bytes) ≡ Err fault)
+HasEntryFault bytes TooMany = (device : List ℕ) × (rest : List ℕ) × (bytes ≡ device ++ rest) × IsDescriptor device × (8 < configuration_count device)
+HasEntryFault bytes (Configuration offset fault) = BreaksAt bytes offset (λ left rest. (0 < left) × (rest ≢ []) × HasFrontFault rest fault)
+HasEntryFault bytes (Missing offset) = BreaksAt bytes offset (λ left rest. (0 < left) × (rest ≡ []))
+HasEntryFault bytes (LeftOver offset) = BreaksAt bytes offset (λ left rest. (left ≡ 0) × (rest ≢ []))
+HasEntryFault bytes Write = ⊥
+HasEntryFault bytes Memory = Unit {0}
 
 -- why the bytes left at an offset do not begin with a configuration
 abbrev pub NextFault : List ℕ → ℕ → EntryFault → Type 0

@@ -33,5 +33,5 @@ abbrev pub configs_fit : List (List ℕ) → Bool
 configs_fit configs = list_all (λ config. items_fit (items_of config)) configs
 
 -- a device is of low speed where all that it has fits it, and it is no hub (11.1)
-unfoldable pub is_low : EntryData → Bool
-is_low e = max_packet_0 e.device == 8 && not (device_class e.device == HUB_CLASS) && configs_fit e.configs
+unfoldable pub is_taken_low : EntryData → Bool
+is_taken_low e = max_packet_0 e.device == 8 && not (device_class e.device == HUB_CLASS) && configs_fit e.configs

@@ -15,7 +15,7 @@ use Rattle.usb_descriptor.specs.Item.{endpoint_number, is_in, items_of, max_pack
 use Rattle.usb_class.specs.declared.class.ClassCodes.{ClassCodes}
 use Rattle.usb_class.specs.Classes.{class_text, device_codes, first_codes, interface_codes, no_codes}
 use Rattle.usb_entry.specs.EntryData.{EntryData}
-use Rattle.usb_entry.specs.Speed.{is_low}
+use Rattle.usb_entry.specs.Speed.{is_taken_low}
 
 -- a character of a basic string of TOML 1.0: a quotation mark and a backslash behind a backslash, a control character as
 -- \u and its number, any other as it is
@@ -103,8 +103,8 @@ item_line (Endpoint bytes) = endpoint_line bytes
 item_line (Other bytes) = []
 
 -- a configuration's number, what it draws in mA, its interfaces and endpoints, and all its bytes
-unfoldable pub config_lines : List ℕ → List ℕ
-config_lines config =
+unfoldable pub configuration_lines : List ℕ → List ℕ
+configuration_lines config =
     comment_text (codes "configuration ") ++ decimal (configuration_value config) ++ codes ": " ++ decimal (2 * max_power_of config)
     ++ codes " mA\n" ++ flat_map item_line (items_of config) ++ codes "  \"" ++ encode_upper config ++ codes "\",\n"
 
@@ -125,10 +125,10 @@ power_line self_powered = if self_powered then codes "self_powered = true\n" els
 
 -- what the device is: its name, its speed, its descriptor
 unfoldable pub identity_lines : List ℕ → EntryData → List ℕ
-identity_lines name e = head_line e ++ codes "[[device]]\n" ++ name_line name ++ speed_line (is_low e) ++ descriptor_line e.device
+identity_lines name e = head_line e ++ codes "[[device]]\n" ++ name_line name ++ speed_line (is_taken_low e) ++ descriptor_line e.device
 
 -- the whole table
 unfoldable pub entry_text : List ℕ → ℕ → EntryData → List ℕ
 entry_text name ports e =
-    identity_lines name e ++ codes "configs = [\n" ++ flat_map config_lines e.configs ++ codes "]\n"
+    identity_lines name e ++ codes "configs = [\n" ++ flat_map configuration_lines e.configs ++ codes "]\n"
     ++ ports_line e.device ports ++ power_line (is_self_powered e.configs)

@@ -7,11 +7,11 @@
 //!
 //! `entry_of` answers a device only where the bytes are a device descriptor and just as many configuration texts as it
 //! says, each whole, in order, with nothing behind them (*IsEntry*), and each fault only where its cause stands: behind
-//! the descriptor and some configurations that are whole, at the byte that it tells (*HasFault*). `write_entry` writes
-//! *entry_text* of that device, to the byte: each configuration once, in its order, all its bytes, and each comment; a
-//! front of it where the writer failed, and nothing at any other fault. *Only tested*: that a plan's reader reads the
-//! table as a device of that name with just those bytes (ten names; the bytes of eight devices of Linux and four
-//! others), and that bytes of a device are not refused.
+//! the descriptor and some configurations that are whole, at the byte that it tells (*HasEntryFault*). `write_entry`
+//! writes *entry_text* of that device, to the byte: each configuration once, in its order, all its bytes, and each
+//! comment; a front of it where the writer failed, and nothing at any other fault. *Only tested*: that a plan's reader
+//! reads the table as a device of that name with just those bytes (ten names; the bytes of eight devices of Linux and
+//! four others), and that bytes of a device are not refused.
 #![tactic(auto)]
 
 mod entry;

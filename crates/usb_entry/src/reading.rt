@@ -1,7 +1,7 @@
 //! The reader of a device's bytes.
 ghost use Rattle.std.specs.Prelude.{◌≡◌, ◌≤◌, Ok, IfOk, IfErr, length, take, drop};
 ghost use Rattle.usb_descriptor.specs.Config.{config_of};
-ghost use Rattle.usb_entry.specs.EntryData.{FrontConfig, HasDevice, HasFault, HasFrontFault, IsEntry, NextFault};
+ghost use Rattle.usb_entry.specs.EntryData.{FrontConfig, BeginsWithDevice, HasEntryFault, HasFrontFault, IsEntry, NextFault};
 
 use crate::entry::{Configuration, Descriptor, Entry};
 use crate::fault::EntryFault;
@@ -14,8 +14,8 @@ const MOST_CONFIGS: u8 = 8;
 
 /// The device descriptor that the bytes begin with.
 fn device_at(bytes: &[u8]) -> Result<Descriptor<'_>, EntryFault>
-    ensures ok { IfOk result (HasDevice bytes.now) }
-    ensures err { IfErr result (HasFault bytes.now) }
+    ensures ok { IfOk result (BeginsWithDevice bytes.now) }
+    ensures err { IfErr result (HasEntryFault bytes.now) }
 {
     if bytes.is_empty() {
         return Err(EntryFault::Empty);
@@ -75,7 +75,7 @@ fn config_at(bytes: &[u8], offset: usize) -> Result<Configuration<'_>, EntryFaul
 /// the bytes.
 pub fn entry_of(alloc: Global, bytes: &[u8]) -> Result<Entry<'_>, EntryFault>
     ensures ok { IfOk result (IsEntry bytes.now) }
-    ensures err { IfErr result (HasFault bytes.now) }
+    ensures err { IfErr result (HasEntryFault bytes.now) }
 {
     let device = device_at(bytes)?;
     let count = usize::from(device.view().configurations());

@@ -1,7 +1,7 @@
 //! The speed that a device is taken to have, which its descriptors do not tell.
 ghost use Rattle.std.specs.Prelude.{◌≡◌};
 ghost use Rattle.usb_descriptor.specs.Item.{items_of};
-ghost use Rattle.usb_entry.specs.Speed.{configs_fit, fits_low_speed, is_low, item_fits, items_fit};
+ghost use Rattle.usb_entry.specs.Speed.{configs_fit, fits_low_speed, is_taken_low, item_fits, items_fit};
 
 use crate::entry::{Configuration, Entry};
 use usb_descriptor::{ConfigView, EndpointView, Item, TransferType};
@@ -49,9 +49,9 @@ fn configs_fit(configs: &[Configuration<'_>]) -> bool
 }
 
 /// Whether a device is taken to be of low speed: it is no hub, and all its endpoints fit low speed, endpoint 0 too.
-#[tactic(auto, unfolding(crate::specs::Speed::is_low))]
-pub(crate) fn is_low(entry: &Entry<'_>) -> bool
-    ensures { result ≡ is_low entry.now }
+#[tactic(auto, unfolding(crate::specs::Speed::is_taken_low))]
+pub(crate) fn is_taken_low(entry: &Entry<'_>) -> bool
+    ensures { result ≡ is_taken_low entry.now }
 {
     let device = entry.device().view();
     u16::from(device.max_packet()) == LOW_SPEED_PACKET

@@ -1,13 +1,13 @@
 //! The table of a device, and its lines.
 ghost use Rattle.std.specs.Prelude.{◌≡◌, ◌++◌, flat_map, IfOk, OnOk};
-ghost use Rattle.usb_entry.specs.Speed.{is_low};
-ghost use Rattle.usb_entry.specs.Text.{config_lines, descriptor_line, entry_codes, entry_text, first_config_codes, head_line, identity_lines, is_self_powered, ports_line, power_line, speed_line};
+ghost use Rattle.usb_entry.specs.Speed.{is_taken_low};
+ghost use Rattle.usb_entry.specs.Text.{configuration_lines, descriptor_line, entry_codes, entry_text, first_config_codes, head_line, identity_lines, is_self_powered, ports_line, power_line, speed_line};
 
 use crate::entry::{Configuration, Entry};
 use crate::item::push_items;
 use crate::name::push_name;
 use crate::piece::{push_comment, push_decimal, push_digits, push_key, push_text, push_word};
-use crate::speed::is_low;
+use crate::speed::is_taken_low;
 use std::alloc::{AllocError, Global};
 use usb_class::{ClassCodes, first_codes, push_class};
 use usb_request::class_code::HUB_CLASS;
@@ -68,9 +68,9 @@ fn speed_line(low: bool) -> &'static str
 
 /// Adds the line of the speed that the device is taken to have.
 fn push_speed(out: &mut Vec<u8>, entry: &Entry<'_>) -> Result<(), AllocError>
-    ensures { OnOk result (out.new.items ≡ out.old.items ++ speed_line (is_low entry.now)) }
+    ensures { OnOk result (out.new.items ≡ out.old.items ++ speed_line (is_taken_low entry.now)) }
 {
-    push_text(out, speed_line(is_low(entry)))
+    push_text(out, speed_line(is_taken_low(entry)))
 }
 
 #[tactic(auto, unfolding(crate::specs::Text::descriptor_line))]
@@ -84,13 +84,13 @@ fn push_descriptor(alloc: Global, out: &mut Vec<u8>, entry: &Entry<'_>) -> Resul
 }
 
 /// Adds what a configuration is, in comments, and its bytes.
-#[tactic(auto, unfolding(crate::specs::Text::config_lines))]
+#[tactic(auto, unfolding(crate::specs::Text::configuration_lines))]
 fn push_config(
     alloc: Global,
     out: &mut Vec<u8>,
     config: &Configuration<'_>,
 ) -> Result<(), AllocError>
-    ensures { OnOk result (out.new.items ≡ out.old.items ++ config_lines config.now) }
+    ensures { OnOk result (out.new.items ≡ out.old.items ++ configuration_lines config.now) }
 {
     let view = config.view();
     push_comment(out, "configuration ")?;
@@ -109,7 +109,7 @@ fn push_configs(
     out: &mut Vec<u8>,
     configs: &[Configuration<'_>],
 ) -> Result<(), AllocError>
-    ensures { OnOk result (out.new.items ≡ out.old.items ++ flat_map config_lines configs.now) }
+    ensures { OnOk result (out.new.items ≡ out.old.items ++ flat_map configuration_lines configs.now) }
 {
     'configs: for config in configs {
         push_config(alloc, out, config)?;

@@ -5,12 +5,12 @@ use Rattle.usb_world.specs.declared.types.Outcome.TheVariants.{Payload, Ack, Nak
 use Rattle.usb_own_bus.specs.declared.counted.Counts.{Counts}
 
 -- one more, up to the greatest u64
-abbrev pub one_more : ℕ → ℕ
-one_more n = min (n + 1) (2 ^ 64 - 1)
+abbrev pub count_with : ℕ → ℕ
+count_with n = min (n + 1) (2 ^ 64 - 1)
 
-abbrev pub counted : Counts → Outcome → Counts
-counted c Nak = record c { attempts = one_more c.attempts; naks = one_more c.naks }
-counted c Nothing = record c { attempts = one_more c.attempts; unanswered = one_more c.unanswered }
-counted c (Payload toggle bytes) = record c { attempts = one_more c.attempts }
-counted c Ack = record c { attempts = one_more c.attempts }
-counted c Stall = record c { attempts = one_more c.attempts }
+abbrev pub counts_with : Counts → Outcome → Counts
+counts_with c Nak = record c { attempts = count_with c.attempts; naks = count_with c.naks }
+counts_with c Nothing = record c { attempts = count_with c.attempts; unanswered = count_with c.unanswered }
+counts_with c (Payload toggle bytes) = record c { attempts = count_with c.attempts }
+counts_with c Ack = record c { attempts = count_with c.attempts }
+counts_with c Stall = record c { attempts = count_with c.attempts }

@@ -1,6 +1,6 @@
 //! A bus that counts what goes over another one.
 ghost use Rattle.std.specs.Prelude.{◌≡◌};
-ghost use Rattle.usb_own_bus.specs.Counted.{counted};
+ghost use Rattle.usb_own_bus.specs.Counted.{counts_with};
 
 use std::fmt;
 use usb_bus::{Attempt, Bus, BusFault, Outcome};
@@ -18,7 +18,7 @@ pub struct Counts {
 impl Counts {
     /// With one attempt more.
     fn with(self, outcome: &Outcome) -> Counts
-        ensures { result ≡ counted self outcome.now }
+        ensures { result ≡ counts_with self outcome.now }
     {
         let attempts = self.attempts.saturating_add(1);
         match outcome {

@@ -32,12 +32,12 @@ host_in-some pre text r e =
     option_and_then_some (λ rest. option_and_then (λ packet. option_and_then (outgoing_of pre packet.0) (packet_mark_in packet.1)) (packet_in rest)) (behind_pre pre text) r e (λ rest first e.
     option_and_then_some (λ packet. option_and_then (outgoing_of pre packet.0) (packet_mark_in packet.1)) (packet_in rest) r e (λ packet second e.
     option_and_then_some (outgoing_of pre packet.0) (packet_mark_in packet.1) r e (λ mark third e.
-    if_some (may_be_marked pre mark.0 packet.0) (Some (record { packet = packet.0; mark = mark.0 }, mark.1)) r e (λ fits is.
+    if_some (may_be_marked pre mark.0 packet.0) (Some (record { packet = packet.0; mark = mark.0 }, mark.1)) r e (λ fits_form is.
     let own = packet_in-some rest packet second in
     let s : Outgoing = record { packet = packet.0; mark = mark.0 } in
     let spelled : text ≡ host_text pre s ++ mark.1 =
     behind_pre-some pre text rest first ∙ ap (λ l. pre_text pre ++ l) (own.0 ∙ ap (λ l. text_of packet.0 ++ l) (packet_mark_in-some packet.1 mark third)) ∙ simp append_assoc in
-    subst (SentAs pre text) (same_Some (s, mark.1) r is) (spelled, (own.1, own.2, fits))))))
+    subst (SentAs pre text) (same_Some (s, mark.1) r is) (spelled, (own.1, own.2, fits_form))))))
 
 -- the same behind a stroke
 abbrev NextAs : Bool → List ℕ → Outgoing × List ℕ → Type 0
@@ -50,9 +50,9 @@ next_in-some pre text r e =
     let own = host_in-some pre rest r e in
     (strip-some (codes " / ") text rest stroke ∙ ap (λ l. codes " / " ++ l) own.0 ∙ sym (append_assoc (codes " / ") (host_text pre r.0) r.1), own.1))
 
-kept_where-some : (fits : Packet → Bool) (s r : Outgoing × List ℕ) → kept_where fits s ≡ Some r → (s ≡ r) × (fits r.0.packet ≡ true)
-kept_where-some fits s r e =
-    if_some (fits s.0.packet) (Some s) r e (λ h is. let same = same_Some s r is in (same, subst (λ (q : Outgoing × List ℕ). fits q.0.packet ≡ true) same h))
+kept_where-some : (fits_form : Packet → Bool) (s r : Outgoing × List ℕ) → kept_where fits_form s ≡ Some r → (s ≡ r) × (fits_form r.0.packet ≡ true)
+kept_where-some fits_form s r e =
+    if_some (fits_form s.0.packet) (Some s) r e (λ h is. let same = same_Some s r is in (same, subst (λ (q : Outgoing × List ℕ). fits_form q.0.packet ≡ true) same h))
 
 host_data_in-some : (pre : Bool) (text : List ℕ) (r : Outgoing × List ℕ) → host_data_in pre text ≡ Some r
     → NextAs pre text r × (is_data_packet r.0.packet ≡ true)
@@ -79,9 +79,9 @@ answer_in-some text r e =
     found_some (strip (codes " / collision") text) (λ rest. Some ((Collision, Whole), rest)) _ r e
     (λ rest found is. subst (AnsweredAs text) (same_Some ((Collision, Whole), rest) r is) (strip-some (codes " / collision") text rest found, refl)) (λ e.
     option_and_then_some one_answer (next_in false text) r e (λ s first e.
-    if_some (is_answer s.0.packet) (Some ((One s.0.packet, s.0.mark), s.1)) r e (λ fits is.
+    if_some (is_answer s.0.packet) (Some ((One s.0.packet, s.0.mark), s.1)) r e (λ fits_form is.
     let own = next_in-some false text s first in
-    subst (AnsweredAs text) (same_Some ((One s.0.packet, s.0.mark), s.1) r is) (own.0 ∙ simp append_assoc, (fits, own.1))))))
+    subst (AnsweredAs text) (same_Some ((One s.0.packet, s.0.mark), s.1) r is) (own.0 ∙ simp append_assoc, (fits_form, own.1))))))
 
 payload_if-some : (sends pre : Bool) (text : List ℕ) (r : Option Outgoing × List ℕ) → payload_if sends pre text ≡ Some r
     → (text ≡ next_text pre r.0 ++ r.1) × (is_some r.0 ≡ sends) × IfSome r.0 (λ s. IsSent pre s × (is_data_packet s.packet ≡ true))

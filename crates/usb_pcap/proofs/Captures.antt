@@ -15,7 +15,7 @@ use Rattle.usb_pcap.specs.declared.capturing.PcapFault.{PcapFault}
 use Rattle.usb_pcap.specs.declared.capturing.PcapFault.TheVariants.{Read, Line as BadLine, TooLong, Write}
 use Rattle.usb_pcap.specs.declared.attempt.TracedAttempt.{TracedAttempt}
 use Rattle.usb_pcap.specs.Attempt.{IsAttemptLine}
-use Rattle.usb_pcap.specs.Grammar.{fits}
+use Rattle.usb_pcap.specs.Grammar.{fits_form}
 use Rattle.usb_pcap.specs.Report.{IsReport, has_form, plug_form, report_forms}
 use Rattle.usb_pcap.proofs.Forms.{is_report-complete, is_report-sound, no_plug, plug_taken}
 use Rattle.usb_pcap.specs.Record.{AreRecords, attempt_packets, header}
@@ -283,7 +283,7 @@ short_whole front line e few = e ∙ take_all longest line few
 pub told_records : (front line : List ℕ) (records : ArrayVec ℕ) → records.items ≡ [] → IsTold line → RecordsOf line (Some records)
 told_records front line records none told = subst (λ l. LineRecords line l) (sym none) (LineRecords.told told)
 
-pub plug_records : (front line : List ℕ) (records : ArrayVec ℕ) → front ≡ take longest line → fits plug_form front ≡ true → records.items ≡ [] → RecordsOf line (Some records)
+pub plug_records : (front line : List ℕ) (records : ArrayVec ℕ) → front ≡ take longest line → fits_form plug_form front ≡ true → records.items ≡ [] → RecordsOf line (Some records)
 plug_records front line records e fit none = told_records front line records none (inl (plug_taken front line e fit))
 
 pub report_records : (front line : List ℕ) (is_long : Bool) (records : ArrayVec ℕ) → front ≡ take longest line → is_long ≡ nat_lt longest (length line) → is_long ≡ false
@@ -292,7 +292,7 @@ report_records front line is_long records e long short fit none =
     let few : length line ≤ longest = not_more longest (length line) (sym long ∙ short) in
     told_records front line records none (inr (few, subst IsReport (short_whole front line e few) (is_report-sound front fit)))
 
-pub long_refused : (front line : List ℕ) (is_long : Bool) → front ≡ take longest line → is_long ≡ nat_lt longest (length line) → is_long ≡ true → fits plug_form front ≡ false → IsRunLine line → ⊥
+pub long_refused : (front line : List ℕ) (is_long : Bool) → front ≡ take longest line → is_long ≡ nat_lt longest (length line) → is_long ≡ true → fits_form plug_form front ≡ false → IsRunLine line → ⊥
 long_refused front line is_long e long fit none (inl (inl plug)) = no_plug front line e none plug
 long_refused front line is_long e long fit none (inl (inr (few, report))) = let over = ltb-true longest (length line) (sym long ∙ fit) in absurd (omega arith)
 long_refused front line is_long e long fit none (inr (a, (few, of))) = let over = ltb-true longest (length line) (sym long ∙ fit) in absurd (omega arith)
@@ -304,7 +304,7 @@ attempt_records front line is_long a records e long short of made =
     LineRecords.attempt a records.items (few, subst (λ l. IsAttemptLine l a) (short_whole front line e few) of) made
 
 pub none_refused : (front line : List ℕ) (is_long : Bool) → front ≡ take longest line → is_long ≡ nat_lt longest (length line) → is_long ≡ false
-    → fits plug_form front ≡ false → has_form report_forms front ≡ false → ((a : TracedAttempt) → IsAttemptLine front a → None ≡ Some a) → IsRunLine line → ⊥
+    → fits_form plug_form front ≡ false → has_form report_forms front ≡ false → ((a : TracedAttempt) → IsAttemptLine front a → None ≡ Some a) → IsRunLine line → ⊥
 none_refused front line is_long e long short no_p no_r no_a (inl (inl plug)) = no_plug front line e no_p plug
 none_refused front line is_long e long short no_p no_r no_a (inl (inr (few, report))) =
     let fit = is_report-complete front (subst IsReport (sym (short_whole front line e few)) report) in absurd (cc)

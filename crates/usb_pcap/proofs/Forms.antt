@@ -2,7 +2,7 @@
 use Rattle.std.proofs.Common.{◌≡◌, ◌≢◌, ℕ, zero, suc, ◌+◌, ◌-◌, ◌≤◌, inl, inr, ◌&&◌, ◌||◌, Bool, true, false, List, [], ◌∷◌, ◌++◌, length, take, drop, Option, Some, None, refl, sym, ap, subst, ◌∙◌, arith, append_assoc, append-nil, length-append}
 use Rattle.std.proofs.lemmas.Bool.{and_parts, eqb-true}
 use Rattle.std.proofs.lemmas.List.{length-take, take-append-drop}
-use Rattle.usb_pcap.specs.Grammar.{IsForm, IsOneOf, IsPiece, Piece, behind_piece, fits}
+use Rattle.usb_pcap.specs.Grammar.{IsForm, IsOneOf, IsPiece, Piece, behind_piece, fits_form}
 use Rattle.usb_pcap.specs.Report.{HasForm, IsPlug, IsReport, has_form, plug_form, report_forms}
 use Rattle.usb_pcap.specs.Capture.{longest}
 use Rattle.usb_pcap.proofs.Items.{StopsAt, distinct, halts, no_length, piece-complete, piece-sound, ports_short}
@@ -87,29 +87,29 @@ some_fits : {P : Type 0} (o : Option (List ℕ)) (f : List ℕ → Bool) → eli
 some_fits None f e k = absurd (cc)
 some_fits (Some rest) f e k = k rest refl e
 
-pub fits-sound : (form : List Piece) (text : List ℕ) → fits form text ≡ true → IsForm form text
-unfolding fits
-fits-sound [] text e = let none = eqb-true (length text) 0 e in no_length text (omega (arith, none))
-fits-sound (p ∷ form) text e =
-    some_fits (behind_piece p text) (fits form) e (λ rest found more.
+pub fits_form-sound : (form : List Piece) (text : List ℕ) → fits_form form text ≡ true → IsForm form text
+unfolding fits_form
+fits_form-sound [] text e = let none = eqb-true (length text) 0 e in no_length text (omega (arith, none))
+fits_form-sound (p ∷ form) text e =
+    some_fits (behind_piece p text) (fits_form form) e (λ rest found more.
     let (first, is, split) = piece-sound p text rest found in
-    (first, rest, is, fits-sound form rest more, split))
+    (first, rest, is, fits_form-sound form rest more, split))
 
-fits_more : (p : Piece) (form : List Piece) (text rest : List ℕ) → behind_piece p text ≡ Some rest → fits (p ∷ form) text ≡ fits form rest
-unfolding fits
-fits_more p form text rest e = rw (fits, e) refl
+fits_more : (p : Piece) (form : List Piece) (text rest : List ℕ) → behind_piece p text ≡ Some rest → fits_form (p ∷ form) text ≡ fits_form form rest
+unfolding fits_form
+fits_more p form text rest e = rw (fits_form, e) refl
 
-fits_none : (text : List ℕ) → text ≡ [] → fits [] text ≡ true
-unfolding fits
+fits_none : (text : List ℕ) → text ≡ [] → fits_form [] text ≡ true
+unfolding fits_form
 fits_none text e = rw e refl
 
-pub fits-complete : (form : List Piece) (text : List ℕ) → parted form ≡ true → IsForm form text → fits form text ≡ true
-fits-complete [] text h e = fits_none text e
-fits-complete (p ∷ form) text h (first, more, is, of, e) =
+pub fits_form-complete : (form : List Piece) (text : List ℕ) → parted form ≡ true → IsForm form text → fits_form form text ≡ true
+fits_form-complete [] text h e = fits_none text e
+fits_form-complete (p ∷ form) text h (first, more, is, of, e) =
     let one = and_parts (distinct p && stopped_by p form) (parted form) h in
     let two = and_parts (distinct p) (stopped_by p form) one.0 in
-    subst (λ t. fits (p ∷ form) t ≡ true) (sym e)
-    (fits_more p form (first ++ more) more (piece-complete p first more two.0 is (ends p form more two.1 of)) ∙ fits-complete form more one.1 of)
+    subst (λ t. fits_form (p ∷ form) t ≡ true) (sym e)
+    (fits_more p form (first ++ more) more (piece-complete p first more two.0 is (ends p form more two.1 of)) ∙ fits_form-complete form more one.1 of)
 
 abbrev all_parted : List (List Piece) → Bool
 all_parted [] = true
@@ -117,7 +117,7 @@ all_parted (form ∷ forms) = parted form && all_parted forms
 
 has_form-sound : (forms : List (List Piece)) (line : List ℕ) → has_form forms line ≡ true → HasForm forms line
 has_form-sound [] line e = absurd (cc)
-has_form-sound (form ∷ forms) line e = either (fits form line) (has_form forms line) e (λ h. inl (fits-sound form line h)) (λ h. inr (has_form-sound forms line h))
+has_form-sound (form ∷ forms) line e = either (fits_form form line) (has_form forms line) e (λ h. inl (fits_form-sound form line h)) (λ h. inr (has_form-sound forms line h))
 
 or_right : (a : Bool) → (a || true) ≡ true
 or_right true = refl
@@ -125,8 +125,8 @@ or_right false = refl
 
 has_form-complete : (forms : List (List Piece)) (line : List ℕ) → all_parted forms ≡ true → HasForm forms line → has_form forms line ≡ true
 has_form-complete [] line h is = absurd is
-has_form-complete (form ∷ forms) line h (inl is) = rw (fits-complete form line (and_parts (parted form) (all_parted forms) h).0 is) refl
-has_form-complete (form ∷ forms) line h (inr is) = rw (has_form-complete forms line (and_parts (parted form) (all_parted forms) h).1 is) (or_right (fits form line))
+has_form-complete (form ∷ forms) line h (inl is) = rw (fits_form-complete form line (and_parts (parted form) (all_parted forms) h).0 is) refl
+has_form-complete (form ∷ forms) line h (inr is) = rw (has_form-complete forms line (and_parts (parted form) (all_parted forms) h).1 is) (or_right (fits_form form line))
 
 pub is_report-sound : (line : List ℕ) → has_form report_forms line ≡ true → IsReport line
 is_report-sound line e = has_form-sound report_forms line e
@@ -148,10 +148,10 @@ plug_more line tail (a, after, is_a, (p, behind, is_p, (b, last, is_b, (name, no
     let one : line ++ tail ≡ a ++ (after ++ tail) = ap (λ l. l ++ tail) e1 ∙ append_assoc a after tail in
     (a, after ++ tail, is_a, (p, behind ++ tail, is_p, (b, last ++ tail, is_b, (name ++ tail, [], some_more name tail some, refl, four), three), two), one)
 
-pub plug_taken : (front line : List ℕ) → front ≡ take longest line → fits plug_form front ≡ true → IsPlug line
+pub plug_taken : (front line : List ℕ) → front ≡ take longest line → fits_form plug_form front ≡ true → IsPlug line
 plug_taken front line e fit =
     let whole : front ++ drop longest line ≡ line = ap (λ l. l ++ drop longest line) e ∙ take-append-drop longest line in
-    subst IsPlug whole (plug_more front (drop longest line) (fits-sound plug_form front fit))
+    subst IsPlug whole (plug_more front (drop longest line) (fits_form-sound plug_form front fit))
 
 take_past : (n : ℕ) (xs ys : List ℕ) → length xs ≤ n → take n (xs ++ ys) ≡ xs ++ take (n - length xs) ys
 take_past n [] ys le = let same : n ≡ n - 0 = omega arith in ap (λ k. take k ys) same
@@ -183,6 +183,6 @@ plug_front line (a, after, is_a, (p, behind, is_p, (b, last, is_b, (name, none, 
     let again : take longest line ≡ a ++ (p ++ (b ++ (rest ++ []))) = cut ∙ simp (append_assoc, append-nil) in
     (a, p ++ (b ++ (rest ++ [])), is_a, (p, b ++ (rest ++ []), is_p, (b, rest ++ [], is_b, (rest, [], take_some (longest - length head) name (omega (arith, long, long_p, long_a, long_b)) some, refl, refl), refl), refl), again)
 
-pub no_plug : (front line : List ℕ) → front ≡ take longest line → fits plug_form front ≡ false → IsPlug line → ⊥
+pub no_plug : (front line : List ℕ) → front ≡ take longest line → fits_form plug_form front ≡ false → IsPlug line → ⊥
 no_plug front line e non is =
-    let fit = fits-complete plug_form front refl (subst IsPlug (sym e) (plug_front line is)) in absurd (cc)
+    let fit = fits_form-complete plug_form front refl (subst IsPlug (sym e) (plug_front line is)) in absurd (cc)

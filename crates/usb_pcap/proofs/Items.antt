@@ -9,7 +9,8 @@ use Rattle.std.specs.Option.{option_and_then}
 use Rattle.usb_pcap.specs.declared.item.Item.{Item}
 use Rattle.usb_pcap.specs.declared.item.Item.TheVariants.{Port, Byte, Letter}
 use Rattle.usb_pcap.specs.Text.{decimal_in, if_found, is_digit, number_on, strip, strip_any, with_digit}
-use Rattle.usb_pcap.specs.Grammar.{AreItems, IsItem, IsOneOf, IsPiece, Piece, behind_bytes, behind_escape, behind_item, behind_items, behind_piece, is_escape, is_plain, is_port_digit}
+use Rattle.usb_port.specs.Path.{is_port_digit}
+use Rattle.usb_pcap.specs.Grammar.{AreUnits, IsUnit, IsOneOf, IsPiece, Piece, behind_bytes, behind_escape, behind_item, behind_items, behind_piece, is_escape, is_plain}
 use Rattle.usb_pcap.proofs.Reading.{decimal_in-some, found_some, if_either, if_some, map_some, strip-some}
 
 -- ---- words
@@ -75,7 +76,7 @@ strip_any-sound (w ∷ ws) text rest e =
 
 -- ---- items
 
-escape-sound : (s : ℕ) (text rest : List ℕ) → s ≡ 92 → behind_escape text ≡ Some rest → (item : List ℕ) × IsItem Letter item × (s ∷ text ≡ item ++ rest)
+escape-sound : (s : ℕ) (text rest : List ℕ) → s ≡ 92 → behind_escape text ≡ Some rest → (item : List ℕ) × IsUnit Letter item × (s ∷ text ≡ item ++ rest)
 escape-sound s [] rest back e = absurd (cc)
 escape-sound s (u ∷ []) rest back e = absurd (cc)
 escape-sound s (u ∷ a ∷ []) rest back e = absurd (cc)
@@ -88,7 +89,7 @@ escape-sound s (u ∷ a ∷ b ∷ c ∷ d ∷ text) rest back e =
     let same = same_Some text rest is in
     (92 ∷ 117 ∷ a ∷ b ∷ c ∷ d ∷ [], inr (a, b, c, d, both.1, refl), cc))
 
-item-sound : (kind : Item) (text rest : List ℕ) → behind_item kind text ≡ Some rest → (item : List ℕ) × IsItem kind item × (text ≡ item ++ rest)
+item-sound : (kind : Item) (text rest : List ℕ) → behind_item kind text ≡ Some rest → (item : List ℕ) × IsUnit kind item × (text ≡ item ++ rest)
 unfolding behind_item
 item-sound Port [] rest e = absurd (cc)
 item-sound Port (c ∷ []) rest e = absurd (cc)
@@ -108,29 +109,29 @@ item-sound Letter (c ∷ text) rest e =
     (λ fit is. (c ∷ [], inl (c, fit, refl), ap (λ t. c ∷ t) (same_Some text rest is)))
     (λ non more. if_some (c == 92) (behind_escape text) rest more (λ back is. escape-sound c text rest (eqb-true c 92 back) is))
 
-item-complete : (kind : Item) (item rest : List ℕ) → IsItem kind item → behind_item kind (item ++ rest) ≡ Some rest
+item-complete : (kind : Item) (item rest : List ℕ) → IsUnit kind item → behind_item kind (item ++ rest) ≡ Some rest
 unfolding behind_item
 item-complete Port item rest (d, fit, e) = rw (e, fit) refl
 item-complete Byte item rest (h, l, fit, e) = rw (e, fit) refl
 item-complete Letter item rest (inl (c, fit, e)) = rw (e, fit) refl
 item-complete Letter item rest (inr (a, b, c, d, fit, e)) = rw (e, fit) refl
 
-item-some : (kind : Item) (item : List ℕ) → IsItem kind item → 1 ≤ length item
+item-some : (kind : Item) (item : List ℕ) → IsUnit kind item → 1 ≤ length item
 item-some Port item (d, fit, e) = rw e (omega arith)
 item-some Byte item (h, l, fit, e) = rw e (omega arith)
 item-some Letter item (inl (c, fit, e)) = rw e (omega arith)
 item-some Letter item (inr (a, b, c, d, fit, e)) = rw e (omega arith)
 
 items_step : (kind : Item) (n : ℕ) (text : List ℕ) (found : Option (List ℕ)) → behind_item kind text ≡ found
-    → ((t : List ℕ) → (items : List ℕ) × AreItems kind n items × (t ≡ items ++ behind_items kind n t))
-    → (items : List ℕ) × AreItems kind (suc n) items × (text ≡ items ++ elim found [ None ↦ text | Some rest ↦ behind_items kind n rest ])
+    → ((t : List ℕ) → (items : List ℕ) × AreUnits kind n items × (t ≡ items ++ behind_items kind n t))
+    → (items : List ℕ) × AreUnits kind (suc n) items × (text ≡ items ++ elim found [ None ↦ text | Some rest ↦ behind_items kind n rest ])
 items_step kind n text None e more = ([], inl refl, refl)
 items_step kind n text (Some rest) e more =
     let (item, is, split) = item-sound kind text rest e in
     let (items, are, whole) = more rest in
     (item ++ items, inr (item, items, is, are, refl), split ∙ ap (λ l. item ++ l) whole ∙ sym (append_assoc item items (behind_items kind n rest)))
 
-pub items-sound : (kind : Item) (n : ℕ) (text : List ℕ) → (items : List ℕ) × AreItems kind n items × (text ≡ items ++ behind_items kind n text)
+pub items-sound : (kind : Item) (n : ℕ) (text : List ℕ) → (items : List ℕ) × AreUnits kind n items × (text ≡ items ++ behind_items kind n text)
 unfolding behind_items
 items-sound kind zero text = ([], refl, refl)
 items-sound kind (suc n) text = items_step kind n text (behind_item kind text) refl (λ t. items-sound kind n t)
@@ -153,7 +154,7 @@ unfolding behind_items
 behind_end kind zero text e = refl
 behind_end kind (suc m) text e = rw (behind_items, e) refl
 
-pub items-complete : (kind : Item) (n m : ℕ) (items rest : List ℕ) → n ≤ m → AreItems kind n items → behind_item kind rest ≡ None → behind_items kind m (items ++ rest) ≡ rest
+pub items-complete : (kind : Item) (n m : ℕ) (items rest : List ℕ) → n ≤ m → AreUnits kind n items → behind_item kind rest ≡ None → behind_items kind m (items ++ rest) ≡ rest
 items-complete kind zero m items rest le are end = subst (λ l. behind_items kind m (l ++ rest) ≡ rest) (sym are) (behind_end kind m rest end)
 items-complete kind (suc n) zero items rest le are end = absurd (omega arith)
 items-complete kind (suc n) (suc m) items rest le (inl none) end = subst (λ l. behind_items kind (suc m) (l ++ rest) ≡ rest) (sym none) (behind_end kind (suc m) rest end)
@@ -166,7 +167,7 @@ no_length [] few = refl
 no_length (c ∷ l) few = absurd (omega arith)
 
 -- there are non more items than characters
-pub items_fewer : (kind : Item) (n m : ℕ) (items : List ℕ) → length items ≤ m → AreItems kind n items → AreItems kind m items
+pub items_fewer : (kind : Item) (n m : ℕ) (items : List ℕ) → length items ≤ m → AreUnits kind n items → AreUnits kind m items
 items_fewer kind zero zero items few are = are
 items_fewer kind zero (suc m) items few are = inl are
 items_fewer kind (suc n) zero items few are = no_length items few
@@ -176,7 +177,7 @@ items_fewer kind (suc n) (suc m) items few (inr (item, more, is, are, e)) =
     let both = ap length e ∙ length-append item more in
     inr (item, more, is, items_fewer kind n m more (omega (arith, some, both)) are, e)
 
-pub ports_short : (n : ℕ) (items : List ℕ) → AreItems Port n items → length items ≤ 2 * n
+pub ports_short : (n : ℕ) (items : List ℕ) → AreUnits Port n items → length items ≤ 2 * n
 ports_short zero items are = rw are (omega arith)
 ports_short (suc n) items (inl none) = rw none (omega arith)
 ports_short (suc n) items (inr (item, more, (d, fit, is), are, e)) =
@@ -336,7 +337,7 @@ piece-sound Piece.name (c ∷ text) rest e =
 dash_apart : (h : ℕ) → is_digit h ≡ true → (h == 45) ≡ false
 dash_apart h digit = grind (arith, nat_tests)
 
-no_dash : (first rest : List ℕ) → IsItem Byte first → strip (codes "-") (first ++ rest) ≡ None
+no_dash : (first rest : List ℕ) → IsUnit Byte first → strip (codes "-") (first ++ rest) ≡ None
 unfolding strip
 no_dash first rest (h, l, fit, e) =
     let other = dash_apart h (and_parts (is_digit h) (is_digit l) fit).0 in rw (e, other) refl

@@ -31,8 +31,8 @@ unfolding token_in
 token_in-some kind text r e =
     option_and_then_some (λ addr. option_and_then (λ rest. option_and_then (fitting_token kind addr.0) (decimal_in rest)) (strip (codes ".") addr.1)) (decimal_in text) r e (λ addr first behind.
     option_and_then_some (λ rest. option_and_then (fitting_token kind addr.0) (decimal_in rest)) (strip (codes ".") addr.1) r behind (λ rest dot more.
-    option_and_then_some (fitting_token kind addr.0) (decimal_in rest) r more (λ ep second fits.
-    if_some (nat_lt addr.0 128 && nat_lt ep.0 16) (Some (Token kind addr.0 ep.0, ep.1)) r fits (λ both is.
+    option_and_then_some (fitting_token kind addr.0) (decimal_in rest) r more (λ ep second fits_form.
+    if_some (nat_lt addr.0 128 && nat_lt ep.0 16) (Some (Token kind addr.0 ep.0, ep.1)) r fits_form (λ both is.
     let tests = and_parts (nat_lt addr.0 128) (nat_lt ep.0 16) both in
     let one = decimal_in-some text addr first in
     let two = decimal_in-some rest ep second in
@@ -42,9 +42,9 @@ token_in-some kind text r e =
 
 data_of-some : (toggle : Toggle) (text : List ℕ) (b r : _) → data_of toggle b ≡ Some r → text ≡ encode_upper b.0 ++ b.1 → (length b.0 ≤ 64) × IsBytes b.0
     → BeginsAs (data_name toggle ++ text) r
-data_of-some toggle text ([], rest) r is e fits = absurd (cc)
-data_of-some toggle text (byte ∷ bytes, rest) r is e fits =
-    begins (data_name toggle ++ text) (Payload toggle (record { items = byte ∷ bytes }), rest) r (ap (λ l. data_name toggle ++ l) e ∙ sym (append_assoc (data_name toggle) (encode_upper (byte ∷ bytes)) rest), tt, fits) is
+data_of-some toggle text ([], rest) r is e fits_form = absurd (cc)
+data_of-some toggle text (byte ∷ bytes, rest) r is e fits_form =
+    begins (data_name toggle ++ text) (Payload toggle (record { items = byte ∷ bytes }), rest) r (ap (λ l. data_name toggle ++ l) e ∙ sym (append_assoc (data_name toggle) (encode_upper (byte ∷ bytes)) rest), tt, fits_form) is
 
 no_bytes : (i : ℕ) → slice_index [] i < 256
 no_bytes zero = omega arith

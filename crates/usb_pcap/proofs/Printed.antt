@@ -219,19 +219,19 @@ mark_blank (Flipped bit) rest end = refl
 
 few_bits : (p : Packet) → HasData p → bit_count p ≤ 536
 unfolding bit_count
-few_bits (Token kind addr ep) fits = omega arith
-few_bits (Sof frame) fits = omega arith
-few_bits (Payload toggle bytes) fits = let few = fits.0 in omega (arith, few)
-few_bits Ack fits = omega arith
-few_bits Nak fits = omega arith
-few_bits Stall fits = omega arith
-few_bits Pre fits = omega arith
+few_bits (Token kind addr ep) fits_form = omega arith
+few_bits (Sof frame) fits_form = omega arith
+few_bits (Payload toggle bytes) fits_form = let few = fits_form.0 in omega (arith, few)
+few_bits Ack fits_form = omega arith
+few_bits Nak fits_form = omega arith
+few_bits Stall fits_form = omega arith
+few_bits Pre fits_form = omega arith
 
 mark_small : (pre : Bool) (m : Mark) (p : Packet) → HasData p → may_be_marked pre m p ≡ true → IsSmall m
-mark_small pre Whole p fits h = tt
-mark_small pre Lost p fits h = tt
-mark_small pre PreLost p fits h = tt
-mark_small pre (Flipped bit) p fits h = let few = few_bits p fits in let below = ltb-true bit (bit_count p) h in omega (arith, few, below)
+mark_small pre Whole p fits_form h = tt
+mark_small pre Lost p fits_form h = tt
+mark_small pre PreLost p fits_form h = tt
+mark_small pre (Flipped bit) p fits_form h = let few = few_bits p fits_form in let below = ltb-true bit (bit_count p) h in omega (arith, few, below)
 
 -- ---- packets of the host
 

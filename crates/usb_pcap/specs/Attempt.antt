@@ -84,7 +84,7 @@ is_answer (Sof frame) = false
 is_answer Pre = false
 
 abbrev pub kept_where : (Packet → Bool) → Outgoing × List ℕ → Option (Outgoing × List ℕ)
-kept_where fits sent = if fits sent.0.packet then Some sent else None
+kept_where fits_form sent = if fits_form sent.0.packet then Some sent else None
 
 -- the host's data
 unfoldable pub host_data_in : Bool → List ℕ → Option (Outgoing × List ℕ)

@@ -4,13 +4,10 @@ use Rattle.usb_pcap.specs.declared.item.Item.{Item}
 use Rattle.usb_pcap.specs.declared.item.Item.TheVariants.{Port, Byte, Letter}
 use Rattle.usb_pcap.specs.declared.part.Part.{Part}
 use Rattle.usb_pcap.specs.declared.part.Part.TheVariants as part
+use Rattle.usb_port.specs.Path.{is_port_digit}
 use Rattle.usb_pcap.specs.Text.{decimal_in, if_found, is_digit, strip, strip_any, value_of}
 
 -- ---- the grammar
-
--- the digit of a port's number
-abbrev pub is_port_digit : ℕ → Bool
-is_port_digit d = nat_le 49 d && nat_le d 55
 
 -- a character of a string that stands for itself: printable, and neither a quotation mark nor a backslash
 abbrev pub is_plain : ℕ → Bool
@@ -21,17 +18,17 @@ abbrev pub is_escape : ℕ → ℕ → ℕ → ℕ → Bool
 is_escape a b c d = is_digit a && is_digit b && is_digit c && is_digit d && not (a == 48 && b == 48 && is_plain (value_of c * 16 + value_of d))
 
 -- a dot and a port's number; two digits; a character of a string, or \uXXXX
-abbrev pub IsItem : Item → List ℕ → Type 0
-IsItem Port item = (d : ℕ) × (is_port_digit d ≡ true) × (item ≡ 46 ∷ d ∷ [])
-IsItem Byte item = (h : ℕ) × (l : ℕ) × ((is_digit h && is_digit l) ≡ true) × (item ≡ h ∷ l ∷ [])
-IsItem Letter item =
+abbrev pub IsUnit : Item → List ℕ → Type 0
+IsUnit Port item = (d : ℕ) × (is_port_digit d ≡ true) × (item ≡ 46 ∷ d ∷ [])
+IsUnit Byte item = (h : ℕ) × (l : ℕ) × ((is_digit h && is_digit l) ≡ true) × (item ≡ h ∷ l ∷ [])
+IsUnit Letter item =
     ((c : ℕ) × (is_plain c ≡ true) × (item ≡ c ∷ []))
     ⊎ ((a : ℕ) × (b : ℕ) × (c : ℕ) × (d : ℕ) × (is_escape a b c d ≡ true) × (item ≡ 92 ∷ 117 ∷ a ∷ b ∷ c ∷ d ∷ []))
 
 -- at most n items, one behind the other
-abbrev pub AreItems : Item → ℕ → List ℕ → Type 0
-AreItems kind zero text = text ≡ []
-AreItems kind (suc n) text = (text ≡ []) ⊎ ((item : List ℕ) × (more : List ℕ) × IsItem kind item × AreItems kind n more × (text ≡ item ++ more))
+abbrev pub AreUnits : Item → ℕ → List ℕ → Type 0
+AreUnits kind zero text = text ≡ []
+AreUnits kind (suc n) text = (text ≡ []) ⊎ ((item : List ℕ) × (more : List ℕ) × IsUnit kind item × AreUnits kind n more × (text ≡ item ++ more))
 
 abbrev pub IsOneOf : List (List ℕ) → List ℕ → Type 0
 IsOneOf [] text = ⊥
@@ -51,12 +48,12 @@ pub data Piece : Type 0 where
 abbrev pub IsPiece : Piece → List ℕ → Type 0
 IsPiece (Piece.word w) text = text ≡ w
 IsPiece (Piece.one_of words) text = IsOneOf words text
-IsPiece Piece.path text = (d : ℕ) × (more : List ℕ) × (is_port_digit d ≡ true) × AreItems Port 6 more × (text ≡ d ∷ more)
+IsPiece Piece.path text = (d : ℕ) × (more : List ℕ) × (is_port_digit d ≡ true) × AreUnits Port 6 more × (text ≡ d ∷ more)
 IsPiece Piece.number text = (n : ℕ) × (n < 2 ^ 64) × (text ≡ decimal n)
 IsPiece Piece.bytes text =
     (text ≡ codes "-")
-    ⊎ ((n : ℕ) × (first : List ℕ) × (more : List ℕ) × IsItem Byte first × AreItems Byte n more × (text ≡ first ++ more))
-IsPiece Piece.string text = (n : ℕ) × AreItems Letter n text
+    ⊎ ((n : ℕ) × (first : List ℕ) × (more : List ℕ) × IsUnit Byte first × AreUnits Byte n more × (text ≡ first ++ more))
+IsPiece Piece.string text = (n : ℕ) × AreUnits Letter n text
 IsPiece Piece.name text = text ≢ []
 
 -- the texts of a row of pieces
@@ -117,9 +114,9 @@ behind_piece Piece.string text = Some (behind_items Letter (length text) text)
 behind_piece Piece.name text = behind_name text
 
 -- whether a text is of a row of pieces
-unfoldable pub fits : List Piece → List ℕ → Bool
-fits [] text = length text == 0
-fits (piece ∷ form) text = elim (behind_piece piece text) [ None ↦ false | Some rest ↦ fits form rest ]
+unfoldable pub fits_form : List Piece → List ℕ → Bool
+fits_form [] text = length text == 0
+fits_form (piece ∷ form) text = elim (behind_piece piece text) [ None ↦ false | Some rest ↦ fits_form form rest ]
 
 -- a part, as the grammar has it
 abbrev pub piece_of : Part → Piece

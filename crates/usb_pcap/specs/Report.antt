@@ -1,6 +1,6 @@
 -- The lines of a run that are of no attempt.
 use Rattle.std.specs.Prelude.{◌⊎◌, ℕ, ◌||◌, Bool, false, List, [], ◌∷◌, codes}
-use Rattle.usb_pcap.specs.Grammar.{IsForm, Piece, fits}
+use Rattle.usb_pcap.specs.Grammar.{IsForm, Piece, fits_form}
 use Rattle.usb_pcap.specs.Grammar.Piece.{word, one_of, path, number, bytes, string, name}
 
 -- why a device was refused
@@ -52,4 +52,4 @@ IsReport line = HasForm report_forms line
 
 abbrev pub has_form : List (List Piece) → List ℕ → Bool
 has_form [] line = false
-has_form (form ∷ forms) line = fits form line || has_form forms line
+has_form (form ∷ forms) line = fits_form form line || has_form forms line

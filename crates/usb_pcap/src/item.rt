@@ -1,6 +1,7 @@
 //! Items of a text that stand one behind the other.
 ghost use Rattle.std.specs.Prelude.{◌≡◌, option_map};
-ghost use Rattle.usb_pcap.specs.Grammar.{behind_byte, behind_escape, behind_item, behind_items, behind_letter, behind_port, is_escape, is_plain, is_port_digit};
+ghost use Rattle.usb_port.specs.Path.{is_port_digit};
+ghost use Rattle.usb_pcap.specs.Grammar.{behind_byte, behind_escape, behind_item, behind_items, behind_letter, behind_port, is_escape, is_plain};
 
 use crate::text::{is_digit, value_of};
 

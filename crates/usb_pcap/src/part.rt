@@ -1,6 +1,6 @@
 //! Parts of a line.
 ghost use Rattle.std.specs.Prelude.{◌≡◌, map, option_map};
-ghost use Rattle.usb_pcap.specs.Grammar.{behind_bytes, behind_name, behind_path, behind_piece, fits, piece_of};
+ghost use Rattle.usb_pcap.specs.Grammar.{behind_bytes, behind_name, behind_path, behind_piece, fits_form, piece_of};
 ghost use Rattle.usb_pcap.specs.Text.{decimal_in, strip, strip_any};
 
 use crate::item::{Item, behind_item, behind_items, is_port_digit};
@@ -25,15 +25,15 @@ pub(crate) enum Part {
 }
 
 /// Whether a text is of these parts, one behind the other.
-#[tactic(auto, unfolding(crate::specs::Grammar::fits))]
-pub(crate) fn fits(form: &[Part], text: &[u8]) -> bool
-    ensures { result ≡ fits (map piece_of form.now) text.now }
+#[tactic(auto, unfolding(crate::specs::Grammar::fits_form))]
+pub(crate) fn fits_form(form: &[Part], text: &[u8]) -> bool
+    ensures { result ≡ fits_form (map piece_of form.now) text.now }
 {
     let [part, form @ ..] = form else {
         return text.is_empty();
     };
     match behind_part(part, text) {
-        Some(rest) => fits(form, rest),
+        Some(rest) => fits_form(form, rest),
         None => false,
     }
 }

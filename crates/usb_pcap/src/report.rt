@@ -1,10 +1,10 @@
 //! The lines of a run that are of no attempt.
 ghost use Rattle.std.specs.Prelude.{◌≡◌, map};
-ghost use Rattle.usb_pcap.specs.Grammar.{fits, piece_of};
+ghost use Rattle.usb_pcap.specs.Grammar.{fits_form, piece_of};
 ghost use Rattle.usb_pcap.specs.Report.{has_form, plug_form, report_forms};
 
 use crate::part::Part::{self, Bytes, Name, Number, OneOf, Path, Text, Word};
-use crate::part::fits;
+use crate::part::fits_form;
 
 /// Why a device was refused.
 const CAUSES: [&str; 12] = [
@@ -79,9 +79,9 @@ const REPORTS: [&[Part]; 15] = [
 
 /// Whether a line is that of a plug.
 pub(crate) fn is_plug(line: &[u8]) -> bool
-    ensures { result ≡ fits plug_form line.now }
+    ensures { result ≡ fits_form plug_form line.now }
 {
-    fits(&PLUG, line)
+    fits_form(&PLUG, line)
 }
 
 /// Whether a line is of another event, a listing, a transfer or a bound.
@@ -97,5 +97,5 @@ fn has_form(forms: &[&[Part]], line: &[u8]) -> bool
     let [form, forms @ ..] = forms else {
         return false;
     };
-    fits(form, line) || has_form(forms, line)
+    fits_form(form, line) || has_form(forms, line)
 }

@@ -15,9 +15,9 @@ use Rattle.usb_wire.specs.declared.fault.WireFault.{WireFault}
 use Rattle.usb_wire.specs.declared.fault.WireFault.TheVariants.{LineTooLong, BadCharacter, NoAnswer, BadHex, BadLength, BadNumber, BadPath}
 use Rattle.usb_wire.specs.declared.question.Asked.{Asked}
 use Rattle.usb_wire.specs.declared.question.Asked.TheVariants.{Hello, Attempt, Port, Wait}
-use Rattle.usb_wire.specs.Faults.{Field, Form, argument_fault, bytes_field, fault_by, fault_of, fields_in, forms, packets_field, path_field, root_field, roots_field, status_field, words_fault}
+use Rattle.usb_wire.specs.Faults.{Field, Form, argument_fault, bytes_field, fault_by, line_fault, fields_in, forms, packets_field, path_field, root_field, roots_field, status_field, words_fault}
 use Rattle.usb_wire.specs.Fields.{hex_length, hex_value, is_dash, is_hex, number_within}
-use Rattle.usb_wire.specs.Reading.{◌>>=◌, alone, answered, bytes_in, clear_answer, count_in, data_answer, fault_in, line_says, number_in, path_in, pushed, receive_answer, roots_answer, send_answer, status_in, text_in, three_say, with_one, with_two, words_say}
+use Rattle.usb_wire.specs.Reading.{◌>>=◌, alone, said_of, bytes_of_word, clear_answer, count_in, data_answer, fault_in, line_says, number_of_word, path_in, status_change, receive_answer, roots_answer, send_answer, status_of_word, text_of_line, three_say, with_one, with_two, words_say}
 use Rattle.usb_wire.specs.Words.{all_printable, words}
 use Rattle.usb_wire.proofs.FieldLemmas.{value-hex}
 
@@ -31,9 +31,9 @@ fault_in-then : {A B : Type 0} (r : Result A WireFault) (f : A → Result B Wire
 fault_in-then (Ok x) f g h = h x
 fault_in-then (Err e) f g h = refl
 
-fault_in-answered : (r : Result Answer WireFault) → fault_in (answered r) ≡ fault_in r
-fault_in-answered (Ok answer) = refl
-fault_in-answered (Err e) = refl
+fault_in-said_of : (r : Result Answer WireFault) → fault_in (said_of r) ≡ fault_in r
+fault_in-said_of (Ok answer) = refl
+fault_in-said_of (Err e) = refl
 
 fault_in-ok_or : {A : Type 0} (o : Option A) (e : WireFault) → fault_in (ok_or o e) ≡ (if is_none o then Some e else None)
 fault_in-ok_or (Some x) e = refl
@@ -52,8 +52,8 @@ bytes_rows : (hex : Bool) (n : ℕ) (o : Option (List ℕ)) → (hex ≡ true �
 bytes_rows true n o given = let value = given refl in value_given o value.0 (nat_lt 64 n) value.1
 bytes_rows false n o given = refl
 
-fault_in-bytes : (word : List ℕ) → fault_in (bytes_in word) ≡ (if not (is_dash word || is_hex word) then Some BadHex else if nat_lt 64 (hex_length word) then Some BadLength else None)
-unfolding bytes_in count_in
+fault_in-bytes : (word : List ℕ) → fault_in (bytes_of_word word) ≡ (if not (is_dash word || is_hex word) then Some BadHex else if nat_lt 64 (hex_length word) then Some BadLength else None)
+unfolding bytes_of_word count_in
 fault_in-bytes word = bytes_rows (is_dash word || is_hex word) (hex_length word) (hex_value word) (value-hex word)
 
 status_given : (o : Option (List ℕ)) (xs : List ℕ) (b : Bool) → o ≡ Some xs → fault_in (if b then ok_or o BadHex else Err BadLength) ≡ (if not b then Some BadLength else None)
@@ -67,12 +67,12 @@ status_rows : (hex : Bool) (n : ℕ) (o : Option (List ℕ)) → (hex ≡ true �
 status_rows true n o given = let value = given refl in status_given o value.0 (n == 4) value.1
 status_rows false n o given = refl
 
-fault_in-status : (word : List ℕ) → fault_in (status_in word) ≡ (if not (is_dash word || is_hex word) then Some BadHex else if not (hex_length word == 4) then Some BadLength else None)
-unfolding status_in count_in
+fault_in-status : (word : List ℕ) → fault_in (status_of_word word) ≡ (if not (is_dash word || is_hex word) then Some BadHex else if not (hex_length word == 4) then Some BadLength else None)
+unfolding status_of_word count_in
 fault_in-status word = status_rows (is_dash word || is_hex word) (hex_length word) (hex_value word) (value-hex word)
 
-fault_in-number : (least most : ℕ) (word : List ℕ) → fault_in (number_in least most word) ≡ (if is_none (number_within least most word) then Some BadNumber else None)
-unfolding number_in
+fault_in-number : (least most : ℕ) (word : List ℕ) → fault_in (number_of_word least most word) ≡ (if is_none (number_within least most word) then Some BadNumber else None)
+unfolding number_of_word
 fault_in-number least most word = fault_in-ok_or (number_within least most word) BadNumber
 
 fault_in-path : (word : List ℕ) → fault_in (path_in word) ≡ (if is_none (path_of word) then Some BadPath else None)
@@ -136,12 +136,12 @@ push_given xs number = Ok (Changed number xs)
 faults-roots : (count : ℕ) (word : List ℕ) → fault_in (roots_answer word) ≡ argument_fault count (roots_field ∷ []) (word ∷ [])
 unfolding roots_answer
 faults-roots count word =
-    fault_in-then (number_in 1 7 word) roots_given None (λ _. refl) ∙ ap (λ o. first_of o None) (fault_in-number 1 7 word) ∙ roots_table (is_none (number_within 1 7 word))
+    fault_in-then (number_of_word 1 7 word) roots_given None (λ _. refl) ∙ ap (λ o. first_of o None) (fault_in-number 1 7 word) ∙ roots_table (is_none (number_within 1 7 word))
 
 faults-data : (count : ℕ) (toggle : Toggle) (word : List ℕ) → fault_in (data_answer toggle word) ≡ argument_fault count (bytes_field ∷ []) (word ∷ [])
 unfolding data_answer
 faults-data count toggle word =
-    fault_in-then (bytes_in word) (data_given toggle) None (λ _. refl) ∙ ap (λ o. first_of o None) (fault_in-bytes word) ∙ data_table (is_dash word || is_hex word) (nat_lt 64 (hex_length word))
+    fault_in-then (bytes_of_word word) (data_given toggle) None (λ _. refl) ∙ ap (λ o. first_of o None) (fault_in-bytes word) ∙ data_table (is_dash word || is_hex word) (nat_lt 64 (hex_length word))
 
 faults-clear : (count : ℕ) (word : List ℕ) → fault_in (clear_answer word) ≡ argument_fault count (path_field ∷ []) (word ∷ [])
 unfolding clear_answer
@@ -155,27 +155,27 @@ faults-send : (count : ℕ) (first second : List ℕ) → fault_in (send_answer 
 unfolding send_answer
 faults-send count first second =
     let last : Option WireFault = first_of (if is_none (path_of first) then Some BadPath else None) None in
-    fault_in-then (bytes_in second) (λ xs. path_in first >>= send_given xs) last (λ xs. path_last first (send_given xs) (λ _. refl)) ∙ ap (λ o. first_of o last) (fault_in-bytes second)
+    fault_in-then (bytes_of_word second) (λ xs. path_in first >>= send_given xs) last (λ xs. path_last first (send_given xs) (λ _. refl)) ∙ ap (λ o. first_of o last) (fault_in-bytes second)
     ∙ send_table (is_dash second || is_hex second) (nat_lt 64 (hex_length second)) (is_none (path_of first))
 
 faults-receive : (count : ℕ) (first second : List ℕ) → fault_in (receive_answer first second) ≡ argument_fault count (path_field ∷ packets_field ∷ []) (first ∷ second ∷ [])
 unfolding receive_answer
 faults-receive count first second =
     let last : Option WireFault = first_of (if is_none (path_of first) then Some BadPath else None) None in
-    fault_in-then (number_in 0 1000 second) (λ n. path_in first >>= receive_given n) last (λ n. path_last first (receive_given n) (λ _. refl)) ∙ ap (λ o. first_of o last) (fault_in-number 0 1000 second)
+    fault_in-then (number_of_word 0 1000 second) (λ n. path_in first >>= receive_given n) last (λ n. path_last first (receive_given n) (λ _. refl)) ∙ ap (λ o. first_of o last) (fault_in-number 0 1000 second)
     ∙ receive_table (is_none (number_within 0 1000 second)) (is_none (path_of first))
 
-faults-pushed : (count : ℕ) (first second : List ℕ) → fault_in (pushed count first second) ≡ argument_fault count (root_field ∷ status_field ∷ []) (first ∷ second ∷ [])
-unfolding pushed
-faults-pushed count first second =
+faults-status_change : (count : ℕ) (first second : List ℕ) → fault_in (status_change count first second) ≡ argument_fault count (root_field ∷ status_field ∷ []) (first ∷ second ∷ [])
+unfolding status_change
+faults-status_change count first second =
     let last : Option WireFault = first_of (if is_none (number_within 1 count first) then Some BadNumber else None) None in
-    fault_in-then (status_in second) (λ xs. number_in 1 count first >>= push_given xs) last (λ xs. fault_in-then (number_in 1 count first) (push_given xs) None (λ _. refl) ∙ ap (λ o. first_of o None) (fault_in-number 1 count first))
+    fault_in-then (status_of_word second) (λ xs. number_of_word 1 count first >>= push_given xs) last (λ xs. fault_in-then (number_of_word 1 count first) (push_given xs) None (λ _. refl) ∙ ap (λ o. first_of o None) (fault_in-number 1 count first))
     ∙ ap (λ o. first_of o last) (fault_in-status second)
     ∙ push_table (is_dash second || is_hex second) (hex_length second == 4) (is_none (number_within 1 count first))
 
 -- ---- lines of one word, of two, of three
 
-attempt_alone : (count : ℕ) (a n s o : Bool) → fault_in (answered (if a then Ok Ack else if n then Ok Nak else if s then Ok Stall else if o then Ok Nothing else Err NoAnswer))
+attempt_alone : (count : ℕ) (a n s o : Bool) → fault_in (said_of (if a then Ok Ack else if n then Ok Nak else if s then Ok Stall else if o then Ok Nothing else Err NoAnswer))
     ≡ fault_by count (if a then Some [] else if n then Some [] else if s then Some [] else if o then Some [] else None) []
 attempt_alone count true n s o = refl
 attempt_alone count false true s o = refl
@@ -183,18 +183,18 @@ attempt_alone count false false true o = refl
 attempt_alone count false false false true = refl
 attempt_alone count false false false false = refl
 
-port_alone : (count : ℕ) (d : Bool) → fault_in (answered (if d then Ok Done else Err NoAnswer)) ≡ fault_by count (if d then Some [] else None) []
+port_alone : (count : ℕ) (d : Bool) → fault_in (said_of (if d then Ok Done else Err NoAnswer)) ≡ fault_by count (if d then Some [] else None) []
 port_alone count true = refl
 port_alone count false = refl
 
-wait_alone : (count : ℕ) (d s e : Bool) → fault_in (answered (if d then Ok Done else if s then Ok Show else if e then Ok End else Err NoAnswer))
+wait_alone : (count : ℕ) (d s e : Bool) → fault_in (said_of (if d then Ok Done else if s then Ok Show else if e then Ok End else Err NoAnswer))
     ≡ fault_by count (if d then Some [] else if s then Some [] else if e then Some [] else None) []
 wait_alone count true s e = refl
 wait_alone count false true e = refl
 wait_alone count false false true = refl
 wait_alone count false false false = refl
 
-faults-alone : (asked : Asked) (count : ℕ) (word : List ℕ) → fault_in (answered (alone asked word)) ≡ words_fault asked count (word ∷ [])
+faults-alone : (asked : Asked) (count : ℕ) (word : List ℕ) → fault_in (said_of (alone asked word)) ≡ words_fault asked count (word ∷ [])
 unfolding alone
 faults-alone Hello count word = refl
 faults-alone Attempt count word = attempt_alone count (bytes_eq word (codes "ACK")) (bytes_eq word (codes "NAK")) (bytes_eq word (codes "STALL")) (bytes_eq word (codes "none"))
@@ -203,14 +203,14 @@ faults-alone Wait count word = wait_alone count (bytes_eq word (codes "ok")) (by
 
 -- one form, if its test holds
 one_form : (count : ℕ) (b : Bool) (r : Result Answer WireFault) (fields : List Field) (arguments : List (List ℕ)) → fault_in r ≡ argument_fault count fields arguments
-    → fault_in (answered (if b then r else Err NoAnswer)) ≡ fault_by count (if b then Some fields else None) arguments
-one_form count true r fields arguments h = fault_in-answered r ∙ h
+    → fault_in (said_of (if b then r else Err NoAnswer)) ≡ fault_by count (if b then Some fields else None) arguments
+one_form count true r fields arguments h = fault_in-said_of r ∙ h
 one_form count false r fields arguments h = refl
 
 two_forms : (count : ℕ) (b d : Bool) (r s : Result Answer WireFault) (fields others : List Field) (arguments : List (List ℕ))
     → fault_in r ≡ argument_fault count fields arguments → fault_in s ≡ argument_fault count others arguments
-    → fault_in (answered (if b then r else if d then s else Err NoAnswer)) ≡ fault_by count (if b then Some fields else if d then Some others else None) arguments
-two_forms count true d r s fields others arguments h k = fault_in-answered r ∙ h
+    → fault_in (said_of (if b then r else if d then s else Err NoAnswer)) ≡ fault_by count (if b then Some fields else if d then Some others else None) arguments
+two_forms count true d r s fields others arguments h k = fault_in-said_of r ∙ h
 two_forms count false d r s fields others arguments h k = one_form count d s others arguments k
 
 -- a push, or another form
@@ -220,7 +220,7 @@ push_or : (count : ℕ) (b : Bool) (r : Result Said WireFault) (s : Result Said 
 push_or count true r s fields others arguments h k = h
 push_or count false r s fields others arguments h k = k
 
-faults-one : (asked : Asked) (count : ℕ) (word argument : List ℕ) → fault_in (answered (with_one asked word argument)) ≡ words_fault asked count (word ∷ argument ∷ [])
+faults-one : (asked : Asked) (count : ℕ) (word argument : List ℕ) → fault_in (said_of (with_one asked word argument)) ≡ words_fault asked count (word ∷ argument ∷ [])
 unfolding with_one
 faults-one Hello count word argument =
     one_form count (bytes_eq word (codes "roots")) (roots_answer argument) (roots_field ∷ []) (argument ∷ []) (faults-roots count argument)
@@ -235,15 +235,15 @@ faults-three : (asked : Asked) (count : ℕ) (word first second : List ℕ) → 
 unfolding three_say with_two
 faults-three Hello count word first second = refl
 faults-three Attempt count word first second =
-    push_or count (bytes_eq word (codes "port")) (pushed count first second) (Err NoAnswer) (root_field ∷ status_field ∷ []) None (first ∷ second ∷ []) (faults-pushed count first second) refl
+    push_or count (bytes_eq word (codes "port")) (status_change count first second) (Err NoAnswer) (root_field ∷ status_field ∷ []) None (first ∷ second ∷ []) (faults-status_change count first second) refl
 faults-three Port count word first second =
-    push_or count (bytes_eq word (codes "port")) (pushed count first second) (Err NoAnswer) (root_field ∷ status_field ∷ []) None (first ∷ second ∷ []) (faults-pushed count first second) refl
+    push_or count (bytes_eq word (codes "port")) (status_change count first second) (Err NoAnswer) (root_field ∷ status_field ∷ []) None (first ∷ second ∷ []) (faults-status_change count first second) refl
 faults-three Wait count word first second =
     let sends = bytes_eq word (codes "send") in
     let receives = bytes_eq word (codes "receive") in
-    push_or count (bytes_eq word (codes "port")) (pushed count first second)
-    (answered (if sends then send_answer first second else if receives then receive_answer first second else Err NoAnswer)) (root_field ∷ status_field ∷ [])
-    (if sends then Some (path_field ∷ bytes_field ∷ []) else if receives then Some (path_field ∷ packets_field ∷ []) else None) (first ∷ second ∷ []) (faults-pushed count first second)
+    push_or count (bytes_eq word (codes "port")) (status_change count first second)
+    (said_of (if sends then send_answer first second else if receives then receive_answer first second else Err NoAnswer)) (root_field ∷ status_field ∷ [])
+    (if sends then Some (path_field ∷ bytes_field ∷ []) else if receives then Some (path_field ∷ packets_field ∷ []) else None) (first ∷ second ∷ []) (faults-status_change count first second)
     (two_forms count sends receives (send_answer first second) (receive_answer first second) (path_field ∷ bytes_field ∷ []) (path_field ∷ packets_field ∷ []) (first ∷ second ∷ [])
     (faults-send count first second) (faults-receive count first second))
 
@@ -286,7 +286,7 @@ line_rows false true line f other h = h
 line_rows false false line f other h = refl
 
 -- the fault that is told of a line is its own
-pub faults-line : (asked : Asked) (count : ℕ) (line : List ℕ) → fault_in (line_says asked count line) ≡ fault_of asked count line
-unfolding line_says text_in
+pub faults-line : (asked : Asked) (count : ℕ) (line : List ℕ) → fault_in (line_says asked count line) ≡ line_fault asked count line
+unfolding line_says text_of_line
 faults-line asked count line =
     line_rows (nat_lt 1024 (length line)) (all_printable line) line (λ text. words_say asked count (words text)) (words_fault asked count (words line)) (faults-words asked count (words line))

@@ -20,7 +20,7 @@ use Rattle.usb_packet.specs.Text.{hex_text}
 use Rattle.usb_port.specs.Path.{IsPortNumber, path_text}
 use Rattle.usb_wire.specs.Fields.{hex_length, hex_value, is_dash, is_decimal, is_hex, number_within}
 use Rattle.usb_wire.specs.declared.fault.WireFault.TheVariants.{BadHex, BadLength}
-use Rattle.usb_wire.specs.Reading.{◌>>=◌, bytes_in, count_in, status_in}
+use Rattle.usb_wire.specs.Reading.{◌>>=◌, bytes_of_word, count_in, status_of_word}
 use Rattle.usb_wire.proofs.WordLemmas.{all_visible, is_visible}
 
 -- a Bool is one of two
@@ -293,23 +293,23 @@ status_by : (hex : Bool) (m : ℕ) (o : Option (List ℕ)) (xs : List ℕ) → h
 status_by true m o xs h same is = rw (same, is) refl
 status_by false m o xs h same is = cc
 
-pub bytes_in-value : (word : List ℕ) (n : ℕ) (bytes : List ℕ) → Counted word n → n ≤ 64 → hex_value word ≡ Some bytes → bytes_in word ≡ Ok bytes
-unfolding bytes_in count_in
-bytes_in-value word n bytes h few e = bytes_by (is_dash word || is_hex word) (hex_length word) n (hex_value word) bytes h.hex h.count (le-ltb 64 n few) e
+pub bytes_of_word-value : (word : List ℕ) (n : ℕ) (bytes : List ℕ) → Counted word n → n ≤ 64 → hex_value word ≡ Some bytes → bytes_of_word word ≡ Ok bytes
+unfolding bytes_of_word count_in
+bytes_of_word-value word n bytes h few e = bytes_by (is_dash word || is_hex word) (hex_length word) n (hex_value word) bytes h.hex h.count (le-ltb 64 n few) e
 
-pub status_in-value : (word bytes : List ℕ) → Counted word 4 → hex_value word ≡ Some bytes → status_in word ≡ Ok bytes
-unfolding status_in count_in
-status_in-value word bytes h e = status_by (is_dash word || is_hex word) (hex_length word) (hex_value word) bytes h.hex h.count e
+pub status_of_word-value : (word bytes : List ℕ) → Counted word 4 → hex_value word ≡ Some bytes → status_of_word word ≡ Ok bytes
+unfolding status_of_word count_in
+status_of_word-value word bytes h e = status_by (is_dash word || is_hex word) (hex_length word) (hex_value word) bytes h.hex h.count e
 
 no_bytes : (bytes : List ℕ) → length bytes ≡ 0 → bytes ≡ []
 no_bytes [] e = refl
 no_bytes (b ∷ bytes) e = absurd (omega arith)
 
-pub bytes_in-none : (word : List ℕ) → Counted word 0 → bytes_in word ≡ Ok []
-bytes_in-none word h =
+pub bytes_of_word-none : (word : List ℕ) → Counted word 0 → bytes_of_word word ≡ Ok []
+bytes_of_word-none word h =
     let value = value-hex word h.hex in
     let spelled = spelled-value word value.0 value.1 in
-    bytes_in-value word 0 [] h (omega arith) (value.1 ∙ ap Some (no_bytes value.0 (sym spelled.count ∙ h.count)))
+    bytes_of_word-value word 0 [] h (omega arith) (value.1 ∙ ap Some (no_bytes value.0 (sym spelled.count ∙ h.count)))
 
 -- what decoding gives where some bytes are counted
 pub record Decoded (word : List ℕ) (n : ℕ) : Type 0 where
@@ -357,11 +357,11 @@ hex_value-length word bytes e =
     ]
 
 -- the four bytes of a status, decoded
-pub status-decoded : (word given status : List ℕ) (r : Result (List ℕ) FromHexError) → Counted word 4 → given ≡ word → r ≡ decode_sized given 4 → r ≡ Ok status → Ok status ≡ status_in word
+pub status-decoded : (word given status : List ℕ) (r : Result (List ℕ) FromHexError) → Counted word 4 → given ≡ word → r ≡ decode_sized given 4 → r ≡ Ok status → Ok status ≡ status_of_word word
 status-decoded word given status r counted is found ok =
     let decoded = decoded-counted word 4 counted (lit< tt) in
     let same : ◌≡◌ {A = Result (List ℕ) FromHexError} (Ok status) (Ok decoded.bytes) = sym ok ∙ found ∙ ap (λ w. decode_sized w 4) is ∙ decoded.decoded in
-    sym (status_in-value word decoded.bytes counted decoded.value ∙ ap Ok (sym (ap (λ (r : Result (List ℕ) FromHexError). result_unwrap_or r []) same)))
+    sym (status_of_word-value word decoded.bytes counted decoded.value ∙ ap Ok (sym (ap (λ (r : Result (List ℕ) FromHexError). result_unwrap_or r []) same)))
 
 pub status-undecoded : (word given : List ℕ) (r : Result (List ℕ) FromHexError) (e : FromHexError) → Counted word 4 → given ≡ word → r ≡ decode_sized given 4 → r ≡ Err e → ⊥
 status-undecoded word given r e counted is found bad =

@@ -27,9 +27,9 @@ use Rattle.usb_wire.specs.declared.question.Question.TheVariants.{Hello, Setup, 
 use Rattle.usb_wire.specs.declared.question.Speed.{Speed}
 use Rattle.usb_wire.specs.declared.question.Speed.TheVariants.{Full, Low, LowBelowHub}
 use Rattle.usb_wire.specs.Fields.{hex_value}
-use Rattle.usb_wire.specs.QuestionReading.{◌>>=◌, after_pre, asked_in, behind_pre, call_in, cut_at, data_behind, endpoint_in, in_question, out_question, port_question, question_of, setup_by, setup_in, setup_question, toggle_named, token_behind, token_in}
-use Rattle.usb_wire.specs.Questions.{IsEndpoint, IsQuestion, IsQuestionLine, IsSetup, call_text, data_with, pre_text, question_bytes, question_line, question_with, speed_text, token_text}
-use Rattle.usb_wire.specs.Reading.{bytes_in, number_in, text_in}
+use Rattle.usb_wire.specs.QuestionReading.{◌>>=◌, after_pre, asked_in, behind_pre_word, call_in, cut_at, data_behind, endpoint_in, in_question, out_question, port_question, question_of, setup_by, setup_in, setup_question, toggle_named, token_behind, token_of_words}
+use Rattle.usb_wire.specs.Questions.{IsEndpoint, IsQuestion, IsQuestionLine, IsSetupData, call_text, data_with, between_text, question_bytes, question_line, question_in_digits, speed_text, token_text}
+use Rattle.usb_wire.specs.Reading.{bytes_of_word, number_of_word, text_of_line}
 use Rattle.usb_wire.specs.Words.{all_printable}
 use Rattle.usb_wire.proofs.FieldLemmas.{all_digits-decimal, all_visible-decimal, hex_value-hex_text}
 use Rattle.usb_wire.proofs.ReadLaws.{IsWord, bytes_word, number_word, read_bytes, read_number}
@@ -115,10 +115,10 @@ device_found : (word : List ℕ) (e : Endpoint) → endpoint_in word ≡ Some e 
 unfolding endpoint_in
 device_found word e h =
     bind_some (cut_at 46 word) _ e h (λ cut found h.
-    bind_some (result_ok (number_in 0 127 cut.0)) _ e h (λ a first h.
-    bind_some (result_ok (number_in 0 15 cut.1)) _ e h (λ n second h.
-    let one = number_read 0 127 cut.0 a (omega arith) (ok_read (number_in 0 127 cut.0) a first) in
-    let two = number_read 0 15 cut.1 n (omega arith) (ok_read (number_in 0 15 cut.1) n second) in
+    bind_some (result_ok (number_of_word 0 127 cut.0)) _ e h (λ a first h.
+    bind_some (result_ok (number_of_word 0 15 cut.1)) _ e h (λ n second h.
+    let one = number_read 0 127 cut.0 a (omega arith) (ok_read (number_of_word 0 127 cut.0) a first) in
+    let two = number_read 0 15 cut.1 n (omega arith) (ok_read (number_of_word 0 15 cut.1) n second) in
     let f : ℕ → ℕ → Endpoint = λ a n. record { address = a; number = n } in
     subst (IsDevice word) (same_Some (f a n) e h) (record {
       fits = (omega (arith, one.high), omega (arith, two.high));
@@ -151,7 +151,7 @@ record IsAsked (line : List ℕ) (q : Question) : Type 0 where
 asked_at : (line other : List ℕ) (q : Question) → line ≡ other → IsAsked other q → IsAsked line q
 asked_at line other q e h = subst (λ t. IsAsked t q) (sym e) h
 
-asked_with : (line digits : List ℕ) (q : Question) → IsQuestion q → hex_value digits ≡ Some (question_bytes q) → line ≡ question_with digits q → IsAsked line q
+asked_with : (line digits : List ℕ) (q : Question) → IsQuestion q → hex_value digits ≡ Some (question_bytes q) → line ≡ question_in_digits digits q → IsAsked line q
 asked_with line digits q fits spelled written = record { fits = fits; asks = record { digits = digits; spelled = spelled; written = written } }
 
 -- the word of a token
@@ -183,21 +183,21 @@ toggle_found word t rest e =
     if_found (bytes_eq word (codes "DATA1")) (Some One) _ t e (λ same is. subst (λ t. word ++ 32 ∷ rest ≡ data_name t ++ rest) (same_Some One t is) (ap (λ w. w ++ 32 ∷ rest) (word_is word (codes "DATA1") same))) (λ e.
     nothing t e))
 
-pre_found : (text rest : List ℕ) → behind_pre text ≡ Some rest → text ≡ codes "PRE " ++ rest
-unfolding behind_pre
+pre_found : (text rest : List ℕ) → behind_pre_word text ≡ Some rest → text ≡ codes "PRE " ++ rest
+unfolding behind_pre_word
 pre_found text rest e =
     bind_some (cut_at 32 text) _ rest e (λ cut found e.
     if_found (bytes_eq cut.0 (codes "PRE")) (Some cut.1) _ rest e (λ same is.
     cut_at-some 32 text cut found ∙ ap (λ w. w ++ 32 ∷ cut.1) (word_is cut.0 (codes "PRE") same) ∙ ap (λ r. codes "PRE " ++ r) (same_Some cut.1 rest is))
     (λ e. nothing rest e))
 
-after_found : (speed : Speed) (text rest : List ℕ) → after_pre speed text ≡ Some rest → codes " / " ++ text ≡ pre_text speed ++ rest
+after_found : (speed : Speed) (text rest : List ℕ) → after_pre speed text ≡ Some rest → codes " / " ++ text ≡ between_text speed ++ rest
 unfolding after_pre
 after_found Full text rest e = ap (λ r. codes " / " ++ r) (same_Some text rest e)
 after_found Low text rest e = ap (λ r. codes " / " ++ r) (same_Some text rest e)
 after_found LowBelowHub text rest e = ap (λ r. codes " / " ++ r) (pre_found text rest e)
 
-data_found : (speed : Speed) (text : List ℕ) (sent : Toggle × List ℕ) → data_behind speed text ≡ Some sent → 32 ∷ text ≡ pre_text speed ++ data_with sent.0 sent.1
+data_found : (speed : Speed) (text : List ℕ) (sent : Toggle × List ℕ) → data_behind speed text ≡ Some sent → 32 ∷ text ≡ between_text speed ++ data_with sent.0 sent.1
 unfolding data_behind
 data_found speed text sent e =
     bind_some (cut_at 32 text) _ sent e (λ cut found e.
@@ -206,26 +206,26 @@ data_found speed text sent e =
     bind_some (toggle_named named.0) _ sent e (λ t third is.
     if_found (bytes_eq cut.0 (codes "/")) (after_pre speed cut.1) None rest behind (λ same after.
     let front : 32 ∷ text ≡ codes " / " ++ cut.1 = ap (λ r. 32 ∷ r) (cut_at-some 32 text cut found) ∙ ap (λ w. 32 ∷ (w ++ 32 ∷ cut.1)) (word_is cut.0 (codes "/") same) in
-    let whole : 32 ∷ text ≡ pre_text speed ++ data_with t named.1 =
-    front ∙ after_found speed cut.1 rest after ∙ ap (λ r. pre_text speed ++ r) (cut_at-some 32 rest named second ∙ toggle_found named.0 t named.1 third) in
-    subst (λ (s : Toggle × List ℕ). 32 ∷ text ≡ pre_text speed ++ data_with s.0 s.1) (same_Some (t, named.1) sent is) whole)
+    let whole : 32 ∷ text ≡ between_text speed ++ data_with t named.1 =
+    front ∙ after_found speed cut.1 rest after ∙ ap (λ r. between_text speed ++ r) (cut_at-some 32 rest named second ∙ toggle_found named.0 t named.1 third) in
+    subst (λ (s : Toggle × List ℕ). 32 ∷ text ≡ between_text speed ++ data_with s.0 s.1) (same_Some (t, named.1) sent is) whole)
     (λ e. nothing rest e)))))
 
 -- an attempt with data of the host
-spoken : (speed : Speed) (kind : TokenKind) (e : Endpoint) (text device rest : List ℕ) (t : Toggle) (digits : List ℕ) → text ≡ device ++ 32 ∷ rest → device ≡ endpoint_text e → 32 ∷ rest ≡ pre_text speed ++ data_with t digits
-    → speed_text speed ++ (token_word kind ++ 32 ∷ text) ≡ speed_text speed ++ token_text kind e ++ pre_text speed ++ data_with t digits
+spoken : (speed : Speed) (kind : TokenKind) (e : Endpoint) (text device rest : List ℕ) (t : Toggle) (digits : List ℕ) → text ≡ device ++ 32 ∷ rest → device ≡ endpoint_text e → 32 ∷ rest ≡ between_text speed ++ data_with t digits
+    → speed_text speed ++ (token_word kind ++ 32 ∷ text) ≡ speed_text speed ++ token_text kind e ++ between_text speed ++ data_with t digits
 spoken speed kind e text device rest t digits cut is behind =
     ap (λ r. speed_text speed ++ (token_word kind ++ 32 ∷ r)) (cut ∙ ap (λ d. d ++ 32 ∷ rest) is ∙ ap (λ r. endpoint_text e ++ r) behind)
-    ∙ sent_spelled speed kind e (pre_text speed ++ data_with t digits) ∙ sym (append_assoc (speed_text speed ++ token_text kind e) (pre_text speed) (data_with t digits))
+    ∙ sent_spelled speed kind e (between_text speed ++ data_with t digits) ∙ sym (append_assoc (speed_text speed ++ token_text kind e) (between_text speed) (data_with t digits))
 
 in_found : (speed : Speed) (text : List ℕ) (q : Question) → in_question speed text ≡ Some q → IsAsked (speed_text speed ++ (codes "IN" ++ 32 ∷ text)) q
 unfolding in_question
 in_found speed text q e =
     bind_some (cut_at 32 text) _ q e (λ cut found e.
     bind_some (endpoint_in cut.0) _ q e (λ dev first e.
-    bind_some (result_ok (number_in 1 64 cut.1)) _ q e (λ most second is.
+    bind_some (result_ok (number_of_word 1 64 cut.1)) _ q e (λ most second is.
     let device = device_found cut.0 dev first in
-    let number = number_read 1 64 cut.1 most (omega arith) (ok_read (number_in 1 64 cut.1) most second) in
+    let number = number_read 1 64 cut.1 most (omega arith) (ok_read (number_of_word 1 64 cut.1) most second) in
     let text_is : text ≡ endpoint_text dev ++ 32 ∷ decimal most = cut_at-some 32 text cut found ∙ ap (λ d. d ++ 32 ∷ cut.1) device.text ∙ ap (λ r. endpoint_text dev ++ 32 ∷ r) number.text in
     let line_is : speed_text speed ++ (codes "IN" ++ 32 ∷ text) ≡ speed_text speed ++ token_text InTok dev ++ codes " " ++ decimal most =
     ap (λ r. speed_text speed ++ (codes "IN" ++ 32 ∷ r)) text_is ∙ sent_spelled speed InTok dev (32 ∷ decimal most) ∙ sym (append_assoc (speed_text speed ++ token_text InTok dev) (codes " ") (decimal most)) in
@@ -237,9 +237,9 @@ out_found speed text q e =
     bind_some (cut_at 32 text) _ q e (λ cut found e.
     bind_some (endpoint_in cut.0) _ q e (λ dev first e.
     bind_some (data_behind speed cut.1) _ q e (λ sent second e.
-    bind_some (result_ok (bytes_in sent.1)) _ q e (λ xs third is.
+    bind_some (result_ok (bytes_of_word sent.1)) _ q e (λ xs third is.
     let device = device_found cut.0 dev first in
-    let given = data_word sent.1 xs (ok_read (bytes_in sent.1) xs third) in
+    let given = data_word sent.1 xs (ok_read (bytes_of_word sent.1) xs third) in
     let asked : Question = Out speed dev (record { toggle = sent.0; bytes = record { items = xs } }) in
     subst (IsAsked _) (same_Some asked q is) (asked_with _ sent.1 asked (device.fits, given.few) given.value
     (spoken speed OutTok dev text cut.0 cut.1 sent.0 sent.1 (cut_at-some 32 text cut found) device.text (data_found speed cut.1 sent second)))))))
@@ -256,7 +256,7 @@ word_parts c d one two = record { low = omega arith; high = omega arith; few = o
 
 record IsEight (xs : List ℕ) : Type 0 where
   again : bytes_of (setup_of xs) ≡ xs
-  fits : IsSetup (setup_of xs)
+  fits : IsSetupData (setup_of xs)
 
 eight_bytes : (xs : List ℕ) → length xs ≡ 8 → IsBytes xs → IsEight xs
 unfolding bytes_of setup_of
@@ -280,7 +280,7 @@ eight_bytes (a ∷ b ∷ c ∷ d ∷ e ∷ f ∷ g ∷ h ∷ i ∷ xs) size smal
 
 record GivenSetup (t : Toggle) (digits : List ℕ) (setup : SetupData) : Type 0 where
   zero_toggle : t ≡ Zero
-  fits : IsSetup setup
+  fits : IsSetupData setup
   value : hex_value digits ≡ Some (bytes_of setup)
 
 setup_given : (t : Toggle) (digits xs : List ℕ) (setup : SetupData) → IsDataWord digits xs → setup_by t xs ≡ Some setup → GivenSetup t digits setup
@@ -294,7 +294,7 @@ setup_given Zero digits xs setup given e =
 setup_read : (t : Toggle) (digits : List ℕ) (setup : SetupData) → setup_in t digits ≡ Some setup → GivenSetup t digits setup
 unfolding setup_in
 setup_read t digits setup e =
-    bind_some (result_ok (bytes_in digits)) _ setup e (λ xs read e. setup_given t digits xs setup (data_word digits xs (ok_read (bytes_in digits) xs read)) e)
+    bind_some (result_ok (bytes_of_word digits)) _ setup e (λ xs read e. setup_given t digits xs setup (data_word digits xs (ok_read (bytes_of_word digits) xs read)) e)
 
 setup_again : (s : SetupData) → setup_of (bytes_of s) ≡ s
 unfolding bytes_of setup_of
@@ -317,7 +317,7 @@ setup_found speed text q e =
     bind_some (setup_in sent.0 sent.1) _ q e (λ setup third is.
     let device = device_found cut.0 dev first in
     let given = setup_read sent.0 sent.1 setup third in
-    let behind : 32 ∷ cut.1 ≡ pre_text speed ++ data_with Zero sent.1 = data_found speed cut.1 sent second ∙ ap (λ t. pre_text speed ++ data_with t sent.1) given.zero_toggle in
+    let behind : 32 ∷ cut.1 ≡ between_text speed ++ data_with Zero sent.1 = data_found speed cut.1 sent second ∙ ap (λ t. between_text speed ++ data_with t sent.1) given.zero_toggle in
     subst (IsAsked _) (same_Some (Setup speed dev setup) q is) (asked_with _ sent.1 (Setup speed dev setup) (device.fits, given.fits) given.value
     (spoken speed SetupTok dev text cut.0 cut.1 Zero sent.1 (cut_at-some 32 text cut found) device.text behind))))))
 
@@ -343,9 +343,9 @@ port_found : (text : List ℕ) (q : Question) → port_question text ≡ Some q 
 unfolding port_question
 port_found text q e =
     bind_some (cut_at 32 text) _ q e (λ cut found e.
-    bind_some (result_ok (number_in 1 7 cut.0)) _ q e (λ n first e.
+    bind_some (result_ok (number_of_word 1 7 cut.0)) _ q e (λ n first e.
     bind_some (call_in cut.1) _ q e (λ call second is.
-    let number = number_read 1 7 cut.0 n (omega arith) (ok_read (number_in 1 7 cut.0) n first) in
+    let number = number_read 1 7 cut.0 n (omega arith) (ok_read (number_of_word 1 7 cut.0) n first) in
     let text_is : text ≡ decimal n ++ 32 ∷ call_text call = cut_at-some 32 text cut found ∙ ap (λ d. d ++ 32 ∷ cut.1) number.text ∙ ap (λ r. decimal n ++ 32 ∷ r) (call_found cut.1 call second) in
     let line_is : codes "port" ++ 32 ∷ text ≡ codes "port " ++ decimal n ++ codes " " ++ call_text call = ap (λ r. codes "port " ++ r) text_is ∙ three_parts (codes "port ") (decimal n) (call_text call) in
     subst (IsAsked _) (same_Some (Port n call) q is) (asked_with _ (codes "-") (Port n call) (number.low, number.high) refl line_is))))
@@ -353,8 +353,8 @@ port_found text q e =
 word_at_front : (speed : Speed) (word name text : List ℕ) (q : Question) → bytes_eq word name ≡ true → IsAsked (speed_text speed ++ (name ++ 32 ∷ text)) q → IsAsked (speed_text speed ++ (word ++ 32 ∷ text)) q
 word_at_front speed word name text q same h = subst (λ w. IsAsked (speed_text speed ++ (w ++ 32 ∷ text)) q) (sym (word_is word name same)) h
 
-token_found : (speed : Speed) (word text : List ℕ) (q : Question) → token_in speed word text ≡ Some q → IsAsked (speed_text speed ++ (word ++ 32 ∷ text)) q
-unfolding token_in
+token_found : (speed : Speed) (word text : List ℕ) (q : Question) → token_of_words speed word text ≡ Some q → IsAsked (speed_text speed ++ (word ++ 32 ∷ text)) q
+unfolding token_of_words
 token_found speed word text q e =
     if_found (bytes_eq word (codes "SETUP")) (setup_question speed text) _ q e (λ same e. word_at_front speed word (codes "SETUP") text q same (setup_found speed text q e)) (λ e.
     if_found (bytes_eq word (codes "OUT")) (out_question speed text) _ q e (λ same e. word_at_front speed word (codes "OUT") text q same (out_found speed text q e)) (λ e.
@@ -383,15 +383,15 @@ text_read true p line text e = absurd (cc)
 text_read false true line text e = same_Ok line text e
 text_read false false line text e = absurd (cc)
 
-text_in-ok : (line text : List ℕ) → text_in line ≡ Ok text → line ≡ text
-unfolding text_in
-text_in-ok line text e = text_read (nat_lt 1024 (length line)) (all_printable line) line text e
+text_of_line-ok : (line text : List ℕ) → text_of_line line ≡ Ok text → line ≡ text
+unfolding text_of_line
+text_of_line-ok line text e = text_read (nat_lt 1024 (length line)) (all_printable line) line text e
 
 question_found : (line : List ℕ) (q : Question) → question_of line ≡ Some q → IsAsked line q
 unfolding question_of
 question_found line q e =
-    bind_some (result_ok (text_in line)) _ q e (λ text read e.
-    asked_at line text q (text_in-ok line text (ok_read (text_in line) text read)) (
+    bind_some (result_ok (text_of_line line)) _ q e (λ text read e.
+    asked_at line text q (text_of_line-ok line text (ok_read (text_of_line line) text read)) (
     if_found (bytes_eq text (codes "wait")) (Some Wait) _ q e (λ same is. subst (IsAsked text) (same_Some Wait q is) (asked_with text (codes "-") Wait tt refl (word_is text (codes "wait") same))) (λ e.
     if_found (bytes_eq text (codes "usbplan live 1")) (Some Hello) _ q e (λ same is. subst (IsAsked text) (same_Some Hello q is) (asked_with text (codes "-") Hello tt refl (word_is text (codes "usbplan live 1") same))) (λ e.
     several_found text q e))))
@@ -421,7 +421,7 @@ fine_speed Full = record { short = lit≤ tt; printable = refl }
 fine_speed Low = record { short = lit≤ tt; printable = refl }
 fine_speed LowBelowHub = record { short = lit≤ tt; printable = refl }
 
-fine_pre : (speed : Speed) → Fine 9 (pre_text speed)
+fine_pre : (speed : Speed) → Fine 9 (between_text speed)
 fine_pre Full = record { short = lit≤ tt; printable = refl }
 fine_pre Low = record { short = lit≤ tt; printable = refl }
 fine_pre LowBelowHub = record { short = lit≤ tt; printable = refl }
@@ -460,14 +460,14 @@ fine_token speed kind e h =
     (fine-append (9 + 129) 1 (token_name kind ++ decimal e.address) (codes ".") (fine-append 9 129 (token_name kind) (decimal e.address) (fine_name kind) a) dot) n)
 
 fine_sent : (speed : Speed) (kind : TokenKind) (e : Endpoint) (t : Toggle) (digits xs : List ℕ) → IsEndpoint e → hex_value digits ≡ Some xs → length xs ≤ 64
-    → Fine (277 + 9 + (9 + 129)) (speed_text speed ++ token_text kind e ++ pre_text speed ++ data_with t digits)
+    → Fine (277 + 9 + (9 + 129)) (speed_text speed ++ token_text kind e ++ between_text speed ++ data_with t digits)
 fine_sent speed kind e t digits xs h value few =
-    fine-append (277 + 9) (9 + 129) (speed_text speed ++ token_text kind e ++ pre_text speed) (data_with t digits)
-    (fine-append 277 9 (speed_text speed ++ token_text kind e) (pre_text speed) (fine_token speed kind e h) (fine_pre speed))
+    fine-append (277 + 9) (9 + 129) (speed_text speed ++ token_text kind e ++ between_text speed) (data_with t digits)
+    (fine-append 277 9 (speed_text speed ++ token_text kind e) (between_text speed) (fine_token speed kind e h) (fine_pre speed))
     (fine-append 9 129 (data_name t) digits (fine_data t) (fine_word digits (bytes_word digits xs value few)))
 
-fine_text : (m : ℕ) (line : List ℕ) → m ≤ 1024 → Fine m line → text_in line ≡ Ok line
-unfolding text_in
+fine_text : (m : ℕ) (line : List ℕ) → m ≤ 1024 → Fine m line → text_of_line line ≡ Ok line
+unfolding text_of_line
 fine_text m line most h = rw (le-ltb 1024 (length line) (omega (arith, h.short, most)), h.printable) refl
 
 -- the question in a text
@@ -479,7 +479,7 @@ unfolding question_of
 question_of-text m line most h = ap (λ r. result_ok r >>= question_in) (fine_text m line most h)
 
 -- a token's words lead to its reader
-token_reached : (speed : Speed) (kind : TokenKind) (rest : List ℕ) → question_in (speed_text speed ++ (token_word kind ++ 32 ∷ rest)) ≡ token_in speed (token_word kind) rest
+token_reached : (speed : Speed) (kind : TokenKind) (rest : List ℕ) → question_in (speed_text speed ++ (token_word kind ++ 32 ∷ rest)) ≡ token_of_words speed (token_word kind) rest
 unfolding asked_in cut_at token_behind
 token_reached Full SetupTok rest = refl
 token_reached Full OutTok rest = refl
@@ -506,13 +506,13 @@ behind_device Full t digits = codes "/ " ++ data_with t digits
 behind_device Low t digits = codes "/ " ++ data_with t digits
 behind_device LowBelowHub t digits = codes "/ PRE " ++ data_with t digits
 
-pre_is : (speed : Speed) (t : Toggle) (digits : List ℕ) → pre_text speed ++ data_with t digits ≡ 32 ∷ behind_device speed t digits
+pre_is : (speed : Speed) (t : Toggle) (digits : List ℕ) → between_text speed ++ data_with t digits ≡ 32 ∷ behind_device speed t digits
 pre_is Full t digits = refl
 pre_is Low t digits = refl
 pre_is LowBelowHub t digits = refl
 
 data_reached_at : (speed : Speed) (t : Toggle) (digits : List ℕ) → data_behind speed (behind_device speed t digits) ≡ Some (t, digits)
-unfolding data_behind cut_at after_pre behind_pre toggle_named
+unfolding data_behind cut_at after_pre behind_pre_word toggle_named
 data_reached_at Full Zero digits = refl
 data_reached_at Full One digits = refl
 data_reached_at Low Zero digits = refl
@@ -547,23 +547,23 @@ unfolding in_question
 in_read speed e most h low high = rw (device_cut e (decimal most) h, endpoint_read e h, read_number 1 64 most low high (omega arith)) refl
 
 out_read : (speed : Speed) (e : Endpoint) (t : Toggle) (digits xs : List ℕ) → IsEndpoint e → hex_value digits ≡ Some xs → length xs ≤ 64
-    → out_question speed (endpoint_text e ++ (pre_text speed ++ data_with t digits)) ≡ Some (Out speed e (record { toggle = t; bytes = record { items = xs } }))
+    → out_question speed (endpoint_text e ++ (between_text speed ++ data_with t digits)) ≡ Some (Out speed e (record { toggle = t; bytes = record { items = xs } }))
 unfolding out_question
 out_read speed e t digits xs h value few =
     rw (pre_is speed t digits, device_cut e (behind_device speed t digits) h, endpoint_read e h, data_reached_at speed t digits, read_bytes digits xs value few) refl
 
-setup_back : (s : SetupData) → IsSetup s → setup_by Zero (bytes_of s) ≡ Some s
+setup_back : (s : SetupData) → IsSetupData s → setup_by Zero (bytes_of s) ≡ Some s
 setup_back s h = rw (length-bytes_of s) (ap Some (setup_again s))
 
-setup_read_back : (speed : Speed) (e : Endpoint) (digits : List ℕ) (s : SetupData) → IsEndpoint e → IsSetup s → hex_value digits ≡ Some (bytes_of s)
-    → setup_question speed (endpoint_text e ++ (pre_text speed ++ data_with Zero digits)) ≡ Some (Setup speed e s)
+setup_read_back : (speed : Speed) (e : Endpoint) (digits : List ℕ) (s : SetupData) → IsEndpoint e → IsSetupData s → hex_value digits ≡ Some (bytes_of s)
+    → setup_question speed (endpoint_text e ++ (between_text speed ++ data_with Zero digits)) ≡ Some (Setup speed e s)
 unfolding setup_question setup_in
 setup_read_back speed e digits s h fits value =
     let few : length (bytes_of s) ≤ 64 = let size = length-bytes_of s in omega (arith, size) in
     rw (pre_is speed Zero digits, device_cut e (behind_device speed Zero digits) h, endpoint_read e h, data_reached_at speed Zero digits, read_bytes digits (bytes_of s) value few, setup_back s fits) refl
 
-asked_read : (digits : List ℕ) (q : Question) → IsQuestion q → hex_value digits ≡ Some (question_bytes q) → question_of (question_with digits q) ≡ Some q
-unfolding token_in
+asked_read : (digits : List ℕ) (q : Question) → IsQuestion q → hex_value digits ≡ Some (question_bytes q) → question_of (question_in_digits digits q) ≡ Some q
+unfolding token_of_words
 asked_read digits Hello h e = question_of-text 20 (codes "usbplan live 1") (lit≤ tt) (record { short = lit≤ tt; printable = refl })
 asked_read digits Wait h e = question_of-text 20 (codes "wait") (lit≤ tt) (record { short = lit≤ tt; printable = refl })
 asked_read digits (In speed dev most) h e =
@@ -573,13 +573,13 @@ asked_read digits (In speed dev most) h e =
     ∙ token_reached speed InTok (endpoint_text dev ++ 32 ∷ decimal most) ∙ in_read speed dev most h.0 h.1 h.2
 asked_read digits (Out speed dev sent) h e =
     question_of-text (277 + 9 + (9 + 129)) _ (lit≤ tt) (fine_sent speed OutTok dev sent.toggle digits sent.bytes.items h.0 e h.1.0)
-    ∙ ap question_in (append_assoc (speed_text speed ++ token_text OutTok dev) (pre_text speed) (data_with sent.toggle digits) ∙ sym (sent_spelled speed OutTok dev (pre_text speed ++ data_with sent.toggle digits)))
-    ∙ token_reached speed OutTok (endpoint_text dev ++ (pre_text speed ++ data_with sent.toggle digits)) ∙ out_read speed dev sent.toggle digits sent.bytes.items h.0 e h.1.0
+    ∙ ap question_in (append_assoc (speed_text speed ++ token_text OutTok dev) (between_text speed) (data_with sent.toggle digits) ∙ sym (sent_spelled speed OutTok dev (between_text speed ++ data_with sent.toggle digits)))
+    ∙ token_reached speed OutTok (endpoint_text dev ++ (between_text speed ++ data_with sent.toggle digits)) ∙ out_read speed dev sent.toggle digits sent.bytes.items h.0 e h.1.0
 asked_read digits (Setup speed dev setup) h e =
     let few : length (bytes_of setup) ≤ 64 = let size = length-bytes_of setup in omega (arith, size) in
     question_of-text (277 + 9 + (9 + 129)) _ (lit≤ tt) (fine_sent speed SetupTok dev Zero digits (bytes_of setup) h.0 e few)
-    ∙ ap question_in (append_assoc (speed_text speed ++ token_text SetupTok dev) (pre_text speed) (data_with Zero digits) ∙ sym (sent_spelled speed SetupTok dev (pre_text speed ++ data_with Zero digits)))
-    ∙ token_reached speed SetupTok (endpoint_text dev ++ (pre_text speed ++ data_with Zero digits)) ∙ setup_read_back speed dev digits setup h.0 h.1 e
+    ∙ ap question_in (append_assoc (speed_text speed ++ token_text SetupTok dev) (between_text speed) (data_with Zero digits) ∙ sym (sent_spelled speed SetupTok dev (between_text speed ++ data_with Zero digits)))
+    ∙ token_reached speed SetupTok (endpoint_text dev ++ (between_text speed ++ data_with Zero digits)) ∙ setup_read_back speed dev digits setup h.0 h.1 e
 asked_read digits (Port number call) h e =
     let front : Fine 5 (codes "port ") = record { short = lit≤ tt; printable = refl } in
     let fine = fine-append (5 + 129 + 1) 40 (codes "port " ++ decimal number ++ codes " ") (call_text call) (fine-append (5 + 129) 1 (codes "port " ++ decimal number) (codes " ") (fine-append 5 129 (codes "port ") (decimal number) front (fine_number number (omega (arith, h.1)))) fine_blank) (fine_call call) in
@@ -590,7 +590,7 @@ question_read-asked line q h is = ap question_of is.written ∙ asked_read is.di
 
 -- ---- what is written
 
-small_setup : (s : SetupData) → IsSetup s → IsBytes (bytes_of s)
+small_setup : (s : SetupData) → IsSetupData s → IsBytes (bytes_of s)
 unfolding bytes_of
 small_setup s h =
     let l : List ℕ = (s.length % 256) ∷ (s.length / 256) ∷ [] in

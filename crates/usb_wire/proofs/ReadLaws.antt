@@ -15,11 +15,11 @@ use Rattle.usb_wire.specs.declared.answer.Said.TheVariants.{Changed, Answered}
 use Rattle.usb_wire.specs.declared.fault.WireFault.TheVariants.{BadNumber, BadPath}
 use Rattle.usb_wire.specs.declared.question.Asked.{Asked}
 use Rattle.usb_wire.specs.declared.question.Asked.TheVariants.{Hello, Attempt, Port, Wait}
-use Rattle.usb_wire.specs.Answers.{IsAnswer, IsLineOf, MayPush, MaySay, answer_bytes, answer_with, said_bytes, said_line, said_with}
+use Rattle.usb_wire.specs.Answers.{MayAnswer, IsSaidLine, MayPush, MaySay, answer_bytes, answer_in_digits, said_bytes, said_line, said_in_digits}
 use Rattle.usb_wire.specs.Fields.{hex_value}
-use Rattle.usb_wire.specs.Reading.{alone, bytes_in, clear_answer, data_answer, line_says, number_in, path_in, pushed, receive_answer, roots_answer, send_answer, status_in, text_in, three_say, with_one, with_two, words_say}
+use Rattle.usb_wire.specs.Reading.{alone, bytes_of_word, clear_answer, data_answer, line_says, number_of_word, path_in, status_change, receive_answer, roots_answer, send_answer, status_of_word, text_of_line, three_say, with_one, with_two, words_say}
 use Rattle.usb_wire.specs.Words.{all_printable, words}
-use Rattle.usb_wire.proofs.FieldLemmas.{all_visible-decimal, all_visible-hex, all_visible-path_text, bytes_in-value, hex_value-hex_text, hex_value-length, spelled-value, status_in-value, within-decimal}
+use Rattle.usb_wire.proofs.FieldLemmas.{all_visible-decimal, all_visible-hex, all_visible-path_text, bytes_of_word-value, hex_value-hex_text, hex_value-length, spelled-value, status_of_word-value, within-decimal}
 use Rattle.usb_wire.proofs.WordLemmas.{HasNoSpace-visible, all_printable-append, all_printable-visible, all_visible, words_cut, words_none}
 
 -- ---- single words, each visible and short
@@ -43,18 +43,18 @@ path_word : (p : List ℕ) → IsPath p → IsWord 129 (path_text p)
 path_word p h =
     record { visible = all_visible-path_text p h.2; short = omega (arith, length-path_text p, h.1) }
 
-pub read_bytes : (word xs : List ℕ) → hex_value word ≡ Some xs → length xs ≤ 64 → bytes_in word ≡ Ok xs
+pub read_bytes : (word xs : List ℕ) → hex_value word ≡ Some xs → length xs ≤ 64 → bytes_of_word word ≡ Ok xs
 read_bytes word xs e few =
     let spelled = spelled-value word xs e in
-    bytes_in-value word (length xs) xs (record { hex = spelled.hex; count = spelled.count }) few e
+    bytes_of_word-value word (length xs) xs (record { hex = spelled.hex; count = spelled.count }) few e
 
-read_status : (word xs : List ℕ) → hex_value word ≡ Some xs → length xs ≡ 4 → status_in word ≡ Ok xs
+read_status : (word xs : List ℕ) → hex_value word ≡ Some xs → length xs ≡ 4 → status_of_word word ≡ Ok xs
 read_status word xs e four =
     let spelled = spelled-value word xs e in
-    status_in-value word xs (record { hex = spelled.hex; count = spelled.count ∙ four }) e
+    status_of_word-value word xs (record { hex = spelled.hex; count = spelled.count ∙ four }) e
 
-pub read_number : (least most n : ℕ) → least ≤ n → n ≤ most → n ≤ 1000 → number_in least most (decimal n) ≡ Ok n
-unfolding number_in
+pub read_number : (least most n : ℕ) → least ≤ n → n ≤ most → n ≤ 1000 → number_of_word least most (decimal n) ≡ Ok n
+unfolding number_of_word
 read_number least most n low high few = ap (λ o. ok_or o BadNumber) (within-decimal least most n low high (omega arith))
 
 read_path : (p : List ℕ) → IsPath p → path_in (path_text p) ≡ Ok p
@@ -112,7 +112,7 @@ port_front = record { short = lit≤ tt; printable = refl; cut = λ rest. refl }
 
 push_said : (asked : Asked) (count number : ℕ) (status digits : List ℕ) → MayPush asked → 1 ≤ number → number ≤ count → count < 256 → hex_value digits ≡ Some status → length status ≡ 4
     → words_say asked count (codes "port" ∷ decimal number ∷ digits ∷ []) ≡ Ok (Changed number status)
-unfolding words_say three_say pushed
+unfolding words_say three_say status_change
 push_said Hello count number status digits may low high small e four = absurd may
 push_said Attempt count number status digits may low high small e four = rw (read_status digits status e four, read_number 1 count number low high (omega arith)) refl
 push_said Port count number status digits may low high small e four = rw (read_status digits status e four, read_number 1 count number low high (omega arith)) refl
@@ -155,7 +155,7 @@ data_front One = record { short = lit≤ tt; printable = refl; cut = λ rest. re
 read_one : (asked : Asked) (count : ℕ) (line : List ℕ) (s : Said) → length line ≤ 1024 → all_printable line ≡ true → words_say asked count (words line) ≡ Ok s → Reads asked count line s
 read_one asked count line s short printable says = record { short = short; printable = printable; says = says }
 
-read_answer : (asked : Asked) (count : ℕ) (digits : List ℕ) (a : Answer) → IsAnswer asked a → hex_value digits ≡ Some (answer_bytes a) → Reads asked count (answer_with digits a) (Answered a)
+read_answer : (asked : Asked) (count : ℕ) (digits : List ℕ) (a : Answer) → MayAnswer asked a → hex_value digits ≡ Some (answer_bytes a) → Reads asked count (answer_in_digits digits a) (Answered a)
 unfolding words_say alone
 read_answer Hello count digits (Roots n) h e =
     read_two Hello count (codes "roots ") (codes "roots") (decimal n) (Answered (Roots n)) (record { short = lit≤ tt; printable = refl; cut = λ rest. refl }) (number_word n (omega (arith, h.1))) (roots_said count n h.0 h.1)
@@ -180,22 +180,22 @@ read_answer Wait count digits (Clear p) h e =
 read_answer _ count digits _ h e = absurd h
 
 read_line : (asked : Asked) (count : ℕ) (line : List ℕ) (s : Said) → Reads asked count line s → line_says asked count line ≡ Ok s
-unfolding line_says text_in
+unfolding line_says text_of_line
 read_line asked count line s h = rw (le-ltb 1024 (length line) h.short, h.printable) h.says
 
-read_said : (asked : Asked) (count : ℕ) (digits : List ℕ) (s : Said) → count < 256 → MaySay asked count s → hex_value digits ≡ Some (said_bytes s) → Reads asked count (said_with digits s) s
+read_said : (asked : Asked) (count : ℕ) (digits : List ℕ) (s : Said) → count < 256 → MaySay asked count s → hex_value digits ≡ Some (said_bytes s) → Reads asked count (said_in_digits digits s) s
 read_said asked count digits (Changed number status) small h e = read_changed asked count number status digits h.0 h.1 h.2 small e h.3
 read_said asked count digits (Answered a) small h e = read_answer asked count digits a h e
 
 -- what may be said and stands in a line is read
-pub line_says-said : (asked : Asked) (count : ℕ) (line : List ℕ) (s : Said) → count < 256 → MaySay asked count s → IsLineOf line s → line_says asked count line ≡ Ok s
+pub line_says-said : (asked : Asked) (count : ℕ) (line : List ℕ) (s : Said) → count < 256 → MaySay asked count s → IsSaidLine line s → line_says asked count line ≡ Ok s
 line_says-said asked count line s small may is =
-    ap (line_says asked count) is.written ∙ read_line asked count (said_with is.digits s) s (read_said asked count is.digits s small may is.spelled)
+    ap (line_says asked count) is.written ∙ read_line asked count (said_in_digits is.digits s) s (read_said asked count is.digits s small may is.spelled)
 
 none_small : (i : ℕ) → get_or [] i 0 < 256
 none_small i = omega arith
 
-answer_small : (asked : Asked) (a : Answer) → IsAnswer asked a → IsBytes (answer_bytes a)
+answer_small : (asked : Asked) (a : Answer) → MayAnswer asked a → IsBytes (answer_bytes a)
 answer_small Attempt (Data sent) h = h.1
 answer_small Wait (Send p sent) h = h.1.1
 answer_small _ (Data sent) h = absurd h
@@ -216,5 +216,5 @@ small_bytes asked count (Changed number status) h = h.4
 small_bytes asked count (Answered a) h = answer_small asked a h
 
 -- the line that is written says what it was written for
-pub IsLineOf-said_line : (asked : Asked) (count : ℕ) (s : Said) → MaySay asked count s → IsLineOf (said_line s) s
-IsLineOf-said_line asked count s may = record { digits = hex_text (said_bytes s); spelled = hex_value-hex_text (said_bytes s) (small_bytes asked count s may); written = refl }
+pub IsSaidLine-said_line : (asked : Asked) (count : ℕ) (s : Said) → MaySay asked count s → IsSaidLine (said_line s) s
+IsSaidLine-said_line asked count s may = record { digits = hex_text (said_bytes s); spelled = hex_value-hex_text (said_bytes s) (small_bytes asked count s may); written = refl }

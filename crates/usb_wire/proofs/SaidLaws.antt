@@ -19,9 +19,9 @@ use Rattle.usb_wire.specs.declared.question.Asked.{Asked}
 use Rattle.usb_wire.specs.declared.question.Asked.TheVariants.{Hello, Attempt, Port, Wait}
 use Rattle.usb_wire.specs.declared.words.Words.{Words}
 use Rattle.usb_wire.specs.declared.words.Words.TheVariants.{One as OneWord, Two as TwoWords, Three as ThreeWords, More as MoreWords}
-use Rattle.usb_wire.specs.Answers.{IsAnswer, IsData, IsLineOf, MayPush, MaySay, answer_bytes, answer_with}
+use Rattle.usb_wire.specs.Answers.{MayAnswer, IsData, IsSaidLine, MayPush, MaySay, answer_bytes, answer_in_digits}
 use Rattle.usb_wire.specs.Fields.{hex_length, hex_value, is_dash, is_hex, number_within}
-use Rattle.usb_wire.specs.Reading.{◌>>=◌, alone, answered, bytes_in, clear_answer, count_in, data_answer, line_says, may_push, number_in, path_in, pushed, receive_answer, roots_answer, send_answer, shape_says, status_in, text_in, three_say, with_one, with_two, words_say}
+use Rattle.usb_wire.specs.Reading.{◌>>=◌, alone, said_of, bytes_of_word, clear_answer, count_in, data_answer, line_says, may_push, number_of_word, path_in, status_change, receive_answer, roots_answer, send_answer, shape_says, status_of_word, text_of_line, three_say, with_one, with_two, words_say}
 use Rattle.usb_wire.specs.Words.{AreWords, all_printable, words}
 use Rattle.usb_wire.proofs.FieldLemmas.{Numbered, Spelled, numbered-within, spelled-value}
 use Rattle.usb_wire.proofs.WordLemmas.{joined-words}
@@ -46,7 +46,7 @@ ok_or_ok : {A : Type 0} (o : Option A) (fault : WireFault) (y : A) → ok_or o f
 ok_or_ok (Some x) fault y e = ap Some (same_Ok x y e)
 ok_or_ok None fault y e = absurd (cc)
 
-answered_ok : {P : Type 0} (r : Result Answer WireFault) (s : Said) → answered r ≡ Ok s → ((a : Answer) → r ≡ Ok a → Answered a ≡ s → P) → P
+answered_ok : {P : Type 0} (r : Result Answer WireFault) (s : Said) → said_of r ≡ Ok s → ((a : Answer) → r ≡ Ok a → Answered a ≡ s → P) → P
 answered_ok (Ok a) s e k = k a refl (same_Ok (Answered a) s e)
 answered_ok (Err fault) s e k = absurd (cc)
 
@@ -77,8 +77,8 @@ data_counted true n o xs e =
     (parts.0, ok_or_ok o BadHex xs parts.1)
 data_counted false n o xs e = absurd (cc)
 
-pub data_word : (word xs : List ℕ) → bytes_in word ≡ Ok xs → IsDataWord word xs
-unfolding bytes_in count_in
+pub data_word : (word xs : List ℕ) → bytes_of_word word ≡ Ok xs → IsDataWord word xs
+unfolding bytes_of_word count_in
 data_word word xs e =
     let parts = data_counted (is_dash word || is_hex word) (hex_length word) (hex_value word) xs e in
     data_given word xs parts.1 parts.0
@@ -99,15 +99,15 @@ status_counted true n o xs e =
     (parts.0, ok_or_ok o BadHex xs parts.1)
 status_counted false n o xs e = absurd (cc)
 
-status_word : (word xs : List ℕ) → status_in word ≡ Ok xs → IsStatusWord word xs
-unfolding status_in count_in
+status_word : (word xs : List ℕ) → status_of_word word ≡ Ok xs → IsStatusWord word xs
+unfolding status_of_word count_in
 status_word word xs e =
     let parts = status_counted (is_dash word || is_hex word) (hex_length word) (hex_value word) xs e in
     let spelled = spelled-value word xs parts.1 in
     record { value = parts.1; four = sym spelled.count ∙ eqb-true (hex_length word) 4 parts.0; small = spelled }
 
-pub number_word : (least most : ℕ) (word : List ℕ) (n : ℕ) → most < 2 ^ 64 → number_in least most word ≡ Ok n → Numbered least most word n
-unfolding number_in
+pub number_word : (least most : ℕ) (word : List ℕ) (n : ℕ) → most < 2 ^ 64 → number_of_word least most word ≡ Ok n → Numbered least most word n
+unfolding number_of_word
 number_word least most word n small e = numbered-within least most word n small (ok_or_ok (number_within least most word) BadNumber n e)
 
 record IsPathWord (word p : List ℕ) : Type 0 where
@@ -123,17 +123,17 @@ path_word word p e =
 -- ---- answers without bytes
 
 record Plain (asked : Asked) (line : List ℕ) (a : Answer) : Type 0 where
-  may : IsAnswer asked a
+  may : MayAnswer asked a
   none : answer_bytes a ≡ []
-  text : line ≡ answer_with (codes "-") a
+  text : line ≡ answer_in_digits (codes "-") a
 
-plain_line : (asked : Asked) (count : ℕ) (line : List ℕ) (a : Answer) → Plain asked line a → MaySay asked count (Answered a) × IsLineOf line (Answered a)
+plain_line : (asked : Asked) (count : ℕ) (line : List ℕ) (a : Answer) → Plain asked line a → MaySay asked count (Answered a) × IsSaidLine line (Answered a)
 plain_line asked count line a h = (h.may, record { digits = codes "-"; spelled = ap Some (sym h.none); written = h.text })
 
 plain_at : (asked : Asked) (word text : List ℕ) (a b : Answer) → bytes_eq word text ≡ true → ◌≡◌ {A = Result Answer WireFault} (Ok a) (Ok b) → Plain asked text a → Plain asked word b
 plain_at asked word text a b same e h = subst (Plain asked word) (same_Ok a b e) (subst (λ w. Plain asked w a) (sym (word_is word text same)) h)
 
-plain : (asked : Asked) (a : Answer) → IsAnswer asked a → answer_bytes a ≡ [] → Plain asked (answer_with (codes "-") a) a
+plain : (asked : Asked) (a : Answer) → MayAnswer asked a → answer_bytes a ≡ [] → Plain asked (answer_in_digits (codes "-") a) a
 plain asked a may none = record { may = may; none = none; text = refl }
 
 alone_says : (asked : Asked) (word : List ℕ) (a : Answer) → alone asked word ≡ Ok a → Plain asked word a
@@ -157,7 +157,7 @@ alone_says Wait word a e =
 
 -- what is said may be said, and the words make a line of it
 abbrev Says : Asked → ℕ → List (List ℕ) → Said → Type 0
-Says asked count ws s = MaySay asked count s × IsLineOf (join_with_byte 32 ws) s
+Says asked count ws s = MaySay asked count s × IsSaidLine (join_with_byte 32 ws) s
 
 -- the first word is a given one
 first_is : (asked : Asked) (count : ℕ) (word text : List ℕ) (arguments : List (List ℕ)) (s : Said) → bytes_eq word text ≡ true → Says asked count (text ∷ arguments) s → Says asked count (word ∷ arguments) s
@@ -169,7 +169,7 @@ said_is asked count ws a b e h = subst (Says asked count ws) e h
 roots_say : (count : ℕ) (word : List ℕ) (a : Answer) → roots_answer word ≡ Ok a → Says Hello count (codes "roots" ∷ word ∷ []) (Answered a)
 unfolding roots_answer
 roots_say count word a e =
-    bind_ok (number_in 1 7 word) _ a e (λ n read is.
+    bind_ok (number_of_word 1 7 word) _ a e (λ n read is.
     let number = number_word 1 7 word n (omega arith) read in
     subst (λ a. Says Hello count (codes "roots" ∷ word ∷ []) (Answered a)) (same_Ok (Roots n) a is)
     (plain_line Hello count _ (Roots n) (record { may = (number.low, number.high); none = refl; text = ap (λ t. codes "roots " ++ t) number.text })))
@@ -182,12 +182,12 @@ data_first One = codes "DATA1"
 data_says : (count : ℕ) (toggle : Toggle) (word : List ℕ) (a : Answer) → data_answer toggle word ≡ Ok a → Says Attempt count (data_first toggle ∷ word ∷ []) (Answered a)
 unfolding data_answer
 data_says count Zero word a e =
-    bind_ok (bytes_in word) _ a e (λ xs read is.
+    bind_ok (bytes_of_word word) _ a e (λ xs read is.
     let found = data_word word xs read in
     subst (λ a. Says Attempt count (codes "DATA0" ∷ word ∷ []) (Answered a)) (same_Ok (Data (record { toggle = Zero; bytes = record { items = xs } })) a is)
     (found.few, record { digits = word; spelled = found.value; written = refl }))
 data_says count One word a e =
-    bind_ok (bytes_in word) _ a e (λ xs read is.
+    bind_ok (bytes_of_word word) _ a e (λ xs read is.
     let found = data_word word xs read in
     subst (λ a. Says Attempt count (codes "DATA1" ∷ word ∷ []) (Answered a)) (same_Ok (Data (record { toggle = One; bytes = record { items = xs } })) a is)
     (found.few, record { digits = word; spelled = found.value; written = refl }))
@@ -207,7 +207,7 @@ three_text front first second = append_assoc (front ++ first) (codes " ") second
 send_says : (count : ℕ) (first second : List ℕ) (a : Answer) → send_answer first second ≡ Ok a → Says Wait count (codes "send" ∷ first ∷ second ∷ []) (Answered a)
 unfolding send_answer
 send_says count first second a e =
-    bind_ok (bytes_in second) _ a e (λ xs read e.
+    bind_ok (bytes_of_word second) _ a e (λ xs read e.
     bind_ok (path_in first) _ a e (λ p found is.
     let sent = data_word second xs read in
     let way = path_word first p found in
@@ -219,7 +219,7 @@ send_says count first second a e =
 receive_says : (count : ℕ) (first second : List ℕ) (a : Answer) → receive_answer first second ≡ Ok a → Says Wait count (codes "receive" ∷ first ∷ second ∷ []) (Answered a)
 unfolding receive_answer
 receive_says count first second a e =
-    bind_ok (number_in 0 1000 second) _ a e (λ n read e.
+    bind_ok (number_of_word 0 1000 second) _ a e (λ n read e.
     bind_ok (path_in first) _ a e (λ p found is.
     let number = number_word 0 1000 second n (omega arith) read in
     let way = path_word first p found in
@@ -228,11 +228,11 @@ receive_says count first second a e =
     subst (λ a. Says Wait count (codes "receive" ∷ first ∷ second ∷ []) (Answered a)) (same_Ok (Receive p n) a is)
     (plain_line Wait count _ (Receive p n) (record { may = (way.is, number.high); none = refl; text = sym text }))))
 
-pushed_says : (asked : Asked) (count : ℕ) (first second : List ℕ) (s : Said) → MayPush asked → count < 256 → pushed count first second ≡ Ok s → Says asked count (codes "port" ∷ first ∷ second ∷ []) s
-unfolding pushed
+pushed_says : (asked : Asked) (count : ℕ) (first second : List ℕ) (s : Said) → MayPush asked → count < 256 → status_change count first second ≡ Ok s → Says asked count (codes "port" ∷ first ∷ second ∷ []) s
+unfolding status_change
 pushed_says asked count first second s may small e =
-    bind_ok (status_in second) _ s e (λ xs read e.
-    bind_ok (number_in 1 count first) _ s e (λ n found is.
+    bind_ok (status_of_word second) _ s e (λ xs read e.
+    bind_ok (number_of_word 1 count first) _ s e (λ n found is.
     let number = number_word 1 count first n (omega arith) found in
     let sent = status_word second xs read in
     let text : codes "port " ++ decimal n ++ codes " " ++ second ≡ codes "port " ++ (first ++ 32 ∷ second) =
@@ -272,7 +272,7 @@ may_push-true Wait h = tt
 three_says : (asked : Asked) (count : ℕ) (word first second : List ℕ) (s : Said) → count < 256 → three_say asked count word first second ≡ Ok s → Says asked count (word ∷ first ∷ second ∷ []) s
 unfolding three_say
 three_says asked count word first second s small e =
-    if_ok (may_push asked && bytes_eq word (codes "port")) (pushed count first second) _ s e
+    if_ok (may_push asked && bytes_eq word (codes "port")) (status_change count first second) _ s e
     (λ same e. let parts = and_parts (may_push asked) (bytes_eq word (codes "port")) same in
     first_is asked count word (codes "port") (first ∷ second ∷ []) s parts.1 (pushed_says asked count first second s (may_push-true asked parts.0) small e))
     (λ e. answered_ok (with_two asked word first second) s e (λ a e is. said_is asked count (word ∷ first ∷ second ∷ []) (Answered a) s is (two_says asked count word first second a e)))
@@ -309,13 +309,13 @@ text_is false true line f s e = e
 text_is false false line f s e = none_ok BadCharacter s e
 
 -- what is read of a line may be said, and stands there
-pub said-line : (asked : Asked) (count : ℕ) (line : List ℕ) (s : Said) → count < 256 → line_says asked count line ≡ Ok s → MaySay asked count s × IsLineOf line s
-unfolding line_says text_in
+pub said-line : (asked : Asked) (count : ℕ) (line : List ℕ) (s : Said) → count < 256 → line_says asked count line ≡ Ok s → MaySay asked count s × IsSaidLine line s
+unfolding line_says text_of_line
 said-line asked count line s small e =
     let read = text_is (nat_lt 1024 (length line)) (all_printable line) line _ s e in
     let said = words_says asked count (words line) s small read in
-    subst (λ t. MaySay asked count s × IsLineOf t s) (sym (joined-words line (words line) refl)) said
+    subst (λ t. MaySay asked count s × IsSaidLine t s) (sym (joined-words line (words line) refl)) said
 
-pub said-result : (asked : Asked) (count : ℕ) (line : List ℕ) (r : Result Said WireFault) → count < 256 → r ≡ line_says asked count line → IfOk r (λ s. MaySay asked count s × IsLineOf line s)
+pub said-result : (asked : Asked) (count : ℕ) (line : List ℕ) (r : Result Said WireFault) → count < 256 → r ≡ line_says asked count line → IfOk r (λ s. MaySay asked count s × IsSaidLine line s)
 said-result asked count line (Ok s) small e = said-line asked count line s small (sym e)
 said-result asked count line (Err fault) small e = tt

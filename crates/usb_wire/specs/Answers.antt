@@ -12,24 +12,24 @@ use Rattle.usb_wire.specs.declared.question.Asked.TheVariants.{Hello, Attempt, P
 use Rattle.usb_wire.specs.Fields.{hex_value}
 
 -- the line of each answer, with the digits of its bytes
-abbrev pub answer_with : List ℕ → Answer → List ℕ
-answer_with digits (Roots roots) = codes "roots " ++ decimal roots
-answer_with digits Ack = codes "ACK"
-answer_with digits Nak = codes "NAK"
-answer_with digits Stall = codes "STALL"
-answer_with digits Nothing = codes "none"
-answer_with digits (Data sent) = data_name sent.toggle ++ digits
-answer_with digits Done = codes "ok"
-answer_with digits Show = codes "show"
-answer_with digits End = codes "end"
-answer_with digits (Send path bytes) = codes "send " ++ path_text path ++ codes " " ++ digits
-answer_with digits (Receive path packets) = codes "receive " ++ path_text path ++ codes " " ++ decimal packets
-answer_with digits (Clear path) = codes "clear " ++ path_text path
+abbrev pub answer_in_digits : List ℕ → Answer → List ℕ
+answer_in_digits digits (Roots roots) = codes "roots " ++ decimal roots
+answer_in_digits digits Ack = codes "ACK"
+answer_in_digits digits Nak = codes "NAK"
+answer_in_digits digits Stall = codes "STALL"
+answer_in_digits digits Nothing = codes "none"
+answer_in_digits digits (Data sent) = data_name sent.toggle ++ digits
+answer_in_digits digits Done = codes "ok"
+answer_in_digits digits Show = codes "show"
+answer_in_digits digits End = codes "end"
+answer_in_digits digits (Send path bytes) = codes "send " ++ path_text path ++ codes " " ++ digits
+answer_in_digits digits (Receive path packets) = codes "receive " ++ path_text path ++ codes " " ++ decimal packets
+answer_in_digits digits (Clear path) = codes "clear " ++ path_text path
 
 -- the line of what is said, with the digits of its bytes
-abbrev pub said_with : List ℕ → Said → List ℕ
-said_with digits (Changed number status) = codes "port " ++ decimal number ++ codes " " ++ digits
-said_with digits (Answered answer) = answer_with digits answer
+abbrev pub said_in_digits : List ℕ → Said → List ℕ
+said_in_digits digits (Changed number status) = codes "port " ++ decimal number ++ codes " " ++ digits
+said_in_digits digits (Answered answer) = answer_in_digits digits answer
 
 -- the bytes in it
 abbrev pub answer_bytes : Answer → List ℕ
@@ -43,34 +43,34 @@ said_bytes (Answered answer) = answer_bytes answer
 
 -- the line as it is written: digits in upper case
 abbrev pub said_line : Said → List ℕ
-said_line said = said_with (hex_text (said_bytes said)) said
+said_line said = said_in_digits (hex_text (said_bytes said)) said
 
 -- the line says this, in digits of either case
-pub record IsLineOf (line : List ℕ) (said : Said) : Type 0 where
+pub record IsSaidLine (line : List ℕ) (said : Said) : Type 0 where
   pub digits : List ℕ
   pub spelled : hex_value digits ≡ Some (said_bytes said)
-  pub written : line ≡ said_with digits said
+  pub written : line ≡ said_in_digits digits said
 
 -- at most 64 bytes
 abbrev pub IsData : List ℕ → Type 0
 IsData bytes = (length bytes ≤ 64) × IsBytes bytes
 
 -- what may be answered to each question
-abbrev pub IsAnswer : Asked → Answer → Type 0
-IsAnswer Hello (Roots roots) = (1 ≤ roots) × (roots ≤ 7)
-IsAnswer Attempt Ack = Unit {0}
-IsAnswer Attempt Nak = Unit {0}
-IsAnswer Attempt Stall = Unit {0}
-IsAnswer Attempt Nothing = Unit {0}
-IsAnswer Attempt (Data sent) = IsData sent.bytes.items
-IsAnswer Port Done = Unit {0}
-IsAnswer Wait Done = Unit {0}
-IsAnswer Wait Show = Unit {0}
-IsAnswer Wait End = Unit {0}
-IsAnswer Wait (Send path bytes) = IsPath path × IsData bytes.items
-IsAnswer Wait (Receive path packets) = IsPath path × (packets ≤ 1000)
-IsAnswer Wait (Clear path) = IsPath path
-IsAnswer _ _ = ⊥
+abbrev pub MayAnswer : Asked → Answer → Type 0
+MayAnswer Hello (Roots roots) = (1 ≤ roots) × (roots ≤ 7)
+MayAnswer Attempt Ack = Unit {0}
+MayAnswer Attempt Nak = Unit {0}
+MayAnswer Attempt Stall = Unit {0}
+MayAnswer Attempt Nothing = Unit {0}
+MayAnswer Attempt (Data sent) = IsData sent.bytes.items
+MayAnswer Port Done = Unit {0}
+MayAnswer Wait Done = Unit {0}
+MayAnswer Wait Show = Unit {0}
+MayAnswer Wait End = Unit {0}
+MayAnswer Wait (Send path bytes) = IsPath path × IsData bytes.items
+MayAnswer Wait (Receive path packets) = IsPath path × (packets ≤ 1000)
+MayAnswer Wait (Clear path) = IsPath path
+MayAnswer _ _ = ⊥
 
 -- where a root port's status may be pushed: before any answer but the hello's
 abbrev pub MayPush : Asked → Type 0
@@ -81,4 +81,4 @@ MayPush _ = Unit {0}
 abbrev pub MaySay : Asked → ℕ → Said → Type 0
 MaySay asked roots (Changed number status) =
     MayPush asked × (1 ≤ number) × (number ≤ roots) × (length status ≡ 4) × IsBytes status
-MaySay asked roots (Answered answer) = IsAnswer asked answer
+MaySay asked roots (Answered answer) = MayAnswer asked answer

@@ -55,12 +55,12 @@ forms Wait =
     ∷ []
 
 -- the first word is the form's, and so many words stand behind it
-abbrev pub fits : List ℕ → List (List ℕ) → Form → Bool
-fits word arguments f = (length arguments == length f.fields) && bytes_eq word f.word
+abbrev pub form_fits : List ℕ → List (List ℕ) → Form → Bool
+form_fits word arguments f = (length arguments == length f.fields) && bytes_eq word f.word
 
 abbrev pub fields_in : List Form → List ℕ → List (List ℕ) → Option (List Field)
 fields_in [] word arguments = None
-fields_in (f ∷ fs) word arguments = if fits word arguments f then Some f.fields else fields_in fs word arguments
+fields_in (f ∷ fs) word arguments = if form_fits word arguments f then Some f.fields else fields_in fs word arguments
 
 -- neither pairs of digits, of either case, nor a dash
 abbrev pub is_bad_hex : Field → List ℕ → Bool
@@ -109,8 +109,8 @@ words_fault asked count [] = Some NoAnswer
 words_fault asked count (word ∷ arguments) = fault_by count (fields_in (forms asked) word arguments) arguments
 
 -- the first fault of a line behind a question, where there are so many root ports
-abbrev pub fault_of : Asked → ℕ → List ℕ → Option WireFault
-fault_of asked count line =
+abbrev pub line_fault : Asked → ℕ → List ℕ → Option WireFault
+line_fault asked count line =
     if nat_lt 1024 (length line) then Some LineTooLong
     else if not (all_printable line) then Some BadCharacter
     else words_fault asked count (words line)

@@ -13,7 +13,7 @@ use Rattle.usb_wire.specs.declared.question.Question.{Question}
 use Rattle.usb_wire.specs.declared.question.Question.TheVariants.{Hello, Setup, Out, In, Port, Wait}
 use Rattle.usb_wire.specs.declared.question.Speed.{Speed}
 use Rattle.usb_wire.specs.declared.question.Speed.TheVariants.{Full, Low, LowBelowHub}
-use Rattle.usb_wire.specs.Reading.{bytes_in, number_in, text_in}
+use Rattle.usb_wire.specs.Reading.{bytes_of_word, number_of_word, text_of_line}
 
 infixl 10 ◌>>=◌
 abbrev pub ◌>>=◌ : {A B : Type 0} → Option A → (A → Option B) → Option B
@@ -28,19 +28,19 @@ cut_at mark (c ∷ text) = if c == mark then Some ([], text) else option_map (λ
 unfoldable pub endpoint_in : List ℕ → Option Endpoint
 endpoint_in word = do
   cut ← cut_at 46 word
-  address ← result_ok (number_in 0 127 cut.0)
-  number ← result_ok (number_in 0 15 cut.1)
+  address ← result_ok (number_of_word 0 127 cut.0)
+  number ← result_ok (number_of_word 0 15 cut.1)
   Some (record { address = address; number = number })
 
-unfoldable pub behind_pre : List ℕ → Option (List ℕ)
-behind_pre text = do
+unfoldable pub behind_pre_word : List ℕ → Option (List ℕ)
+behind_pre_word text = do
   cut ← cut_at 32 text
   if bytes_eq cut.0 (codes "PRE") then Some cut.1 else None
 
 unfoldable pub after_pre : Speed → List ℕ → Option (List ℕ)
 after_pre Full text = Some text
 after_pre Low text = Some text
-after_pre LowBelowHub text = behind_pre text
+after_pre LowBelowHub text = behind_pre_word text
 
 unfoldable pub toggle_named : List ℕ → Option Toggle
 toggle_named word =
@@ -62,7 +62,7 @@ setup_by One bytes = None
 
 unfoldable pub setup_in : Toggle → List ℕ → Option SetupData
 setup_in toggle digits = do
-  bytes ← result_ok (bytes_in digits)
+  bytes ← result_ok (bytes_of_word digits)
   setup_by toggle bytes
 
 unfoldable pub setup_question : Speed → List ℕ → Option Question
@@ -78,18 +78,18 @@ out_question speed text = do
   cut ← cut_at 32 text
   endpoint ← endpoint_in cut.0
   sent ← data_behind speed cut.1
-  bytes ← result_ok (bytes_in sent.1)
+  bytes ← result_ok (bytes_of_word sent.1)
   Some (Out speed endpoint (record { toggle = sent.0; bytes = record { items = bytes } }))
 
 unfoldable pub in_question : Speed → List ℕ → Option Question
 in_question speed text = do
   cut ← cut_at 32 text
   endpoint ← endpoint_in cut.0
-  most ← result_ok (number_in 1 64 cut.1)
+  most ← result_ok (number_of_word 1 64 cut.1)
   Some (In speed endpoint most)
 
-unfoldable pub token_in : Speed → List ℕ → List ℕ → Option Question
-token_in speed word text =
+unfoldable pub token_of_words : Speed → List ℕ → List ℕ → Option Question
+token_of_words speed word text =
     if bytes_eq word (codes "SETUP") then setup_question speed text
     else if bytes_eq word (codes "OUT") then out_question speed text
     else if bytes_eq word (codes "IN") then in_question speed text
@@ -98,7 +98,7 @@ token_in speed word text =
 unfoldable pub token_behind : Speed → List ℕ → Option Question
 token_behind speed text = do
   cut ← cut_at 32 text
-  token_in speed cut.0 cut.1
+  token_of_words speed cut.0 cut.1
 
 unfoldable pub call_in : List ℕ → Option PortCall
 call_in text =
@@ -114,7 +114,7 @@ call_in text =
 unfoldable pub port_question : List ℕ → Option Question
 port_question text = do
   cut ← cut_at 32 text
-  number ← result_ok (number_in 1 7 cut.0)
+  number ← result_ok (number_of_word 1 7 cut.0)
   call ← call_in cut.1
   Some (Port number call)
 
@@ -124,11 +124,11 @@ asked_in text = do
   if bytes_eq cut.0 (codes "port") then port_question cut.1
       else if bytes_eq cut.0 (codes "low") then token_behind Low cut.1
       else if bytes_eq cut.0 (codes "PRE") then token_behind LowBelowHub cut.1
-      else token_in Full cut.0 cut.1
+      else token_of_words Full cut.0 cut.1
 
 unfoldable pub question_of : List ℕ → Option Question
 question_of line = do
-  text ← result_ok (text_in line)
+  text ← result_ok (text_of_line line)
   if bytes_eq text (codes "wait") then Some Wait
       else if bytes_eq text (codes "usbplan live 1") then Some Hello
       else asked_in text

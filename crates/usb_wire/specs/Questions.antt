@@ -20,13 +20,13 @@ use Rattle.usb_wire.specs.declared.question.Speed.{Speed}
 use Rattle.usb_wire.specs.declared.question.Speed.TheVariants.{Full, Low, LowBelowHub}
 
 -- which answers a question has
-abbrev pub asked_by : Question → Asked
-asked_by Hello = OfHello
-asked_by (Setup speed endpoint setup) = OfAttempt
-asked_by (Out speed endpoint sent) = OfAttempt
-asked_by (In speed endpoint most) = OfAttempt
-asked_by (Port number call) = OfPort
-asked_by Wait = OfWait
+abbrev pub kind_asked : Question → Asked
+kind_asked Hello = OfHello
+kind_asked (Setup speed endpoint setup) = OfAttempt
+kind_asked (Out speed endpoint sent) = OfAttempt
+kind_asked (In speed endpoint most) = OfAttempt
+kind_asked (Port number call) = OfPort
+kind_asked Wait = OfWait
 
 -- what stands before a token: the device is of low speed, at a root port or below a hub (8.6.5)
 abbrev pub speed_text : Speed → List ℕ
@@ -35,10 +35,10 @@ speed_text Low = codes "low "
 speed_text LowBelowHub = codes "PRE "
 
 -- what stands between a token and the host's data
-abbrev pub pre_text : Speed → List ℕ
-pre_text Full = codes " / "
-pre_text Low = codes " / "
-pre_text LowBelowHub = codes " / PRE "
+abbrev pub between_text : Speed → List ℕ
+between_text Full = codes " / "
+between_text Low = codes " / "
+between_text LowBelowHub = codes " / PRE "
 
 -- a token, as in a trace
 abbrev pub token_text : TokenKind → Endpoint → List ℕ
@@ -59,16 +59,16 @@ call_text ClearEnableChange = codes "clear C_PORT_ENABLE"
 call_text ClearResetChange = codes "clear C_PORT_RESET"
 
 -- the line of each question, with the digits of its bytes
-abbrev pub question_with : List ℕ → Question → List ℕ
-question_with digits Hello = codes "usbplan live 1"
-question_with digits (Setup speed endpoint setup) =
-    speed_text speed ++ token_text SetupTok endpoint ++ pre_text speed ++ data_with Zero digits
-question_with digits (Out speed endpoint sent) =
-    speed_text speed ++ token_text OutTok endpoint ++ pre_text speed ++ data_with sent.toggle digits
-question_with digits (In speed endpoint most) =
+abbrev pub question_in_digits : List ℕ → Question → List ℕ
+question_in_digits digits Hello = codes "usbplan live 1"
+question_in_digits digits (Setup speed endpoint setup) =
+    speed_text speed ++ token_text SetupTok endpoint ++ between_text speed ++ data_with Zero digits
+question_in_digits digits (Out speed endpoint sent) =
+    speed_text speed ++ token_text OutTok endpoint ++ between_text speed ++ data_with sent.toggle digits
+question_in_digits digits (In speed endpoint most) =
     speed_text speed ++ token_text InTok endpoint ++ codes " " ++ decimal most
-question_with digits (Port number call) = codes "port " ++ decimal number ++ codes " " ++ call_text call
-question_with digits Wait = codes "wait"
+question_in_digits digits (Port number call) = codes "port " ++ decimal number ++ codes " " ++ call_text call
+question_in_digits digits Wait = codes "wait"
 
 -- the bytes in it
 abbrev pub question_bytes : Question → List ℕ
@@ -78,26 +78,26 @@ question_bytes _ = []
 
 -- the line as it is written: digits in upper case
 abbrev pub question_line : Question → List ℕ
-question_line question = question_with (hex_text (question_bytes question)) question
+question_line question = question_in_digits (hex_text (question_bytes question)) question
 
 -- the line asks this, in digits of either case
 pub record IsQuestionLine (line : List ℕ) (question : Question) : Type 0 where
   pub digits : List ℕ
   pub spelled : hex_value digits ≡ Some (question_bytes question)
-  pub written : line ≡ question_with digits question
+  pub written : line ≡ question_in_digits digits question
 
 -- the fields fit their places
 abbrev pub IsEndpoint : Endpoint → Type 0
 IsEndpoint e = (e.address < 128) × (e.number < 16)
 
-abbrev pub IsSetup : SetupData → Type 0
-IsSetup s =
+abbrev pub IsSetupData : SetupData → Type 0
+IsSetupData s =
     (s.request_type < 256) × (s.request < 256) × (s.value < 2 ^ 16) × (s.index < 2 ^ 16) × (s.length < 2 ^ 16)
 
 -- what may be asked
 abbrev pub IsQuestion : Question → Type 0
 IsQuestion Hello = Unit {0}
-IsQuestion (Setup speed endpoint setup) = IsEndpoint endpoint × IsSetup setup
+IsQuestion (Setup speed endpoint setup) = IsEndpoint endpoint × IsSetupData setup
 IsQuestion (Out speed endpoint sent) = IsEndpoint endpoint × IsData sent.bytes.items
 IsQuestion (In speed endpoint most) = IsEndpoint endpoint × (1 ≤ most) × (most ≤ 64)
 IsQuestion (Port number call) = (1 ≤ number) × (number ≤ 7)

@@ -36,18 +36,18 @@ result_map view (Err e) = Err e
 unfoldable pub count_in : List ℕ → Result ℕ WireFault
 count_in word = if is_dash word || is_hex word then Ok (hex_length word) else Err BadHex
 
-unfoldable pub bytes_in : List ℕ → Result (List ℕ) WireFault
-bytes_in word = do
+unfoldable pub bytes_of_word : List ℕ → Result (List ℕ) WireFault
+bytes_of_word word = do
   count ← count_in word
   if nat_lt 64 count then Err BadLength else ok_or (hex_value word) BadHex
 
-unfoldable pub status_in : List ℕ → Result (List ℕ) WireFault
-status_in word = do
+unfoldable pub status_of_word : List ℕ → Result (List ℕ) WireFault
+status_of_word word = do
   count ← count_in word
   if count == 4 then ok_or (hex_value word) BadHex else Err BadLength
 
-unfoldable pub number_in : ℕ → ℕ → List ℕ → Result ℕ WireFault
-number_in least most word = ok_or (number_within least most word) BadNumber
+unfoldable pub number_of_word : ℕ → ℕ → List ℕ → Result ℕ WireFault
+number_of_word least most word = ok_or (number_within least most word) BadNumber
 
 unfoldable pub path_in : List ℕ → Result (List ℕ) WireFault
 path_in word = ok_or (path_of word) BadPath
@@ -70,12 +70,12 @@ alone Wait word =
 
 unfoldable pub roots_answer : List ℕ → Result Answer WireFault
 roots_answer word = do
-  roots ← number_in 1 7 word
+  roots ← number_of_word 1 7 word
   Ok (Roots roots)
 
 unfoldable pub data_answer : Toggle → List ℕ → Result Answer WireFault
 data_answer toggle word = do
-  bytes ← bytes_in word
+  bytes ← bytes_of_word word
   Ok (Data (record { toggle = toggle; bytes = record { items = bytes } }))
 
 unfoldable pub clear_answer : List ℕ → Result Answer WireFault
@@ -95,13 +95,13 @@ with_one Wait word argument = if bytes_eq word (codes "clear") then clear_answer
 
 unfoldable pub send_answer : List ℕ → List ℕ → Result Answer WireFault
 send_answer first second = do
-  bytes ← bytes_in second
+  bytes ← bytes_of_word second
   path ← path_in first
   Ok (Send path (record { items = bytes }))
 
 unfoldable pub receive_answer : List ℕ → List ℕ → Result Answer WireFault
 receive_answer first second = do
-  packets ← number_in 0 1000 second
+  packets ← number_of_word 0 1000 second
   path ← path_in first
   Ok (Receive path packets)
 
@@ -114,43 +114,43 @@ with_two Wait word first second =
 with_two _ word first second = Err NoAnswer
 
 -- the status of a root port
-unfoldable pub pushed : ℕ → List ℕ → List ℕ → Result Said WireFault
-pushed count first second = do
-  status ← status_in second
-  number ← number_in 1 count first
+unfoldable pub status_change : ℕ → List ℕ → List ℕ → Result Said WireFault
+status_change count first second = do
+  status ← status_of_word second
+  number ← number_of_word 1 count first
   Ok (Changed number status)
 
 abbrev pub may_push : Asked → Bool
 may_push Hello = false
 may_push _ = true
 
-abbrev pub answered : Result Answer WireFault → Result Said WireFault
-answered (Ok answer) = Ok (Answered answer)
-answered (Err fault) = Err fault
+abbrev pub said_of : Result Answer WireFault → Result Said WireFault
+said_of (Ok answer) = Ok (Answered answer)
+said_of (Err fault) = Err fault
 
 -- what three words say
 unfoldable pub three_say : Asked → ℕ → List ℕ → List ℕ → List ℕ → Result Said WireFault
 three_say asked count word first second =
-    if may_push asked && bytes_eq word (codes "port") then pushed count first second
-    else answered (with_two asked word first second)
+    if may_push asked && bytes_eq word (codes "port") then status_change count first second
+    else said_of (with_two asked word first second)
 
 -- what words say
 unfoldable pub words_say : Asked → ℕ → List (List ℕ) → Result Said WireFault
 words_say asked count [] = Err NoAnswer
-words_say asked count (word ∷ []) = answered (alone asked word)
-words_say asked count (word ∷ argument ∷ []) = answered (with_one asked word argument)
+words_say asked count (word ∷ []) = said_of (alone asked word)
+words_say asked count (word ∷ argument ∷ []) = said_of (with_one asked word argument)
 words_say asked count (word ∷ first ∷ second ∷ []) = three_say asked count word first second
 words_say asked count (word ∷ first ∷ second ∷ third ∷ more) = Err NoAnswer
 
 unfoldable pub shape_says : Asked → ℕ → Words → Result Said WireFault
-shape_says asked count (One word) = answered (alone asked word.now)
-shape_says asked count (Two word argument) = answered (with_one asked word.now argument.now)
+shape_says asked count (One word) = said_of (alone asked word.now)
+shape_says asked count (Two word argument) = said_of (with_one asked word.now argument.now)
 shape_says asked count (Three word first second) = three_say asked count word.now first.now second.now
 shape_says asked count More = Err NoAnswer
 
 -- what is wrong with the text of a line
-unfoldable pub text_in : List ℕ → Result (List ℕ) WireFault
-text_in line =
+unfoldable pub text_of_line : List ℕ → Result (List ℕ) WireFault
+text_of_line line =
     if nat_lt 1024 (length line) then Err LineTooLong
     else if all_printable line then Ok line
     else Err BadCharacter
@@ -158,5 +158,5 @@ text_in line =
 -- what a line says
 unfoldable pub line_says : Asked → ℕ → List ℕ → Result Said WireFault
 line_says asked count line = do
-  text ← text_in line
+  text ← text_of_line line
   words_say asked count (words text)

@@ -1,13 +1,13 @@
 //! What a line of the host asks.
 ghost use Rattle.std.specs.Prelude.{◌≡◌, IfSome, option_map};
 ghost use Rattle.usb_packet.specs.declared.Toggle.TheVariants.{Zero};
-ghost use Rattle.usb_wire.specs.QuestionReading.{after_pre, asked_in, behind_pre, call_in, cut_at, data_behind, endpoint_in, in_question, out_question, port_question, question_of, setup_by, setup_in, setup_question, toggle_named, token_behind, token_in};
+ghost use Rattle.usb_wire.specs.QuestionReading.{after_pre, asked_in, behind_pre_word, call_in, cut_at, data_behind, endpoint_in, in_question, out_question, port_question, question_of, setup_by, setup_in, setup_question, toggle_named, token_behind, token_of_words};
 ghost use Rattle.usb_wire.specs.Questions.{IsQuestion, IsQuestionLine};
 ghost use Rattle.usb_wire.specs.declared.question.Question.{Question as AQuestion};
 
-use crate::field::{bytes_in, number_in};
+use crate::field::{bytes_of_word, number_of_word};
 use crate::question::{DataPacket, Endpoint, Question, Speed};
-use crate::reading::text_in;
+use crate::reading::text_of_line;
 use usb_packet::Toggle;
 use usb_port::PortCall;
 use usb_request::Setup;
@@ -27,7 +27,7 @@ pub fn read_question(line: &[u8]) -> Option<Question>
 fn question_of(line: &[u8]) -> Option<Question>
     ensures { result ≡ question_of line.now }
 {
-    let text = match text_in(line) {
+    let text = match text_of_line(line) {
         Ok(text) => text,
         Err(_) => return None,
     };
@@ -48,7 +48,7 @@ fn asked_in(text: &str) -> Option<Question>
         "port" => port_question(behind),
         "low" => token_behind(Speed::Low, behind),
         "PRE" => token_behind(Speed::LowBelowHub, behind),
-        _ => token_in(Speed::Full, word, behind),
+        _ => token_of_words(Speed::Full, word, behind),
     }
 }
 
@@ -71,13 +71,13 @@ fn token_behind(speed: Speed, text: &str) -> Option<Question>
     ensures { result ≡ token_behind speed text.now }
 {
     let (word, behind) = cut_space(text)?;
-    token_in(speed, word, behind)
+    token_of_words(speed, word, behind)
 }
 
 /// An attempt, by the word of its token.
-#[tactic(auto, unfolding(crate::specs::QuestionReading::token_in))]
-fn token_in(speed: Speed, word: &str, text: &str) -> Option<Question>
-    ensures { result ≡ token_in speed word.now text.now }
+#[tactic(auto, unfolding(crate::specs::QuestionReading::token_of_words))]
+fn token_of_words(speed: Speed, word: &str, text: &str) -> Option<Question>
+    ensures { result ≡ token_of_words speed word.now text.now }
 {
     match word {
         "SETUP" => setup_question(speed, text),
@@ -109,7 +109,7 @@ fn out_question(speed: Speed, text: &str) -> Option<Question>
     let (device, behind) = cut_space(text)?;
     let endpoint = endpoint_in(device)?;
     let (toggle, digits) = data_behind(speed, behind)?;
-    let bytes = bytes_in(digits).ok()?;
+    let bytes = bytes_of_word(digits).ok()?;
     Some(Question::Out {
         speed,
         endpoint,
@@ -123,7 +123,7 @@ fn in_question(speed: Speed, text: &str) -> Option<Question>
 {
     let (device, behind) = cut_space(text)?;
     let endpoint = endpoint_in(device)?;
-    let most = number_in(1, 64, behind).ok()?;
+    let most = number_of_word(1, 64, behind).ok()?;
     Some(Question::In {
         speed,
         endpoint,
@@ -137,8 +137,8 @@ fn endpoint_in(word: &str) -> Option<Endpoint>
     ensures { result ≡ endpoint_in word.now }
 {
     let (address, number) = cut_dot(word)?;
-    let address = number_in(0, 127, address).ok()?;
-    let number = number_in(0, 15, number).ok()?;
+    let address = number_of_word(0, 127, address).ok()?;
+    let number = number_of_word(0, 15, number).ok()?;
     Some(Endpoint {
         address: address as u8,
         number: number as u8,
@@ -167,13 +167,13 @@ fn after_pre(speed: Speed, text: &str) -> Option<&str>
 {
     match speed {
         Speed::Full | Speed::Low => Some(text),
-        Speed::LowBelowHub => behind_pre(text),
+        Speed::LowBelowHub => behind_pre_word(text),
     }
 }
 
-#[tactic(auto, unfolding(crate::specs::QuestionReading::behind_pre))]
-fn behind_pre(text: &str) -> Option<&str>
-    ensures { behind_pre text.now ≡ option_map (λ rest. rest.now) result }
+#[tactic(auto, unfolding(crate::specs::QuestionReading::behind_pre_word))]
+fn behind_pre_word(text: &str) -> Option<&str>
+    ensures { behind_pre_word text.now ≡ option_map (λ rest. rest.now) result }
 {
     let (word, behind) = cut_space(text)?;
     if word == "PRE" { Some(behind) } else { None }
@@ -195,7 +195,7 @@ fn toggle_named(word: &str) -> Option<Toggle>
 fn setup_in(toggle: Toggle, digits: &str) -> Option<Setup>
     ensures { result ≡ setup_in toggle digits.now }
 {
-    let bytes = bytes_in(digits).ok()?;
+    let bytes = bytes_of_word(digits).ok()?;
     match toggle {
         Toggle::Zero => setup_by(bytes.as_slice()),
         Toggle::One => None,
@@ -216,7 +216,7 @@ fn port_question(text: &str) -> Option<Question>
     ensures { result ≡ port_question text.now }
 {
     let (number, behind) = cut_space(text)?;
-    let number = number_in(1, 7, number).ok()?;
+    let number = number_of_word(1, 7, number).ok()?;
     let call = call_in(behind)?;
     Some(Question::Port {
         number: number as u8,

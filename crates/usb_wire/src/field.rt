@@ -4,7 +4,7 @@ ghost use Rattle.std.specs.Char.{is_ascii_digit};
 ghost use Rattle.std.specs.List.{list_all};
 ghost use Rattle.hex.specs.Hex.{decode_sized, is_hex_digit};
 ghost use Rattle.usb_wire.specs.Fields.{is_decimal, is_hex};
-ghost use Rattle.usb_wire.specs.Reading.{bytes_in, count_in, number_in, path_in, result_map, status_in};
+ghost use Rattle.usb_wire.specs.Reading.{bytes_of_word, count_in, number_of_word, path_in, result_map, status_of_word};
 
 use crate::fault::WireFault;
 use arrayvec::ArrayVec;
@@ -12,9 +12,9 @@ use hex::FromHex;
 use usb_port::PortPath;
 
 /// At most 64 bytes.
-#[tactic(auto, unfolding(crate::specs::Reading::bytes_in))]
-pub(crate) fn bytes_in(word: &str) -> Result<ArrayVec<u8, 64>, WireFault>
-    ensures { bytes_in word.now ≡ result_map (λ b. b.items) result }
+#[tactic(auto, unfolding(crate::specs::Reading::bytes_of_word))]
+pub(crate) fn bytes_of_word(word: &str) -> Result<ArrayVec<u8, 64>, WireFault>
+    ensures { bytes_of_word word.now ≡ result_map (λ b. b.items) result }
 {
     let count = count_in(word)?;
     if count > 64 {
@@ -50,9 +50,9 @@ pub(crate) fn few_bytes(bytes: &[u8]) -> ArrayVec<u8, 64>
 }
 
 /// The four bytes of a status.
-#[tactic(auto, unfolding(crate::specs::Reading::status_in))]
-pub(crate) fn status_in(word: &str) -> Result<[u8; 4], WireFault>
-    ensures { result ≡ status_in word.now }
+#[tactic(auto, unfolding(crate::specs::Reading::status_of_word))]
+pub(crate) fn status_of_word(word: &str) -> Result<[u8; 4], WireFault>
+    ensures { result ≡ status_of_word word.now }
 {
     if count_in(word)? != 4 {
         return Err(WireFault::BadLength);
@@ -97,9 +97,9 @@ fn is_hex_digit(digit: u8) -> bool
 }
 
 /// A number in a range, in decimal digits with no zero before them.
-#[tactic(auto, unfolding(crate::specs::Reading::number_in))]
-pub(crate) fn number_in(least: u64, most: u64, word: &str) -> Result<u64, WireFault>
-    ensures value { result ≡ number_in least most word.now }
+#[tactic(auto, unfolding(crate::specs::Reading::number_of_word))]
+pub(crate) fn number_of_word(least: u64, most: u64, word: &str) -> Result<u64, WireFault>
+    ensures value { result ≡ number_of_word least most word.now }
     ensures within { IfOk result (λ n. (least ≤ n) × (n ≤ most)) }
 {
     if !is_decimal(word.as_bytes()) {

@@ -1,6 +1,6 @@
 //! The theorem on lines that no call says of itself.
 ghost use Rattle.std.specs.Prelude.{ℕ};
-ghost use Rattle.usb_wire.specs.Answers.{IsLineOf, MaySay, said_line};
+ghost use Rattle.usb_wire.specs.Answers.{IsSaidLine, MaySay, said_line};
 ghost use Rattle.usb_wire.specs.Questions.{IsQuestion, IsQuestionLine, question_line};
 ghost use Rattle.usb_wire.specs.declared.answer.Said.{Said as ASaid};
 ghost use Rattle.usb_wire.specs.declared.question.Asked.{Asked as AnAsked};
@@ -12,5 +12,5 @@ pub fn lines_are_read_back()
     ensures asked { (question : AQuestion)
         → IsQuestion question → IsQuestionLine (question_line question) question }
     ensures said { (asked : AnAsked) (roots : ℕ) (said : ASaid)
-        → MaySay asked roots said → IsLineOf (said_line said) said }
+        → MaySay asked roots said → IsSaidLine (said_line said) said }
 {}

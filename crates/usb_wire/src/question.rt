@@ -3,7 +3,7 @@ ghost use Rattle.std.specs.Prelude.{◌≡◌, ◌++◌, ◌+◌, ◌≤◌, [],
 ghost use Rattle.usb_packet.specs.declared.Toggle.TheVariants.{Zero};
 ghost use Rattle.usb_packet.specs.Text.{hex_text};
 ghost use Rattle.usb_request.specs.Layout.{bytes_of};
-ghost use Rattle.usb_wire.specs.Questions.{asked_by, call_text, data_with, pre_text, question_line, speed_text, token_text};
+ghost use Rattle.usb_wire.specs.Questions.{kind_asked, call_text, data_with, between_text, question_line, speed_text, token_text};
 
 use crate::field::few_bytes;
 use arrayvec::{ArrayString, ArrayVec};
@@ -90,7 +90,7 @@ pub enum Asked {
 impl Question {
     /// Which answers the question has.
     pub fn asked(&self) -> Asked
-        ensures { result ≡ asked_by self.now }
+        ensures { result ≡ kind_asked self.now }
     {
         match self {
             Question::Hello => Asked::Hello,
@@ -160,7 +160,7 @@ fn push_token(line: &mut ArrayString<700>, speed: Speed, kind: TokenKind, endpoi
 /// What stands between a token and the host's data.
 fn push_between(line: &mut ArrayString<700>, speed: Speed)
     requires { length line.old.bytes ≤ 560 }
-    ensures text { line.new.bytes ≡ line.old.bytes ++ pre_text speed }
+    ensures text { line.new.bytes ≡ line.old.bytes ++ between_text speed }
     ensures few { length line.new.bytes ≤ length line.old.bytes + 7 }
 {
     line.push_str(match speed {

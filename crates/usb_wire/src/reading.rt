@@ -1,14 +1,14 @@
 //! What a line of the far end says.
 ghost use Rattle.std.specs.Prelude.{◌≡◌, IfOk};
-ghost use Rattle.usb_wire.specs.Answers.{IsLineOf, MaySay};
-ghost use Rattle.usb_wire.specs.Faults.{fault_of};
-ghost use Rattle.usb_wire.specs.Reading.{alone, clear_answer, data_answer, fault_in, line_says, may_push, pushed, receive_answer, result_map, roots_answer, send_answer, shape_says, text_in, three_say, with_one, with_two};
+ghost use Rattle.usb_wire.specs.Answers.{IsSaidLine, MaySay};
+ghost use Rattle.usb_wire.specs.Faults.{line_fault};
+ghost use Rattle.usb_wire.specs.Reading.{alone, clear_answer, data_answer, fault_in, line_says, may_push, status_change, receive_answer, result_map, roots_answer, send_answer, shape_says, text_of_line, three_say, with_one, with_two};
 ghost use Rattle.usb_wire.specs.Words.{all_printable, is_printable};
 ghost use Rattle.usb_wire.specs.declared.answer.Said.{Said as ASaid};
 
 use crate::answer::{Answer, Said};
 use crate::fault::WireFault;
-use crate::field::{bytes_in, number_in, path_in, status_in};
+use crate::field::{bytes_of_word, number_of_word, path_in, status_of_word};
 use crate::question::{Asked, DataPacket};
 use crate::words::{Words, words_of};
 use usb_packet::Toggle;
@@ -30,12 +30,12 @@ const LINE_LIMIT: usize = 1024;
 /// - BadPath where a word that stands for a path is none.
 pub fn read_said(asked: Asked, roots: u8, line: &[u8]) -> Result<Said, WireFault>
     // What is read may be said, and stands there.
-    ensures said { IfOk result (λ said. MaySay asked roots said × IsLineOf line.now said) }
+    ensures said { IfOk result (λ said. MaySay asked roots said × IsSaidLine line.now said) }
     // What may be said and stands there is read.
-    ensures only { (said : ASaid) → MaySay asked roots said → IsLineOf line.now said
+    ensures only { (said : ASaid) → MaySay asked roots said → IsSaidLine line.now said
         → result ≡ Ok said }
     // A line that says nothing has its fault.
-    ensures fault { fault_in result ≡ fault_of asked roots line.now }
+    ensures fault { fault_in result ≡ line_fault asked roots line.now }
 {
     line_says(asked, roots, line)
 }
@@ -44,14 +44,14 @@ pub fn read_said(asked: Asked, roots: u8, line: &[u8]) -> Result<Said, WireFault
 fn line_says(asked: Asked, roots: u8, line: &[u8]) -> Result<Said, WireFault>
     ensures { result ≡ line_says asked roots line.now }
 {
-    let text = text_in(line)?;
+    let text = text_of_line(line)?;
     words_say(asked, roots, words_of(text))
 }
 
 /// A line's text.
-#[tactic(auto, unfolding(crate::specs::Reading::text_in))]
-pub(crate) fn text_in(line: &[u8]) -> Result<&str, WireFault>
-    ensures { text_in line.now ≡ result_map (λ text. text.now) result }
+#[tactic(auto, unfolding(crate::specs::Reading::text_of_line))]
+pub(crate) fn text_of_line(line: &[u8]) -> Result<&str, WireFault>
+    ensures { text_of_line line.now ≡ result_map (λ text. text.now) result }
 {
     if line.len() > LINE_LIMIT {
         return Err(WireFault::LineTooLong);
@@ -143,7 +143,7 @@ fn with_one(asked: Asked, word: &str, argument: &str) -> Result<Answer, WireFaul
 fn roots_answer(word: &str) -> Result<Answer, WireFault>
     ensures { result ≡ roots_answer word.now }
 {
-    let roots = number_in(1, 7, word)?;
+    let roots = number_of_word(1, 7, word)?;
     Ok(Answer::Roots(roots as u8))
 }
 
@@ -151,7 +151,7 @@ fn roots_answer(word: &str) -> Result<Answer, WireFault>
 fn data_answer(toggle: Toggle, word: &str) -> Result<Answer, WireFault>
     ensures { result ≡ data_answer toggle word.now }
 {
-    let bytes = bytes_in(word)?;
+    let bytes = bytes_of_word(word)?;
     Ok(Answer::Data(DataPacket { toggle, bytes }))
 }
 
@@ -175,7 +175,7 @@ fn three_say(
     ensures { result ≡ three_say asked roots word.now first.now second.now }
 {
     if may_push(asked) && word == "port" {
-        return pushed(roots, first, second);
+        return status_change(roots, first, second);
     }
     let answer = with_two(asked, word, first, second)?;
     Ok(Said::Answered(answer))
@@ -188,12 +188,12 @@ fn may_push(asked: Asked) -> bool
 }
 
 /// The status of a root port.
-#[tactic(auto, unfolding(crate::specs::Reading::pushed))]
-fn pushed(roots: u8, first: &str, second: &str) -> Result<Said, WireFault>
-    ensures { result ≡ pushed roots first.now second.now }
+#[tactic(auto, unfolding(crate::specs::Reading::status_change))]
+fn status_change(roots: u8, first: &str, second: &str) -> Result<Said, WireFault>
+    ensures { result ≡ status_change roots first.now second.now }
 {
-    let status = status_in(second)?;
-    let number = number_in(1, u64::from(roots), first)?;
+    let status = status_of_word(second)?;
+    let number = number_of_word(1, u64::from(roots), first)?;
     Ok(Said::Changed {
         number: number as u8,
         status,
@@ -219,7 +219,7 @@ fn with_two(asked: Asked, word: &str, first: &str, second: &str) -> Result<Answe
 fn send_answer(first: &str, second: &str) -> Result<Answer, WireFault>
     ensures { result ≡ send_answer first.now second.now }
 {
-    let bytes = bytes_in(second)?;
+    let bytes = bytes_of_word(second)?;
     let path = path_in(first)?;
     Ok(Answer::Send { path, bytes })
 }
@@ -228,7 +228,7 @@ fn send_answer(first: &str, second: &str) -> Result<Answer, WireFault>
 fn receive_answer(first: &str, second: &str) -> Result<Answer, WireFault>
     ensures { result ≡ receive_answer first.now second.now }
 {
-    let packets = number_in(0, 1000, second)?;
+    let packets = number_of_word(0, 1000, second)?;
     let path = path_in(first)?;
     Ok(Answer::Receive {
         path,

@@ -1,6 +1,6 @@
 use Rattle.std.proofs.Common.{◌∙◌, sym, subst}
 use Rattle.usb_wire.proofs.FieldLemmas.{Counted, counted-count_in, status-decoded, status-undecoded}
-use Rattle.usb_wire.proofs.field.status_in.Goals as goal
+use Rattle.usb_wire.proofs.field.status_of_word.Goals as goal
 
 pub returns-in-Ok : goal.returns-in-Ok
 returns-in-Ok c =

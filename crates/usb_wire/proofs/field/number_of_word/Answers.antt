@@ -1,11 +1,11 @@
 use Rattle.std.proofs.Common.{◌≡◌, ◌^◌, ◌<◌, ◌∙◌, ap, refl, sym, arith, true}
-use Rattle.usb_wire.specs.Reading.{number_in}
+use Rattle.usb_wire.specs.Reading.{number_of_word}
 use Rattle.usb_wire.specs.Fields.{is_decimal}
 use Rattle.usb_wire.proofs.FieldLemmas.{within-unparsed}
-use Rattle.usb_wire.proofs.field.number_in.Goals as goal
+use Rattle.usb_wire.proofs.field.number_of_word.Goals as goal
 
 pub returns-in_default-clause-value : goal.returns-in_default-clause-value
-unfolding number_in
+unfolding number_of_word
 returns-in_default-clause-value c =
     let small : c.args.most < 2 ^ 64 = omega (arith, c.ranges.most.fits) in
     let digits : is_decimal c.args.word.now ≡ true = ap is_decimal (sym c.as_bytes.ensures.value) ∙ sym c.is_decimal.ensures ∙ c.if-not-is_decimal.false in
