@@ -109,7 +109,8 @@ fn push_configs(
     out: &mut Vec<u8>,
     configs: &[Configuration<'_>],
 ) -> Result<(), AllocError>
-    ensures { OnOk result (out.new.items ≡ out.old.items ++ flat_map configuration_lines configs.now) }
+    ensures { OnOk result (out.new.items
+        ≡ out.old.items ++ flat_map configuration_lines configs.now) }
 {
     'configs: for config in configs {
         push_config(alloc, out, config)?;

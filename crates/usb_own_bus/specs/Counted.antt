@@ -1,5 +1,6 @@
 -- What is counted of attempts.
-use Rattle.std.specs.Prelude.{ℕ, ◌+◌, ◌-◌, ◌^◌, min}
+use Rattle.std.specs.Prelude.{ℕ, ◌+◌, ◌-◌, ◌^◌, min, Result, Ok, Err}
+use Rattle.usb_world.specs.declared.types.BusFault.{BusFault}
 use Rattle.usb_world.specs.declared.types.Outcome.{Outcome}
 use Rattle.usb_world.specs.declared.types.Outcome.TheVariants.{Payload, Ack, Nak, Stall, Nothing}
 use Rattle.usb_own_bus.specs.declared.counted.Counts.{Counts}
@@ -14,3 +15,8 @@ counts_with c Nothing = record c { attempts = count_with c.attempts; unanswered 
 counts_with c (Payload toggle bytes) = record c { attempts = count_with c.attempts }
 counts_with c Ack = record c { attempts = count_with c.attempts }
 counts_with c Stall = record c { attempts = count_with c.attempts }
+
+-- behind an attempt: with its answer, where it was made
+abbrev pub counts_after : Counts → Result Outcome BusFault → Counts
+counts_after c (Ok outcome) = counts_with c outcome
+counts_after c (Err fault) = c

@@ -1,6 +1,10 @@
 //! A bus that counts what goes over another one.
-ghost use Rattle.std.specs.Prelude.{◌≡◌};
-ghost use Rattle.usb_own_bus.specs.Counted.{counts_with};
+ghost use Rattle.std.specs.Prelude.{◌≡◌, None};
+ghost use Rattle.usb_bus.specs.Traces.{Attempts};
+ghost use Rattle.usb_world.specs.AttemptPackets.{IsSettled};
+ghost use Rattle.usb_world.specs.SanePorts.{IsSane};
+ghost use Rattle.usb_world.specs.World.{IsAttempt};
+ghost use Rattle.usb_own_bus.specs.Counted.{counts_after, counts_with};
 
 use std::fmt;
 use usb_bus::{Attempt, Bus, BusFault, Outcome};
@@ -88,7 +92,14 @@ impl<B: Bus> Bus for CountedBus<B> {
 
     ghost trace = { λ counted. B.trace counted.bus };
 
-    fn attempt(&mut self, attempt: &Attempt) -> Result<Outcome, BusFault> {
+    fn attempt(&mut self, attempt: &Attempt) -> Result<Outcome, BusFault>
+        requires { IsAttempt attempt.now }
+        ensures attempts { Attempts attempt.now (B.world self.old.bus) (B.trace self.old.bus) result
+            (B.world self.new.bus) (B.trace self.new.bus) }
+        ensures settled { IsSettled (B.world self.old.bus).roots }
+        ensures sane { (B.world self.old.bus).fault ≡ None → IsSane (B.world self.old.bus).roots }
+        ensures counted { self.new.counts ≡ counts_after self.old.counts result }
+    {
         let result = self.bus.attempt(attempt);
         if let Ok(outcome) = &result {
             self.counts = self.counts.with(outcome);
