@@ -37,6 +37,28 @@ unfolding changed_at
 changed_at-none f [] i p h = refl
 changed_at-none f (q ∷ ps) i p h = absurd (omega (arith, h))
 
+pub changed_at-same : (k : Ports) (j : ℕ) (p : List ℕ) → changed_at (λ x. x) k j p ≡ k
+unfolding changed_at
+changed_at-same ended j p = refl
+changed_at-same (vacant b k) zero [] = refl
+changed_at-same (vacant b k) zero (n ∷ p) = refl
+changed_at-same (vacant b k) (suc j) p = ap (vacant b) (changed_at-same k j p)
+changed_at-same (taken b s a k) zero [] = refl
+changed_at-same (taken b s a k) zero (zero ∷ p) = refl
+changed_at-same (taken b s a k) zero (suc j ∷ p) = ap (λ x. taken b s x k) (changed_at-same a j p)
+changed_at-same (taken b s a k) (suc j) p = ap (taken b s a) (changed_at-same k j p)
+
+pub changed_at-twice : (f g : Place → Place) (k : Ports) (j : ℕ) (p : List ℕ) → changed_at f (changed_at g k j p) j p ≡ changed_at (λ x. f (g x)) k j p
+unfolding changed_at
+changed_at-twice f g ended j p = refl
+changed_at-twice f g (vacant b k) zero [] = changed_at-head f (g (empty b)) k []
+changed_at-twice f g (vacant b k) zero (n ∷ p) = refl
+changed_at-twice f g (vacant b k) (suc j) p = ap (vacant b) (changed_at-twice f g k j p)
+changed_at-twice f g (taken b s a k) zero [] = changed_at-head f (g (full b s a)) k []
+changed_at-twice f g (taken b s a k) zero (zero ∷ p) = refl
+changed_at-twice f g (taken b s a k) zero (suc j ∷ p) = ap (λ x. taken b s x k) (changed_at-twice f g a j p)
+changed_at-twice f g (taken b s a k) (suc j) p = ap (taken b s a) (changed_at-twice f g k j p)
+
 pub plugged_at-head : (q : Place) (k : Ports) (p : List ℕ) → plugged_at (before q k) 0 p ≡ plugged_in q p
 unfolding plugged_at
 plugged_at-head (empty b) k p = refl

@@ -8,11 +8,11 @@ use Rattle.usb_device.specs.declared.holders.Holder.{Holder}
 use Rattle.usb_device.specs.declared.holders.Holder.TheVariants.{Nobody, One, Several}
 use Rattle.usb_device.specs.Tree.{Ports, ended, vacant, taken, Plugged, before}
 use Rattle.usb_device.specs.Places.{standing, ports_kept}
-use Rattle.usb_device.specs.Delivery.{held, is_twice}
-use Rattle.usb_device.specs.Holders.{AreBytes, path_below, reached, reached_in, all_reached, paths_at, holder_among, IsIndex, AreNobody, is_known, joined, noted, meets_again}
+use Rattle.usb_device.specs.Delivery.{held, held_in, is_twice}
+use Rattle.usb_device.specs.Holders.{AreBytes, path_below, reached, reached_in, all_reached, paths_at, holder_among, IsIndex, AreNobody, is_known, joined, noted, meets_again, released}
 use Rattle.usb_device.specs.declared.holders.Holders.{Holders}
 use Rattle.usb_device.specs.HolderIndex.{IsIndexOf}
-use Rattle.usb_device.proofs.MarkedAddresses.{meets, met_none_of, bytes-before, bytes-none}
+use Rattle.usb_device.proofs.MarkedAddresses.{or_assoc, held-before, meets, met_none_of, bytes-before, bytes-none}
 
 abbrev Way : Type 0
 Way = Option (ArrayVec ℕ)
@@ -21,10 +21,6 @@ abbrev Reached : Type 0
 Reached = List (ℕ × Way)
 
 -- ---- along a list
-
-or_assoc : (a b c : Bool) → ((a || b) || c) ≡ (a || (b || c))
-or_assoc true b c = refl
-or_assoc false b c = refl
 
 -- the places with one device more
 abbrev with_one : ℕ × Way → List Holder → List Holder
@@ -40,7 +36,7 @@ met-append (x ∷ xs) ys h =
     ap (λ b. is_known (slice_index_or h x.0 Nobody) || b) (met-append xs ys (with_one x h))
     ∙ sym (or_assoc (is_known (slice_index_or h x.0 Nobody)) (meets_again xs (with_one x h)) (meets_again ys (noted xs (with_one x h))))
 
-length-put : (h : List Holder) (i : ℕ) (x : Holder) → length (slice_set h i x) ≡ length h
+pub length-put : (h : List Holder) (i : ℕ) (x : Holder) → length (slice_set h i x) ≡ length h
 length-put [] i x = refl
 length-put (y ∷ h) zero x = refl
 length-put (y ∷ h) (suc i) x = ap suc (length-put h i x)
@@ -79,32 +75,47 @@ met-none w n (p ∷ ps) h e = absurd (omega (arith, e))
 
 pub ruleset noting = (length-noted, noted-before, met-before, noted-none, met-none, bytes-before, bytes-none)
 
+-- ---- the same, taken out
+
+pub length-released : (ns : List ℕ) (h : List Holder) → length (released ns h) ≡ length h
+length-released [] h = refl
+length-released (n ∷ ns) h = length-released ns (slice_set h n Nobody) ∙ length-put h n Nobody
+
+released-append : (ms ns : List ℕ) (h : List Holder) → released (ms ++ ns) h ≡ released ns (released ms h)
+released-append [] ns h = refl
+released-append (m ∷ ms) ns h = released-append ms ns (slice_set h m Nobody)
+
+pub released-before : (b : PortState) (d : Option Plugged) (k : Ports) (h : List Holder) → released (held (before (standing b d) k)) h ≡ released (held k) (released (held_in b d) h)
+released-before b d k h = ap (λ ns. released ns h) (held-before b d k) ∙ released-append (held_in b d) (held k) h
+
+pub released-none : (ps : List Kept) (h : List Holder) → length ps ≡ 0 → released (held (ports_kept ps)) h ≡ h
+unfolding held
+released-none [] h e = refl
+released-none (p ∷ ps) h e = absurd (omega (arith, e))
+
+pub ruleset releasing = (length-released, released-before, released-none)
+
 -- ---- what stands at one address
 
-abbrev all_joined : Holder → List Way → Holder
+abbrev pub all_joined : Holder → List Way → Holder
 all_joined x [] = x
 all_joined x (w ∷ ws) = all_joined (joined x w) ws
 
-pub put_there : (h : List Holder) (i n : ℕ) (x : Holder) → i < length h → slice_index_or (slice_set h i x) n Nobody ≡ (if i == n then x else slice_index_or h n Nobody)
+pub put_there : (h : List Holder) (i n : ℕ) (x : Holder) → n < length h → slice_index_or (slice_set h i x) n Nobody ≡ (if i == n then x else slice_index_or h n Nobody)
 put_there [] i n x e = absurd (omega (arith, e))
 put_there (y ∷ h) zero zero x e = refl
 put_there (y ∷ h) zero (suc n) x e = let f : (0 == suc n) ≡ false = grind (arith, nat_tests) in rw f refl
 put_there (y ∷ h) (suc i) zero x e = let f : (suc i == 0) ≡ false = grind (arith, nat_tests) in rw f refl
 put_there (y ∷ h) (suc i) (suc n) x e = let f : (suc i == suc n) ≡ (i == n) = grind (arith, nat_tests) in rw f (put_there h i n x (omega (arith, e)))
 
--- each address is below a bound
-abbrev AreBelow : ℕ → Reached → Type 0
-AreBelow m [] = Unit {0}
-AreBelow m (x ∷ xs) = (x.0 < m) × AreBelow m xs
-
 is_same : (m n : ℕ) → (m == n) ≡ true → m ≡ n
 is_same m n e = grind (arith, nat_tests, e)
 
-noted_at : (xs : Reached) (h : List Holder) (n : ℕ) → AreBelow (length h) xs → slice_index_or (noted xs h) n Nobody ≡ all_joined (slice_index_or h n Nobody) (paths_at n xs)
+pub noted_at : (xs : Reached) (h : List Holder) (n : ℕ) → n < length h → slice_index_or (noted xs h) n Nobody ≡ all_joined (slice_index_or h n Nobody) (paths_at n xs)
 noted_at [] h n small = refl
 noted_at (x ∷ xs) h n small =
-    noted_at xs (with_one x h) n (subst (λ m. AreBelow m xs) (sym (length-put h x.0 (joined (slice_index_or h x.0 Nobody) x.1))) small.1)
-    ∙ ap (λ y. all_joined y (paths_at n xs)) (put_there h x.0 n (joined (slice_index_or h x.0 Nobody) x.1) small.0)
+    noted_at xs (with_one x h) n (subst (λ m. n < m) (sym (length-put h x.0 (joined (slice_index_or h x.0 Nobody) x.1))) small)
+    ∙ ap (λ y. all_joined y (paths_at n xs)) (put_there h x.0 n (joined (slice_index_or h x.0 Nobody) x.1) small)
     ∙ split (x.0 == n) refl
   where
     split : (b : Bool) → (x.0 == n) ≡ b
@@ -117,7 +128,7 @@ several_stay : (ws : List Way) → all_joined Several ws ≡ Several
 several_stay [] = refl
 several_stay (w ∷ ws) = several_stay ws
 
-all_among : (ws : List Way) → all_joined Nobody ws ≡ holder_among ws
+pub all_among : (ws : List Way) → all_joined Nobody ws ≡ holder_among ws
 all_among [] = refl
 all_among (None ∷ []) = refl
 all_among (Some p ∷ []) = refl
@@ -130,7 +141,7 @@ abbrev pub addresses : Reached → List ℕ
 addresses [] = []
 addresses (x ∷ xs) = x.0 ∷ addresses xs
 
-addresses-append : (xs ys : Reached) → addresses (xs ++ ys) ≡ addresses xs ++ addresses ys
+pub addresses-append : (xs ys : Reached) → addresses (xs ++ ys) ≡ addresses xs ++ addresses ys
 addresses-append [] ys = refl
 addresses-append (x ∷ xs) ys = ap (λ l. x.0 ∷ l) (addresses-append xs ys)
 
@@ -148,16 +159,12 @@ held-reached w n (taken b s a k) = split b.enable (held-reached (path_below w n)
         (addresses-append (reached (path_below w n) 1 a) (reached w (n + 1) k) ∙ ap (λ l. l ++ addresses (reached w (n + 1) k)) below ∙ ap (λ l. held a ++ l) behind)
     split false below behind = behind
 
-below_bytes : (xs : Reached) → AreBytes (addresses xs) → AreBelow 256 xs
-below_bytes [] b = tt
-below_bytes (x ∷ xs) b = (b.0, below_bytes xs b.1)
-
 -- ---- which address is met again
 
-abbrev marks_of : List Holder → List Bool
+abbrev pub marks_of : List Holder → List Bool
 marks_of h = map is_known h
 
-known_at : (h : List Holder) (n : ℕ) → slice_index_or (marks_of h) n false ≡ is_known (slice_index_or h n Nobody)
+pub known_at : (h : List Holder) (n : ℕ) → slice_index_or (marks_of h) n false ≡ is_known (slice_index_or h n Nobody)
 known_at [] n = refl
 known_at (x ∷ h) zero = refl
 known_at (x ∷ h) (suc n) = known_at h n
@@ -173,14 +180,14 @@ joined_known Nobody (Some p) = refl
 joined_known (One p) w = refl
 joined_known Several w = refl
 
-met_marks : (xs : Reached) (h : List Holder) → meets_again xs h ≡ meets (addresses xs) (marks_of h)
+pub met_marks : (xs : Reached) (h : List Holder) → meets_again xs h ≡ meets (addresses xs) (marks_of h)
 met_marks [] h = refl
 met_marks (x ∷ xs) h =
     ap (λ b. b || meets_again xs (with_one x h)) (sym (known_at h x.0))
     ∙ ap (λ b. slice_index_or (marks_of h) x.0 false || b)
     (met_marks xs (with_one x h) ∙ ap (λ m. meets (addresses xs) m) (known_put h x.0 (joined (slice_index_or h x.0 Nobody) x.1) (joined_known (slice_index_or h x.0 Nobody) x.1)))
 
-length-marks : (h : List Holder) → length (marks_of h) ≡ length h
+pub length-marks : (h : List Holder) → length (marks_of h) ≡ length h
 length-marks [] = refl
 length-marks (x ∷ h) = ap suc (length-marks h)
 
@@ -190,7 +197,7 @@ module _ (k : Ports) (h : List Holder) (all : length h ≡ 256) (none : AreNobod
   pub index_is : (m : List Holder) → m ≡ noted (all_reached k) h → IsIndex m k
   index_is m e n small =
       ap (λ l. slice_index_or l n Nobody) e
-      ∙ noted_at (all_reached k) h n (subst (λ x. AreBelow x (all_reached k)) (sym all) (below_bytes (all_reached k) (subst AreBytes (sym (held-reached _ 1 k)) bytes)))
+      ∙ noted_at (all_reached k) h n (subst (λ m. n < m) (sym all) small)
       ∙ ap (λ x. all_joined x (paths_at n (all_reached k))) (none n)
       ∙ all_among (paths_at n (all_reached k))
 

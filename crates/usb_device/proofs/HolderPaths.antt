@@ -9,6 +9,7 @@ use Rattle.usb_device.specs.Rows.{State}
 use Rattle.usb_device.specs.Tree.{Ports, ended, vacant, taken, Place, empty, full, before, reach_at, state_at}
 use Rattle.usb_device.specs.Route.{holds_by, is_held_at}
 use Rattle.usb_device.specs.Holders.{path_below, reached, all_reached, paths_at, holder_among, holder_of}
+use Rattle.usb_device.proofs.NumberedPlaces.{reach_at-tail}
 
 abbrev Way : Type 0
 Way = Option (ArrayVec ℕ)
@@ -32,11 +33,6 @@ record HolderAmong (n first : ℕ) (k : Ports) (above path : List ℕ) : Type 0 
   rest : List ℕ
   joined : path ≡ above ++ (first + row) ∷ rest
   held : (reach_at k row rest && holds_by n (state_at k row rest)) ≡ true
-
-reach_at-tail : (q : Place) (k : Ports) (i : ℕ) (p : List ℕ) → reach_at (before q k) (suc i) p ≡ reach_at k i p
-unfolding reach_at
-reach_at-tail (empty b) k i p = refl
-reach_at-tail (full b s a) k i p = refl
 
 state_at-tail : (q : Place) (k : Ports) (i : ℕ) (p : List ℕ) → state_at (before q k) (suc i) p ≡ state_at k i p
 unfolding state_at

@@ -1,5 +1,5 @@
 -- Marks tell which addresses stand twice.
-use Rattle.std.proofs.Common.{◌≡◌, ◌<◌, ℕ, zero, suc, ◌==◌, ◌||◌, if◌then◌else◌, Bool, true, false, List, [], ◌∷◌, ◌++◌, Option, None, Some, length, slice_set, slice_index_or, refl, ap, ◌∙◌, arith}
+use Rattle.std.proofs.Common.{◌≡◌, ◌<◌, ℕ, zero, suc, ◌==◌, ◌||◌, if◌then◌else◌, Bool, true, false, List, [], ◌∷◌, ◌++◌, Option, None, Some, length, slice_set, slice_index_or, refl, ap, ap₂, sym, ◌∙◌, arith}
 use Rattle.std.proofs.lemmas.Bool.Decides.{nat_tests}
 use Rattle.usb_port.specs.PortState.{PortState}
 use Rattle.usb_device.specs.declared.ports.Place.{Place as Kept}
@@ -25,7 +25,7 @@ by_enable : (x : ℕ) (a k : List ℕ) (e : Bool) → (if e then x ∷ (a ++ k) 
 by_enable x a k true = refl
 by_enable x a k false = refl
 
-held-before : (b : PortState) (d : Option Plugged) (k : Ports) → held (before (standing b d) k) ≡ held_in b d ++ held k
+pub held-before : (b : PortState) (d : Option Plugged) (k : Ports) → held (before (standing b d) k) ≡ held_in b d ++ held k
 unfolding held
 held-before b None k = refl
 held-before b (Some t) k = by_enable t.own.registers.address (held t.ports) (held k) b.enable
@@ -44,8 +44,40 @@ bytes-none (p ∷ ps) h = absurd (omega (arith, h))
 
 -- ---- what the marks tell
 
+pub or_assoc : (a b c : Bool) → ((a || b) || c) ≡ (a || (b || c))
+or_assoc true b c = refl
+or_assoc false b c = refl
+
+second_first : (a b c : Bool) → (a || (b || c)) ≡ (b || (a || c))
+second_first true true c = refl
+second_first true false c = refl
+second_first false true c = refl
+second_first false false c = refl
+
+first_and_rest : (a b c d e : Bool) → ((a || b) || (c || (d || e))) ≡ ((b || c) || ((a || d) || e))
+first_and_rest true true c d e = refl
+first_and_rest true false true d e = refl
+first_and_rest true false false d e = refl
+first_and_rest false true c d e = refl
+first_and_rest false false true d e = refl
+first_and_rest false false false d e = refl
+
+first_behind : (a b c d e : Bool) → ((a || b) || (c || (d || e))) ≡ ((a || c) || (d || (b || e)))
+first_behind true b c d e = refl
+first_behind false true true d e = refl
+first_behind false true false true e = refl
+first_behind false true false false e = refl
+first_behind false false c d e = refl
+
+pub neither : (a b : Bool) → (a || b) ≡ false → (a ≡ false) × (b ≡ false)
+neither true b h = cc
+neither false b h = (refl, h)
+
+same_numbers : (m n : ℕ) → (m == n) ≡ true → m ≡ n
+same_numbers m n e = grind (arith, nat_tests, e)
+
 -- some number stands in both lists
-abbrev share : List ℕ → List ℕ → Bool
+abbrev pub share : List ℕ → List ℕ → Bool
 share [] ys = false
 share (x ∷ xs) ys = has x ys || share xs ys
 
@@ -79,18 +111,18 @@ index-set (b ∷ m) zero (suc n) h = let e : (suc n == 0) ≡ false = grind (ari
 index-set (b ∷ m) (suc i) zero h = let e : (0 == suc i) ≡ false = grind (arith, nat_tests) in rw e refl
 index-set (b ∷ m) (suc i) (suc n) h = let e : (suc n == suc i) ≡ (n == i) = grind (arith, nat_tests) in rw e (index-set m i n (omega (arith, h)))
 
--- the marks are those of the numbers met before
-abbrev Marks : List Bool → List ℕ → Type 0
-Marks m ys = (n : ℕ) → slice_index_or m n false ≡ has n ys
+-- the marks are those of the numbers met before, as far as these are bytes
+abbrev pub Marks : List Bool → List ℕ → Type 0
+Marks m ys = (n : ℕ) → n < 256 → slice_index_or m n false ≡ has n ys
 
-meets-is : (xs ys : List ℕ) (m : List Bool) → length m ≡ 256 → AreBytes xs → Marks m ys → meets xs m ≡ (share xs ys || is_twice xs)
+pub meets-is : (xs ys : List ℕ) (m : List Bool) → length m ≡ 256 → AreBytes xs → Marks m ys → meets xs m ≡ (share xs ys || is_twice xs)
 unfolding is_twice
 meets-is [] ys m len small marks = refl
 meets-is (x ∷ xs) ys m len small marks =
     let within : x < length m = omega (arith, small.0, len) in
     ap (λ b. slice_index_or m x false || b)
-    (meets-is xs (x ∷ ys) (slice_set m x true) (length-set m x true ∙ len) small.1 (λ n. index-set m x n within ∙ ap (λ b. (n == x) || b) (marks n)))
-    ∙ ap (λ b. b || (share xs (x ∷ ys) || is_twice xs)) (marks x)
+    (meets-is xs (x ∷ ys) (slice_set m x true) (length-set m x true ∙ len) small.1 (λ n below. index-set m x n within ∙ ap (λ b. (n == x) || b) (marks n below)))
+    ∙ ap (λ b. b || (share xs (x ∷ ys) || is_twice xs)) (marks x small.0)
     ∙ ap (λ b. has x ys || (b || is_twice xs)) (share-more xs ys x)
     ∙ rest_of_it (has x ys) (share xs ys) (has x xs) (is_twice xs)
 
@@ -100,4 +132,37 @@ share-none (x ∷ xs) = share-none xs
 
 -- where no mark is set
 pub met_none_of : (xs : List ℕ) (m : List Bool) → length m ≡ 256 → AreBytes xs → ((n : ℕ) → slice_index_or m n false ≡ false) → meets xs m ≡ is_twice xs
-met_none_of xs m len small none = meets-is xs [] m len small none ∙ ap (λ b. b || is_twice xs) (share-none xs)
+met_none_of xs m len small none = meets-is xs [] m len small (λ n below. none n) ∙ ap (λ b. b || is_twice xs) (share-none xs)
+
+-- ---- a list with another one in its middle
+
+has-append : (n : ℕ) (xs ys : List ℕ) → has n (xs ++ ys) ≡ (has n xs || has n ys)
+has-append n [] ys = refl
+has-append n (x ∷ xs) ys = ap (λ b. (n == x) || b) (has-append n xs ys) ∙ sym (or_assoc (n == x) (has n xs) (has n ys))
+
+pub has-middle : (n : ℕ) (xs ys zs : List ℕ) → has n (xs ++ (ys ++ zs)) ≡ (has n ys || has n (xs ++ zs))
+has-middle n [] ys zs = has-append n ys zs
+has-middle n (x ∷ xs) ys zs = ap (λ b. (n == x) || b) (has-middle n xs ys zs) ∙ second_first (n == x) (has n ys) (has n (xs ++ zs))
+
+twice-append : (xs ys : List ℕ) → is_twice (xs ++ ys) ≡ (share xs ys || (is_twice xs || is_twice ys))
+unfolding is_twice
+twice-append [] ys = refl
+twice-append (x ∷ xs) ys =
+    ap₂ (λ b c. b || c) (has-append x xs ys) (twice-append xs ys) ∙ first_and_rest (has x xs) (has x ys) (share xs ys) (is_twice xs) (is_twice ys)
+
+pub twice-middle : (xs ys zs : List ℕ) → is_twice (xs ++ (ys ++ zs)) ≡ (share ys (xs ++ zs) || (is_twice ys || is_twice (xs ++ zs)))
+unfolding is_twice
+twice-middle [] ys zs = twice-append ys zs
+twice-middle (x ∷ xs) ys zs =
+    ap₂ (λ b c. b || c) (has-middle x xs ys zs) (twice-middle xs ys zs)
+    ∙ first_behind (has x ys) (has x (xs ++ zs)) (share ys (xs ++ zs)) (is_twice ys) (is_twice (xs ++ zs))
+    ∙ ap (λ b. b || (is_twice ys || (has x (xs ++ zs) || is_twice (xs ++ zs)))) (sym (share-more ys (xs ++ zs) x))
+
+-- a number of a list that shares none with another one is not in that one
+pub unshared : (n : ℕ) (xs ys : List ℕ) → share xs ys ≡ false → has n xs ≡ true → has n ys ≡ false
+unshared n [] ys e h = cc
+unshared n (x ∷ xs) ys e h = split (n == x) refl (unshared n xs ys (neither (has x ys) (share xs ys) e).1) h
+  where
+    split : (b : Bool) → (n == x) ≡ b → (has n xs ≡ true → has n ys ≡ false) → (b || has n xs) ≡ true → has n ys ≡ false
+    split true is behind h = ap (λ m. has m ys) (same_numbers n x is) ∙ (neither (has x ys) (share xs ys) e).0
+    split false is behind h = behind h

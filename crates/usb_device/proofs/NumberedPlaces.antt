@@ -1,9 +1,10 @@
 -- The place of a number, in a row of ports.
-use Rattle.std.proofs.Common.{◌≡◌, ℕ, zero, suc, ◌<◌, ◌≤◌, ◌-◌, List, [], ◌∷◌, None, length, slice_get, slice_index_or, slice_set, Some, refl, ap, sym, ◌∙◌, arith}
+use Rattle.std.proofs.Common.{◌≡◌, ℕ, zero, suc, ◌<◌, ◌≤◌, ◌-◌, ◌&&◌, if◌then◌else◌, Bool, true, false, List, [], ◌∷◌, Option, None, length, slice_get, slice_index_or, slice_set, Some, refl, ap, ap₂, sym, ◌∙◌, arith}
 use Rattle.usb_device.specs.declared.ports.Place.{Place as Kept}
-use Rattle.usb_device.specs.Tree.{Place, before, changed_at, changed_in, changed, plugged_at, plugged_in, device_there, row_of}
+use Rattle.usb_device.specs.Tree.{Ports, Plugged, Place, empty, full, before, changed_at, changed_in, changed, plugged_at, plugged_in, device_there, row_of, reach_at, reach}
+use Rattle.usb_device.specs.Holders.{reach_in, reached_below, reached_there}
 use Rattle.usb_device.specs.Places.{stood, ports_kept}
-use Rattle.usb_device.proofs.FirstPlaces.{changed-path, changed_at-head, changed_at-tail, device-path, plugged_at-head, plugged_at-tail}
+use Rattle.usb_device.proofs.FirstPlaces.{one_less, changed-path, changed_at-head, changed_at-tail, device-path, plugged_at-head, plugged_at-tail}
 use Rattle.usb_device.proofs.Rows.{row_of-before}
 use Rattle.usb_device.proofs.Deliveries.{both-none}
 
@@ -60,4 +61,45 @@ device-number ps n p x pos h e = device-path (ports_kept ps) n p pos ∙ plugged
 pub device-beyond : (ps : List Kept) (n : ℕ) (p : List ℕ) → (n ≡ 0 → ⊥) → length ps < n → device_there (ports_kept ps) (n ∷ p) ≡ None
 device-beyond ps n p pos h = device-path (ports_kept ps) n p pos ∙ plugged_at-out ps (n - 1) p (omega (arith, h))
 
+-- ---- where each port on the way is enabled
+
+reach_at-head : (q : Place) (k : Ports) (p : List ℕ) → reach_at (before q k) 0 p ≡ reach_in q p
+unfolding reach_at
+reach_at-head (empty b) k p = refl
+reach_at-head (full b s a) k [] = refl
+reach_at-head (full b s a) k (zero ∷ p) = no_way b.enable
+  where
+    no_way : (e : Bool) → false ≡ (e && false)
+    no_way true = refl
+    no_way false = refl
+reach_at-head (full b s a) k (suc j ∷ p) = refl
+
+pub reach_at-tail : (q : Place) (k : Ports) (i : ℕ) (p : List ℕ) → reach_at (before q k) (suc i) p ≡ reach_at k i p
+unfolding reach_at
+reach_at-tail (empty b) k i p = refl
+reach_at-tail (full b s a) k i p = refl
+
+reach_at-index : (ps : List Kept) (i : ℕ) (p : List ℕ) (x : Kept) → i < length ps → x ≡ slice_index_or ps i x → reach_at (ports_kept ps) i p ≡ reach_in (stood x) p
+reach_at-index [] i p x h e = absurd (omega (arith, h))
+reach_at-index (q ∷ ps) zero p x h e = reach_at-head (stood q) (ports_kept ps) p ∙ sym (ap (λ (z : Kept). reach_in (stood z) p) e)
+reach_at-index (q ∷ ps) (suc i) p x h e = reach_at-tail (stood q) (ports_kept ps) i p ∙ reach_at-index ps i p x (omega (arith, h)) e
+
+abbrev no_device : Option Plugged
+no_device = None
+
+none_if : (b : Bool) → (if b then no_device else no_device) ≡ no_device
+none_if true = refl
+none_if false = refl
+
+pub reached-number : (ps : List Kept) (n : ℕ) (p : List ℕ) (x : Kept) → (n ≡ 0 → ⊥) → n ≤ length ps → x ≡ slice_index_or ps (n - 1) x → reached_there (ports_kept ps) (n ∷ p) ≡ reached_below (stood x) p
+reached-number ps n p x pos h e =
+    ap₂ (λ (r : Bool) (t : Option Plugged). if r then t else None)
+    (ap (λ m. reach (ports_kept ps) (m ∷ p)) (one_less n pos) ∙ reach_at-index ps (n - 1) p x (omega (arith, pos, h)) e)
+    (device-number ps n p x pos h e)
+
+pub reached-beyond : (ps : List Kept) (n : ℕ) (p : List ℕ) → (n ≡ 0 → ⊥) → length ps < n → reached_there (ports_kept ps) (n ∷ p) ≡ None
+reached-beyond ps n p pos h = ap (λ t. if reach (ports_kept ps) (n ∷ p) then t else None) (device-beyond ps n p pos h) ∙ none_if (reach (ports_kept ps) (n ∷ p))
+
 pub ruleset routing = (both-none, changed-number, changed-beyond, device-number, device-beyond)
+
+pub ruleset reaching = (reached-number, reached-beyond)

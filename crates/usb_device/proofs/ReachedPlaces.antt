@@ -1,15 +1,16 @@
 -- What changes at one place, and keeps which devices are reached.
-use Rattle.std.proofs.Common.{◌≡◌, ℕ, zero, suc, ◌+◌, ◌||◌, if◌then◌else◌, Bool, true, false, List, [], ◌∷◌, ◌++◌, Option, Some, append-nil, refl, ap, sym, ◌∙◌}
+use Rattle.std.proofs.Common.{◌≡◌, ℕ, zero, suc, ◌+◌, ◌||◌, if◌then◌else◌, Bool, true, false, List, [], ◌∷◌, ◌++◌, Option, None, Some, append-nil, refl, ap, sym, ◌∙◌}
 use Rattle.arrayvec.specs.ArrayVec.{ArrayVec}
 use Rattle.usb_port.specs.PortState.{PortState, is_attached, powered_on}
 use Rattle.usb_port.specs.declared.call.PortCall.{PortCall}
 use Rattle.usb_port.specs.declared.call.PortCall.TheVariants.{SetPower, SetReset, ClearEnable, ClearPower, ClearConnectionChange, ClearEnableChange, ClearResetChange}
-use Rattle.usb_device.specs.Tree.{Ports, ended, vacant, taken, Place, empty, full, before, acted, called, changed, changed_at, place_at}
+use Rattle.usb_device.specs.Tree.{Ports, ended, vacant, taken, Plugged, Place, empty, full, before, acted, called, put, changed, changed_at, place_at}
 use Rattle.usb_device.specs.declared.effect.Effect.{Effect}
 use Rattle.usb_device.specs.declared.effect.Effect.TheVariants.{Leaves, Calls, PortsOff}
 use Rattle.usb_device.specs.declared.holders.Holders.{Holders}
-use Rattle.usb_device.specs.HolderIndex.{IsIndexOf}
+use Rattle.usb_device.specs.HolderIndex.{IsIndexOf, IsIndexWithout}
 use Rattle.usb_device.specs.Holders.{path_below, reached, all_reached, ReachedSame, keeps_enable, keeps_reached}
+use Rattle.usb_device.proofs.FirstPlaces.{changed_at-same, changed_at-twice}
 use Rattle.usb_device.proofs.HolderIndexes.{same_index}
 
 by_enable : (x : ℕ × Option (ArrayVec ℕ)) (a k : List (ℕ × Option (ArrayVec ℕ))) (e : Bool) → (if e then x ∷ (a ++ k) else k) ≡ (if e then x ∷ (a ++ []) else []) ++ k
@@ -24,18 +25,23 @@ reached-head w n (full b s a) k = by_enable (s.registers.address, path_below w n
 same_head : (w : Option (ArrayVec ℕ)) (n : ℕ) (q r : Place) (k : Ports) → ReachedSame q r → reached w n (before q k) ≡ reached w n (before r k)
 same_head w n q r k h = reached-head w n q k ∙ ap (λ l. l ++ reached w (n + 1) k) (h w n) ∙ sym (reached-head w n r k)
 
-pub reached-changed : (f : Place → Place) (w : Option (ArrayVec ℕ)) (n : ℕ) (k : Ports) (j : ℕ) (p : List ℕ) → ((q : Place) → place_at k j p ≡ Some q → ReachedSame (f q) q) → reached w n (changed_at f k j p) ≡ reached w n k
+-- two changes of one place
+pub reached-both : (f g : Place → Place) (w : Option (ArrayVec ℕ)) (n : ℕ) (k : Ports) (j : ℕ) (p : List ℕ) → ((q : Place) → place_at k j p ≡ Some q → ReachedSame (f q) (g q))
+    → reached w n (changed_at f k j p) ≡ reached w n (changed_at g k j p)
 unfolding reached place_at changed_at
-reached-changed f w n ended j p h = refl
-reached-changed f w n (vacant b k) zero [] h = same_head w n (f (empty b)) (empty b) k (h (empty b) refl)
-reached-changed f w n (vacant b k) zero (m ∷ p) h = refl
-reached-changed f w n (vacant b k) (suc j) p h = reached-changed f w (n + 1) k j p h
-reached-changed f w n (taken b s a k) zero [] h = same_head w n (f (full b s a)) (full b s a) k (h (full b s a) refl)
-reached-changed f w n (taken b s a k) zero (zero ∷ p) h = refl
-reached-changed f w n (taken b s a k) zero (suc j ∷ p) h =
-    ap (λ y. if b.enable then (s.registers.address, path_below w n) ∷ (y ++ reached w (n + 1) k) else reached w (n + 1) k) (reached-changed f (path_below w n) 1 a j p h)
-reached-changed f w n (taken b s a k) (suc j) p h =
-    ap (λ y. if b.enable then (s.registers.address, path_below w n) ∷ (reached (path_below w n) 1 a ++ y) else y) (reached-changed f w (n + 1) k j p h)
+reached-both f g w n ended j p h = refl
+reached-both f g w n (vacant b k) zero [] h = same_head w n (f (empty b)) (g (empty b)) k (h (empty b) refl)
+reached-both f g w n (vacant b k) zero (m ∷ p) h = refl
+reached-both f g w n (vacant b k) (suc j) p h = reached-both f g w (n + 1) k j p h
+reached-both f g w n (taken b s a k) zero [] h = same_head w n (f (full b s a)) (g (full b s a)) k (h (full b s a) refl)
+reached-both f g w n (taken b s a k) zero (zero ∷ p) h = refl
+reached-both f g w n (taken b s a k) zero (suc j ∷ p) h =
+    ap (λ y. if b.enable then (s.registers.address, path_below w n) ∷ (y ++ reached w (n + 1) k) else reached w (n + 1) k) (reached-both f g (path_below w n) 1 a j p h)
+reached-both f g w n (taken b s a k) (suc j) p h =
+    ap (λ y. if b.enable then (s.registers.address, path_below w n) ∷ (reached (path_below w n) 1 a ++ y) else y) (reached-both f g w (n + 1) k j p h)
+
+pub reached-changed : (f : Place → Place) (w : Option (ArrayVec ℕ)) (n : ℕ) (k : Ports) (j : ℕ) (p : List ℕ) → ((q : Place) → place_at k j p ≡ Some q → ReachedSame (f q) q) → reached w n (changed_at f k j p) ≡ reached w n k
+reached-changed f w n k j p h = reached-both f (λ x. x) w n k j p h ∙ ap (reached w n) (changed_at-same k j p)
 
 -- ---- calls at ports that leave each port enabled or not, and reset none
 
@@ -70,3 +76,26 @@ reached-called c k (suc i) h = reached-changed (called c) _ 1 k i [] (λ q at. c
 
 pub index_called : (h : Holders) (c : PortCall) (k m : Ports) (port : ℕ) → keeps_enable c ≡ true → m ≡ changed (called c) k (port ∷ []) → IsIndexOf h k → IsIndexOf h m
 index_called h c k m port e is x = same_index h k m (ap all_reached is ∙ reached-called c k port e) x
+
+-- ---- the index without what stands at a path
+
+without-changed : (f : Place → Place) (k : Ports) (p : List ℕ) → all_reached (changed (put None) (changed f k p) p) ≡ all_reached (changed (put None) k p)
+unfolding reached
+without-changed f k [] = refl
+without-changed f k (zero ∷ p) = refl
+without-changed f k (suc i ∷ p) = ap all_reached (changed_at-twice (put None) f k i p) ∙ reached-both (λ x. put None (f x)) (put None) _ 1 k i p (λ q at w n. refl)
+
+-- is that of the tree with whatever stands there then
+pub index_around : (h : Holders) (f : Place → Place) (k m : Ports) (p : List ℕ) → m ≡ changed f k p → IsIndexWithout h k p → IsIndexWithout h m p
+index_around h f k m p e is =
+    same_index h (changed (put None) k p) (changed (put None) m p) (ap (λ x. all_reached (changed (put None) x p)) e ∙ without-changed f k p) is
+
+plugged-same : (t : Plugged) (k : Ports) (p : List ℕ) → all_reached (changed (put (Some t)) k p) ≡ all_reached (changed (put None) k p)
+unfolding reached
+plugged-same t k [] = refl
+plugged-same t k (zero ∷ p) = refl
+plugged-same t k (suc i ∷ p) = reached-both (put (Some t)) (put None) _ 1 k i p (λ q at w n. refl)
+
+-- where a device is plugged, its port is not enabled
+pub index_plugged : (h : Holders) (t : Plugged) (k m : Ports) (p : List ℕ) → m ≡ changed (put (Some t)) k p → IsIndexWithout h k p → IsIndexOf h m
+index_plugged h t k m p e is = same_index h (changed (put None) k p) m (ap all_reached e ∙ plugged-same t k p) is

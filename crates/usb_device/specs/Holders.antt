@@ -1,5 +1,5 @@
 -- Which device holds which address, among those that packets reach.
-use Rattle.std.specs.Prelude.{◌≡◌, ℕ, ◌+◌, ◌<◌, ◌==◌, ◌||◌, if◌then◌else◌, Bool, true, false, List, [], ◌∷◌, ◌++◌, length, nat_le, slice_index_or, slice_set, Option, None, Some, ⊤}
+use Rattle.std.specs.Prelude.{◌≡◌, ℕ, ◌+◌, ◌<◌, ◌==◌, ◌||◌, ◌&&◌, if◌then◌else◌, Bool, true, false, List, [], ◌∷◌, ◌++◌, length, nat_le, slice_index_or, slice_set, fold, Option, None, Some, ⊤}
 use Rattle.arrayvec.specs.ArrayVec.{ArrayVec}
 use Rattle.usb_device.specs.declared.holders.Holder.{Holder}
 use Rattle.usb_device.specs.declared.holders.Holder.TheVariants.{Nobody, One, Several}
@@ -8,7 +8,8 @@ use Rattle.usb_port.specs.declared.call.PortCall.{PortCall}
 use Rattle.usb_port.specs.declared.call.PortCall.TheVariants.{SetPower, SetReset, ClearEnable, ClearPower, ClearConnectionChange, ClearEnableChange, ClearResetChange}
 use Rattle.usb_device.specs.declared.effect.Effect.{Effect}
 use Rattle.usb_device.specs.declared.effect.Effect.TheVariants.{Leaves, Calls, PortsOff}
-use Rattle.usb_device.specs.Tree.{Ports, ended, vacant, taken, Plugged, Place, before}
+use Rattle.usb_device.specs.Tree.{Ports, ended, vacant, taken, Plugged, Place, empty, full, before, reach, plugged_in, device_there}
+use Rattle.usb_device.specs.Delivery.{held}
 
 -- the path of a port on a row below another path, where it is at most eight numbers long
 abbrev pub path_below : Option (ArrayVec ℕ) → ℕ → Option (ArrayVec ℕ)
@@ -22,10 +23,14 @@ reached above n (vacant b k) = reached above (n + 1) k
 reached above n (taken b s a k) =
     if b.enable then (s.registers.address, path_below above n) ∷ (reached (path_below above n) 1 a ++ reached above (n + 1) k) else reached above (n + 1) k
 
+-- a device by its path, and those that packets reach below it
+abbrev pub reached_whole : Option (ArrayVec ℕ) → Plugged → List (ℕ × Option (ArrayVec ℕ))
+reached_whole path t = (t.own.registers.address, path) ∷ reached path 1 t.ports
+
 -- the same on a port of that number and below it
 abbrev pub reached_in : Option (ArrayVec ℕ) → ℕ → PortState → Option Plugged → List (ℕ × Option (ArrayVec ℕ))
 reached_in above n b None = []
-reached_in above n b (Some t) = if b.enable then (t.own.registers.address, path_below above n) ∷ reached (path_below above n) 1 t.ports else []
+reached_in above n b (Some t) = if b.enable then reached_whole (path_below above n) t else []
 
 -- the same devices at two places and below them, wherever these stand
 abbrev pub ReachedSame : Place → Place → Type 0
@@ -33,6 +38,31 @@ ReachedSame q r = (above : Option (ArrayVec ℕ)) (n : ℕ) → reached above n 
 
 abbrev pub all_reached : Ports → List (ℕ × Option (ArrayVec ℕ))
 all_reached k = reached (Some (record { items = [] })) 1 k
+
+-- the device at a path, where packets reach it
+abbrev pub reached_there : Ports → List ℕ → Option Plugged
+reached_there k p = if reach k p then device_there k p else None
+
+-- the same from a place on, whose port has to be enabled too
+abbrev pub reach_in : Place → List ℕ → Bool
+reach_in (empty b) p = false
+reach_in (full b s a) [] = b.enable
+reach_in (full b s a) (n ∷ p) = b.enable && reach a (n ∷ p)
+
+abbrev pub reached_below : Place → List ℕ → Option Plugged
+reached_below q p = if reach_in q p then plugged_in q p else None
+
+-- the path of these numbers below another path, where it is at most eight numbers long
+abbrev pub path_further : Option (ArrayVec ℕ) → List ℕ → Option (ArrayVec ℕ)
+path_further above p = fold path_below above p
+
+-- the devices that packets reach at a path and below it
+abbrev pub reached_from : Option (ArrayVec ℕ) → Option Plugged → List (ℕ × Option (ArrayVec ℕ))
+reached_from path None = []
+reached_from path (Some t) = reached_whole path t
+
+abbrev pub reached_at_path : Ports → List ℕ → List (ℕ × Option (ArrayVec ℕ))
+reached_at_path k p = reached_from (path_further (Some (record { items = [] })) p) (reached_there k p)
 
 -- the paths of those that hold an address
 abbrev pub paths_at : ℕ → List (ℕ × Option (ArrayVec ℕ)) → List (Option (ArrayVec ℕ))
@@ -98,3 +128,16 @@ noted (x ∷ xs) holders = noted xs (slice_set holders x.0 (joined (slice_index_
 abbrev pub meets_again : List (ℕ × Option (ArrayVec ℕ)) → List Holder → Bool
 meets_again [] holders = false
 meets_again (x ∷ xs) holders = is_known (slice_index_or holders x.0 Nobody) || meets_again xs (slice_set holders x.0 (joined (slice_index_or holders x.0 Nobody) x.1))
+
+-- How those at a path and below it are taken out of an index: nobody holds their addresses any more.
+
+abbrev pub held_whole : Plugged → List ℕ
+held_whole t = t.own.registers.address ∷ held t.ports
+
+abbrev pub held_from : Option Plugged → List ℕ
+held_from None = []
+held_from (Some t) = held_whole t
+
+abbrev pub released : List ℕ → List Holder → List Holder
+released [] holders = holders
+released (n ∷ ns) holders = released ns (slice_set holders n Nobody)

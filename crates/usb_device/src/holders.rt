@@ -1,9 +1,12 @@
 //! Which device holds which address, among those that packets reach.
-ghost use Rattle.std.specs.Prelude.{◌≡◌, ◌+◌, ◌<◌, ◌^◌, length, IfOk};
+ghost use Rattle.std.specs.Prelude.{◌≡◌, ◌+◌, ◌<◌, ◌^◌, length, [], None, Some, IfOk, IsTrue, false};
+ghost use Rattle.std.specs.Option.{option_copied};
+ghost use Rattle.usb_device.specs.Tree.{changed, put};
 ghost use Rattle.usb_device.specs.Delivery.{held, held_in, is_twice};
-ghost use Rattle.usb_device.specs.Places.{ports_kept};
-ghost use Rattle.usb_device.specs.Holders.{AreBytes, AreNobody, IsIndex, path_below, reached, reached_in, noted, meets_again};
+ghost use Rattle.usb_device.specs.Places.{ports_kept, stood};
+ghost use Rattle.usb_device.specs.Holders.{AreBytes, AreNobody, IsIndex, path_below, path_further, reached, reached_in, reached_whole, reached_there, reached_below, reached_at_path, noted, meets_again, held_whole, held_from, released};
 
+use crate::device::Device;
 use crate::ports::{Place, Ports};
 use arrayvec::ArrayVec;
 use std::alloc::{AllocError, Global};
@@ -65,7 +68,7 @@ pub struct Holders {
 }
 
 impl Holders {
-    ghost use Rattle.usb_device.specs.HolderIndex.{holder_in, IsIndexOf};
+    ghost use Rattle.usb_device.specs.HolderIndex.{holder_in, IsIndexOf, IsIndexWithout};
 
     /// The index of a tree of devices.
     ///
@@ -88,6 +91,30 @@ impl Holders {
         ensures { IsIndexOf self.new roots.now }
     {
         self.shared = index(self.holders.as_mut_slice(), roots);
+    }
+
+    /// Makes it the index of the tree as it were with nothing at a path, and tells so: it takes out
+    /// the devices there and below. Where two devices hold one address, nothing changes.
+    pub fn forget(&mut self, roots: &Ports, path: &[u8]) -> bool
+        requires { IsIndexOf self.old roots.now }
+        ensures forgotten { IsTrue result → IsIndexWithout self.new roots.now path.now }
+        ensures left { result ≡ false → self.new ≡ self.old }
+    {
+        if self.shared {
+            return false;
+        }
+        index_without(self.holders.as_mut_slice(), roots, path);
+        true
+    }
+
+    /// Makes it the index of a tree where it was that of the tree with nothing at a path: it puts in
+    /// the devices there and below.
+    pub fn note(&mut self, roots: &Ports, path: &[u8])
+        requires { IsIndexWithout self.old roots.now path.now }
+        ensures { IsIndexOf self.new roots.now }
+    {
+        let shared = self.shared;
+        self.shared = index_with(self.holders.as_mut_slice(), shared, roots, path);
     }
 
     /// Who holds an address.
@@ -126,6 +153,34 @@ fn index(holders: &mut [Holder], roots: &Ports) -> bool
 {
     clear(holders);
     roots.note(&Some(ArrayVec::new()), holders)
+}
+
+/// Takes what stands at a path, and below it, out of an index, where no address is held twice.
+#[tactic(auto, using(crate::proofs::PartedIndexes::parting))]
+fn index_without(holders: &mut [Holder], roots: &Ports, path: &[u8])
+    requires length { length holders.old ≡ 256 }
+    requires index { IsIndex holders.old roots.now }
+    requires single { is_twice (held roots.now) ≡ false }
+    ensures index { IsIndex holders.new (changed (put None) roots.now path.now) }
+    ensures single { is_twice (held (changed (put None) roots.now path.now)) ≡ false }
+    ensures length { length holders.new ≡ 256 }
+{
+    release_at(holders, roots, path);
+}
+
+/// Puts what stands at a path, and below it, into an index of all else, in which some address is
+/// held twice or not; whether one is then.
+#[tactic(auto, using(crate::proofs::PartedIndexes::parting))]
+fn index_with(holders: &mut [Holder], shared: bool, roots: &Ports, path: &[u8]) -> bool
+    requires length { length holders.old ≡ 256 }
+    requires index { IsIndex holders.old (changed (put None) roots.now path.now) }
+    requires shared { shared ≡ is_twice (held (changed (put None) roots.now path.now)) }
+    ensures index { IsIndex holders.new roots.now }
+    ensures shared { result ≡ is_twice (held roots.now) }
+    ensures length { length holders.new ≡ 256 }
+{
+    let met = note_at_path(holders, roots, path);
+    shared || met
 }
 
 /// Nobody holds anything.
@@ -203,12 +258,36 @@ fn note_at(
 {
     match &place.device {
         Some(device) if place.port.is_enabled() => {
-            let path = path_below(above, number);
-            let here = holders[usize::from(device.address())].join(&path);
-            let below = device.ports.note(&path, holders);
-            here || below
+            note_device(device, &path_below(above, number), holders)
         }
         _ => false,
+    }
+}
+
+/// The same of a device by its path, and of those below it.
+#[cycle(noting)]
+#[tactic(auto, using(crate::proofs::HolderIndexes::noting))]
+fn note_device(device: &Device, path: &Option<ArrayVec<u8, 8>>, holders: &mut [Holder]) -> bool
+    requires { length holders.old ≡ 256 }
+    ensures met { result ≡ meets_again (reached_whole path.now device.now) holders.old }
+    ensures noted { holders.new ≡ noted (reached_whole path.now device.now) holders.old }
+    ensures bytes { AreBytes (held_whole device.now) }
+{
+    let here = holders[usize::from(device.address())].join(path);
+    let below = device.ports.note(path, holders);
+    here || below
+}
+
+/// The same of the device at a path, and of those below it, where packets reach it.
+fn note_at_path(holders: &mut [Holder], roots: &Ports, path: &[u8]) -> bool
+    requires { length holders.old ≡ 256 }
+    ensures met { result ≡ meets_again (reached_at_path roots.now path.now) holders.old }
+    ensures noted { holders.new ≡ noted (reached_at_path roots.now path.now) holders.old }
+    ensures bytes { AreBytes (held_from (reached_there roots.now path.now)) }
+{
+    match roots.reached_at(path) {
+        None => false,
+        Some(device) => note_device(device, &path_of(path), holders),
     }
 }
 
@@ -223,5 +302,109 @@ fn path_below(above: &Option<ArrayVec<u8, 8>>, number: usize) -> Option<ArrayVec
             Some(path)
         }
         _ => None,
+    }
+}
+
+/// A path, where it is at most eight numbers long.
+fn path_of(numbers: &[u8]) -> Option<ArrayVec<u8, 8>>
+    ensures { result ≡ path_further (Some (record { items = [] })) numbers.now }
+{
+    let mut path = Some(ArrayVec::new());
+    'numbers: for number in numbers {
+        path = path_below(&path, usize::from(*number));
+    }
+    path
+}
+
+impl Ports {
+    /// The device at a path, where packets reach it: each port on its way is enabled.
+    #[cycle(reached_at)]
+    #[tactic(auto, using(crate::proofs::NumberedPlaces::reaching))]
+    fn reached_at(&self, path: &[u8]) -> Option<&Device>
+        ensures { option_copied result ≡ reached_there self.now path.now }
+    {
+        let (number, rest) = path.split_first()?;
+        let i = usize::from(*number);
+        if i == 0 || i > self.places.len() {
+            None
+        } else {
+            self.places[i - 1].reached_below(rest)
+        }
+    }
+
+    /// Nobody holds the addresses of the devices that packets reach from the row on.
+    #[cycle(releasing)]
+    #[tactic(auto, using(crate::proofs::HolderIndexes::releasing))]
+    fn release(&self, holders: &mut [Holder])
+        requires { length holders.old ≡ 256 }
+        ensures { holders.new ≡ released (held self.now) holders.old }
+    {
+        if !self.places.is_empty() {
+            release_row(self.places.as_slice(), holders);
+        }
+    }
+}
+
+impl Place {
+    #[cycle(reached_at)]
+    #[tactic(auto, using(crate::proofs::FirstPlaces::paths))]
+    fn reached_below(&self, path: &[u8]) -> Option<&Device>
+        ensures { option_copied result ≡ reached_below (stood self.now) path.now }
+    {
+        match &self.device {
+            Some(device) if self.port.is_enabled() => match path {
+                [] => Some(device),
+                [_, ..] => device.ports.reached_at(path),
+            },
+            _ => None,
+        }
+    }
+}
+
+/// The same of a row.
+#[cycle(releasing)]
+#[tactic(auto, using(crate::proofs::HolderIndexes::releasing))]
+fn release_row(places: &[Place], holders: &mut [Holder])
+    requires { length holders.old ≡ 256 }
+    ensures { holders.new ≡ released (held (ports_kept places.now)) holders.old }
+{
+    if let Some((place, rest)) = places.split_first() {
+        release_place(place, holders);
+        release_row(rest, holders);
+    }
+}
+
+/// The same of the device on a port and those below it, where the port is enabled.
+#[cycle(releasing)]
+#[tactic(auto, using(crate::proofs::HolderIndexes::releasing))]
+fn release_place(place: &Place, holders: &mut [Holder])
+    requires { length holders.old ≡ 256 }
+    ensures { holders.new
+        ≡ released (held_in place.now.port place.now.device) holders.old }
+{
+    match &place.device {
+        Some(device) if place.port.is_enabled() => release_device(device, holders),
+        _ => {}
+    }
+}
+
+/// The same of a device and those below it.
+#[cycle(releasing)]
+#[tactic(auto, using(crate::proofs::HolderIndexes::releasing))]
+fn release_device(device: &Device, holders: &mut [Holder])
+    requires { length holders.old ≡ 256 }
+    ensures { holders.new ≡ released (held_whole device.now) holders.old }
+{
+    holders[usize::from(device.address())] = Holder::Nobody;
+    device.ports.release(holders);
+}
+
+/// The same of the device at a path and those below it, where packets reach it.
+fn release_at(holders: &mut [Holder], roots: &Ports, path: &[u8])
+    requires { length holders.old ≡ 256 }
+    ensures { holders.new ≡ released (held_from (reached_there roots.now path.now)) holders.old }
+{
+    if let Some(device) = roots.reached_at(path) {
+        release_device(device, holders);
     }
 }

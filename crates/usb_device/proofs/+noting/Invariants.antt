@@ -4,10 +4,13 @@ use Rattle.usb_device.proofs.Nodes.{nodes, nodes_in}
 use Rattle.usb_device.proofs.+noting.Given as goal
 
 abbrev pub decreases-holders::note_row : goal.decreases-holders::note_row
-decreases-holders::note_row l = 3 * nodes (ports_kept l.places.now)
+decreases-holders::note_row l = 4 * nodes (ports_kept l.places.now)
 
 abbrev pub decreases-ports::Ports::note : goal.decreases-ports::Ports::note
-decreases-ports::Ports::note l = 3 * nodes l.self.now + 1
+decreases-ports::Ports::note l = 4 * nodes l.self.now + 1
+
+abbrev pub decreases-holders::note_device : goal.decreases-holders::note_device
+decreases-holders::note_device l = 4 * nodes l.device.now.ports + 2
 
 abbrev pub decreases-holders::note_at : goal.decreases-holders::note_at
-decreases-holders::note_at l = 3 * nodes_in l.place.now.device + 2
+decreases-holders::note_at l = 4 * nodes_in l.place.now.device + 3
