@@ -10,16 +10,16 @@ use Rattle.usb_device.specs.Rows.{State, forgotten}
 use Rattle.usb_device.specs.Tree.{Ports, ended, vacant, taken, Place, empty, full, before, acted, changed_at, plugged_at, device_there, reach_at, place_at, Spot}
 use Rattle.usb_device.specs.Delivery.{answer_of, all_forgotten}
 use Rattle.usb_device.specs.Holders.{path_below, reached, all_reached, ReachedSame, keeps_reached}
-use Rattle.usb_device.specs.HolderIndex.{IsIndexOf}
+use Rattle.usb_device.specs.HolderIndex.{IsIndexOf, IsIndexWithout}
 use Rattle.usb_device.specs.declared.holders.Holders.{Holders}
 use Rattle.usb_device.specs.Route.{sent_in, effect_by, forgotten_in, address_by}
-use Rattle.usb_device.proofs.Interface.{changed_at-head, reached-acted, reached-changed, same_index}
+use Rattle.usb_device.proofs.Interface.{changed_at-same, changed_at-twice, index_around, reached-acted, reached-changed, same_index}
 use Rattle.usb_world.specs.declared.types.Attempt.{Attempt}
 use Rattle.usb_world.specs.declared.damage.Damage.{Damage}
 use Rattle.usb_world.specs.Paths.{address_of}
 use Rattle.usb_world.specs.AttemptPackets.{after_sent, deep_at, IsSettled, OneHolds}
 use Rattle.usb_world.specs.Exchange.{token_out, payload_out, reply_out, ended_in, ports_in}
-use Rattle.usb_world.specs.LonePackets.{Alone, IsWayTo, IsQuiet, KeptAt}
+use Rattle.usb_world.specs.LonePackets.{Alone, is_whole_tree, IsWayTo, IsQuiet, KeptAt}
 use Rattle.usb_world.proofs.Booleans.{no, both}
 use Rattle.usb_world.proofs.AttemptPackets.{token_out as token_calm, ack_out as ack_calm}
 use Rattle.usb_world.proofs.OneDevice.{stands, state_stands}
@@ -29,28 +29,6 @@ use Rattle.usb_world.proofs.Routes.{others_packet, others_rest, others_forget, p
 use Rattle.usb_world.proofs.Courses.{goes}
 
 -- ---- changes at one place
-
-changed_at-same : (k : Ports) (j : ℕ) (p : List ℕ) → changed_at (λ x. x) k j p ≡ k
-unfolding changed_at
-changed_at-same ended j p = refl
-changed_at-same (vacant b k) zero [] = refl
-changed_at-same (vacant b k) zero (n ∷ p) = refl
-changed_at-same (vacant b k) (suc j) p = ap (vacant b) (changed_at-same k j p)
-changed_at-same (taken b s a k) zero [] = refl
-changed_at-same (taken b s a k) zero (zero ∷ p) = refl
-changed_at-same (taken b s a k) zero (suc j ∷ p) = ap (λ x. taken b s x k) (changed_at-same a j p)
-changed_at-same (taken b s a k) (suc j) p = ap (taken b s a) (changed_at-same k j p)
-
-changed_at-twice : (f g : Place → Place) (k : Ports) (j : ℕ) (p : List ℕ) → changed_at f (changed_at g k j p) j p ≡ changed_at (λ x. f (g x)) k j p
-unfolding changed_at
-changed_at-twice f g ended j p = refl
-changed_at-twice f g (vacant b k) zero [] = changed_at-head f (g (empty b)) k []
-changed_at-twice f g (vacant b k) zero (n ∷ p) = refl
-changed_at-twice f g (vacant b k) (suc j) p = ap (vacant b) (changed_at-twice f g k j p)
-changed_at-twice f g (taken b s a k) zero [] = changed_at-head f (g (full b s a)) k []
-changed_at-twice f g (taken b s a k) zero (zero ∷ p) = refl
-changed_at-twice f g (taken b s a k) zero (suc j ∷ p) = ap (λ x. taken b s x k) (changed_at-twice f g a j p)
-changed_at-twice f g (taken b s a k) (suc j) p = ap (taken b s a) (changed_at-twice f g k j p)
 
 place_at-first : (q : Place) (k : Ports) → place_at (before q k) 0 [] ≡ Some q
 unfolding place_at
@@ -233,3 +211,10 @@ pub index_kept : (n : ℕ) (h : Holders) (k m : Ports) (p : List ℕ) → IsSett
 index_kept n h k m [] s w kept is = absurd kept
 index_kept n h k m (zero ∷ p) s w kept is = absurd kept
 index_kept n h k m (suc j ∷ p) s w kept is = same_index h k m (kept s w) is
+
+-- an attempt changes nothing but the device at its way, with what is below
+pub index_beside : (a : Attempt) (d : Option Damage) (h : Holders) (k m : Ports) (p : List ℕ) → is_whole_tree p ≡ false → IsSettled k → IsWayTo a.addr k p → m ≡ ports_in a d k → IsIndexWithout h k p
+    → IsIndexWithout h m p
+index_beside a d h k m [] f s w e is = no (sym f)
+index_beside a d h k m (zero ∷ p) f s w e is = absurd w
+index_beside a d h k m (suc j ∷ p) f s w e is = index_around h _ k m (suc j ∷ p) (e ∙ all_is a d k j p s w) is

@@ -139,7 +139,7 @@ fn end_attempt(roots: &mut Ports, path: &[u8]) -> Option<u8>
 }
 
 /// Whether a path stands for the whole tree.
-fn is_whole(path: &[u8]) -> bool
+pub(crate) fn is_whole(path: &[u8]) -> bool
     ensures { result ≡ is_whole_tree path.now }
 {
     path.is_empty()

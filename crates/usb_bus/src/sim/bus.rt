@@ -129,11 +129,17 @@ fn call_at(roots: &mut Ports, holders: &mut Holders, port: u8, call: PortCall)
     ensures called { roots.new ≡ changed (called call) roots.old (port ∷ []) }
     ensures index { IsIndexOf holders.new roots.new }
 {
-    roots.call(port, call);
     if keeps_enable(call) {
+        roots.call(port, call);
         return;
     }
-    holders.renew(roots);
+    let forgotten = holders.forget(roots, &[port]);
+    roots.call(port, call);
+    if forgotten {
+        holders.note(roots, &[port]);
+    } else {
+        holders.renew(roots);
+    }
 }
 
 /// The status of the port of a number, counted from 1.

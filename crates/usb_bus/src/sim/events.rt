@@ -148,8 +148,12 @@ fn plug(
     ensures index { IsIndexOf holders.new roots.new }
 {
     let device = Device::new(alloc, spec)?;
-    roots.plug(path.numbers(), device);
-    holders.renew(roots);
+    let numbers = path.numbers();
+    let forgotten = holders.forget(roots, numbers);
+    roots.plug(numbers, device);
+    if !forgotten {
+        holders.renew(roots);
+    }
     Ok(())
 }
 
@@ -159,8 +163,11 @@ fn unplug(roots: &mut Ports, holders: &mut Holders, path: &PortPath)
     ensures unplugged { roots.new ≡ changed (replaced None) roots.old path.now }
     ensures index { IsIndexOf holders.new roots.new }
 {
+    let forgotten = holders.forget(roots, path.numbers());
     let _ = roots.unplug(path.numbers());
-    holders.renew(roots);
+    if !forgotten {
+        holders.renew(roots);
+    }
 }
 
 /// The line of an event.
