@@ -7,7 +7,7 @@ use arrayvec::ArrayVec;
 use usb_packet::{Packet, Toggle, encode};
 
 /// The packets that a device sends.
-#[derive(Drop)]
+#[derive(Debug, Drop)]
 pub enum Answer {
     Ack,
     Nak,
