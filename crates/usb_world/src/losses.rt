@@ -4,7 +4,7 @@ ghost use Rattle.usb_world.specs.Losses.{no_losses, one_more, counted, after_cle
 
 /// Address losses in all, in this stretch, and in the worst stretch. A stretch begins where a change of
 /// connection is cleared.
-#[derive(Clone, Copy)]
+#[derive(Clone, Copy, Debug)]
 pub struct Losses {
     pub all: u32,
     pub run: u32,

@@ -11,7 +11,7 @@ use usb_packet::{Toggle, TokenKind};
 ///
 /// `low` says that it is at low speed, `pre` that PRE goes before each of the host's packets.
 /// `max` is the endpoint's maximum packet in bytes; `payload` is what SETUP and OUT send.
-#[derive(Drop)]
+#[derive(Debug, Drop)]
 pub struct Attempt {
     pub kind: TokenKind,
     pub addr: u8,
@@ -23,7 +23,7 @@ pub struct Attempt {
 }
 
 /// What the host got in an attempt.
-#[derive(Drop)]
+#[derive(Debug, Drop)]
 pub enum Outcome {
     Payload(Toggle, ArrayVec<u8, 64>),
     Ack,
