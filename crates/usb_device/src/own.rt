@@ -265,6 +265,7 @@ impl Own {
         self.memory = RememberedPacket::Nothing;
     }
 
+    /// Bytes come that spell no packet (8.3.1): what is remembered is forgotten. A silent device stays as it is.
     #[tactic(auto, unfolding(crate::specs::Rows::unread))]
     pub fn unread(&mut self)
         ensures { self.new ≡ unread self.old }

@@ -34,7 +34,9 @@ impl Mark {
 /// A packet of the host, and what damage did to it.
 #[derive(Debug, Drop)]
 pub struct Outgoing {
+    /// The packet as it was sent.
     pub packet: Packet,
+    /// What damage did to it.
     pub mark: Mark,
 }
 
