@@ -10,7 +10,7 @@ use usb_device::DeviceSpec;
 use usb_packet::hex_digits;
 
 /// A device's name as it stands in a line of the trace.
-#[derive(Drop)]
+#[derive(Debug, Drop)]
 pub(crate) struct ShownName {
     bytes: Vec<u8>,
 }

@@ -35,7 +35,7 @@ use usb_world::{Exchange, Losses, event_copies};
 ///
 /// After a fault every later attempt, event and line of report tells the same fault again and changes nothing. Its trace
 /// has failed exactly where `TraceFailed` was told; so that is never told of a bus that is `Untraced`.
-#[derive(Drop)]
+#[derive(Debug, Drop)]
 pub struct SimBus<T: Trace> {
     alloc: Global,
     roots: Ports,

@@ -42,7 +42,7 @@ pub trait Trace {
 }
 
 /// A writer that has the lines.
-#[derive(Drop)]
+#[derive(Debug, Drop)]
 pub struct Tracer<W> {
     writer: Watched<W>,
     /// The line of the last attempt, whose room is used again.

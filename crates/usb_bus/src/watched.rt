@@ -18,7 +18,7 @@ const LINE_ROOM: usize = 1024;
 ///
 /// The mark is set where a read or write answers an error, or a write takes nothing of a piece
 /// that is not empty. It is never taken back.
-#[derive(Drop)]
+#[derive(Debug, Drop)]
 pub struct Watched<T> {
     inner: T,
     failed: bool,

@@ -7,13 +7,19 @@ use arrayvec::ArrayVec;
 use usb_packet::{Packet, Toggle, encode};
 
 /// The packets that a device sends.
-#[derive(Drop)]
+#[derive(Debug, Drop)]
 pub enum Answer {
+    /// The data came through (8.4.5).
     Ack,
+    /// Nothing to give, or no room now (8.4.5).
     Nak,
+    /// The endpoint is halted, or the request refused (8.4.5).
     Stall,
+    /// Data (8.4.4).
     Data {
+        /// Which of the two data PIDs the packet has (8.6).
         toggle: Toggle,
+        /// 0 to 64 bytes.
         bytes: ArrayVec<u8, 64>,
     },
 }
@@ -35,9 +41,13 @@ impl Answer {
 /// The packet identifier of an answer (8.3.1). The bytes of data stand in a room beside it.
 #[derive(Clone, Copy, Debug)]
 pub enum AnswerPid {
+    /// ACK.
     Ack,
+    /// NAK.
     Nak,
+    /// STALL.
     Stall,
+    /// DATA0 or DATA1.
     Data(Toggle),
 }
 

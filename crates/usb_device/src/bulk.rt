@@ -42,7 +42,9 @@ pub enum ServedEndpoint {
 /// The bulk endpoints that a device serves: of each its number and its maximum packet (9.6.6).
 #[derive(Clone, Copy, Debug)]
 pub struct BulkEndpoints {
+    /// The bulk OUT endpoint.
     pub bulk_out: Option<(u8, u8)>,
+    /// The bulk IN endpoint.
     pub bulk_in: Option<(u8, u8)>,
 }
 

@@ -19,7 +19,7 @@ use std::alloc::AllocError;
 use usb_packet::{Packet, decode};
 
 /// What goes out.
-#[derive(Drop)]
+#[derive(Debug, Drop)]
 pub enum Content {
     /// A packet.
     Whole(Packet),
@@ -40,7 +40,7 @@ impl Content {
 }
 
 /// A packet of the host, and how it goes out.
-#[derive(Drop)]
+#[derive(Debug, Drop)]
 pub struct Sent {
     /// At low speed, else at full.
     pub low: bool,
@@ -51,7 +51,7 @@ pub struct Sent {
 }
 
 /// What is heard after a packet went out.
-#[derive(Drop)]
+#[derive(Debug, Drop)]
 pub enum Heard {
     /// No device answered.
     NoAnswer,

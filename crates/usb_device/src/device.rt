@@ -21,7 +21,7 @@ use usb_packet::{Packet, decode};
 /// A plugged device, with the devices on its ports: it takes one packet after the other, and
 /// answers some of them (8.5).
 #[cycle(tree)]
-#[derive(Drop)]
+#[derive(Debug, Drop)]
 pub struct Device {
     pub(crate) own: Own,
     pub(crate) ports: Ports,

@@ -21,7 +21,7 @@ pub enum HeardPid {
 
 /// What is heard so far after a packet went out, as `Heard` has it; the bytes of data stand in one
 /// room, into which the devices put them.
-#[derive(Drop)]
+#[derive(Debug, Drop)]
 pub struct Hearing {
     pub(crate) pid: HeardPid,
     pub(crate) room: ArrayVec<u8, 64>,

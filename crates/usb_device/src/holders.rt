@@ -12,7 +12,7 @@ use arrayvec::ArrayVec;
 use std::alloc::{AllocError, Global};
 
 /// Who holds an address.
-#[derive(Drop)]
+#[derive(Debug, Drop)]
 pub enum Holder {
     /// No device that packets reach.
     Nobody,
@@ -60,7 +60,7 @@ fn path_copy(path: &ArrayVec<u8, 8>) -> ArrayVec<u8, 8>
 }
 
 /// Which device holds which address, of all that packets reach.
-#[derive(Drop)]
+#[derive(Debug, Drop)]
 pub struct Holders {
     holders: Vec<Holder>,
     shared: bool,

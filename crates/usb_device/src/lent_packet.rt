@@ -8,7 +8,7 @@ use std::marker::Model;
 use usb_packet::Packet;
 
 /// What goes out, as `Sent` has it, but its packet is lent: nothing of it is copied on its way.
-#[derive(Drop)]
+#[derive(Debug, Drop)]
 pub struct LentPacket<'a> {
     low: bool,
     pre: bool,

@@ -33,7 +33,7 @@ use usb_request::Setup;
 /// A plugged device, without its ports: it takes one packet after the other, and answers some of
 /// them (8.5). It has endpoint 0, a bulk endpoint for each direction where its configuration
 /// describes one, and IN 1 where it is a hub.
-#[derive(Drop)]
+#[derive(Debug, Drop)]
 pub struct Own {
     spec: Rc<DeviceSpec>,
     registers: Registers,
@@ -265,6 +265,7 @@ impl Own {
         self.memory = RememberedPacket::Nothing;
     }
 
+    /// Bytes come that spell no packet (8.3.1): what is remembered is forgotten. A silent device stays as it is.
     #[tactic(auto, unfolding(crate::specs::Rows::unread))]
     pub fn unread(&mut self)
         ensures { self.new ≡ unread self.old }

@@ -14,7 +14,7 @@ use usb_port::{Port, PortCall};
 
 /// A port, and the device on it.
 #[cycle(tree)]
-#[derive(Drop)]
+#[derive(Debug, Drop)]
 pub(crate) struct Place {
     pub(crate) port: Port,
     pub(crate) device: Option<Device>,
@@ -22,7 +22,7 @@ pub(crate) struct Place {
 
 /// A row of ports, the first one first, with the devices on them.
 #[cycle(tree)]
-#[derive(Drop)]
+#[derive(Debug, Drop)]
 pub struct Ports {
     pub(crate) places: Vec<Place>,
 }

@@ -39,8 +39,11 @@ pub enum Progress {
     Refused,
     /// A control read: the host wants so many bytes, and acknowledged so many packets.
     Reading {
+        /// What is read.
         source: Source,
+        /// In bytes: wLength (9.3.5).
         wanted: u16,
+        /// In packets.
         given: u32,
     },
     /// A control read is over.

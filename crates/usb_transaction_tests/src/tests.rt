@@ -9,10 +9,10 @@ use rows::ROWS;
 use std::alloc::{AllocError, Global};
 use std::str;
 use std::test::Fail;
-use usb_bench::{plan_text, plugged, trace_of};
 use usb_bus::{BusFault, SimBus, Tracer};
 use usb_packet::Toggle;
 use usb_port::PortPath;
+use usb_testbus::{plan_text, plugged, trace_of};
 use usb_transaction::{Done, Target, TransFault, data_in, data_out, poll_in, setup};
 
 /// An endpoint of the function, by its address: 0 when it is new, and 3 once it is addressed.

@@ -21,6 +21,7 @@ pub struct Damage {
     pub attempt: u64,
     /// The packet of the attempt, 1 to 3.
     pub packet: u8,
+    /// What becomes of the packet.
     pub harm: Harm,
 }
 

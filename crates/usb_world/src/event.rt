@@ -119,6 +119,7 @@ impl Action {
 pub struct Event {
     /// In attempts.
     pub after: u64,
+    /// What happens.
     pub action: Action,
 }
 

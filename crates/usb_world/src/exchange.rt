@@ -26,7 +26,7 @@ use usb_device::{Content, HeardPid, Hearing, LentPacket, Ports};
 use usb_packet::{Packet, encode, one_flipped_bit};
 
 /// What the devices' answers to an attempt are together.
-#[derive(Drop)]
+#[derive(Debug, Drop)]
 pub enum ExchangeAnswer {
     /// No device answered.
     Nothing,
@@ -50,7 +50,7 @@ fn put_answer(heard: Hearing, answer: &mut ExchangeAnswer)
 }
 
 /// The packets of an attempt as they went over the bus.
-#[derive(Drop)]
+#[derive(Debug, Drop)]
 pub struct Exchange {
     /// The host's token.
     pub token: Outgoing,

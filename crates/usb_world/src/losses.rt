@@ -2,12 +2,14 @@
 ghost use Rattle.std.specs.Prelude.{◌≡◌, ◌+◌, ◌<◌, ◌^◌};
 ghost use Rattle.usb_world.specs.Losses.{no_losses, one_more, counted, after_clearing};
 
-/// Address losses in all, in this stretch, and in the worst stretch. A stretch begins where a change of
-/// connection is cleared.
-#[derive(Clone, Copy)]
+/// Address losses. A stretch of them begins where a change of connection is cleared.
+#[derive(Clone, Copy, Debug)]
 pub struct Losses {
+    /// How many in all.
     pub all: u32,
+    /// How many in this stretch.
     pub run: u32,
+    /// How many in the worst stretch.
     pub worst: u32,
 }
 

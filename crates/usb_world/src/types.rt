@@ -8,26 +8,34 @@ use thiserror::Error;
 use usb_packet::{Toggle, TokenKind};
 
 /// One transaction attempt (8.5).
-///
-/// `low` says that it is at low speed, `pre` that PRE goes before each of the host's packets.
-/// `max` is the endpoint's maximum packet in bytes; `payload` is what SETUP and OUT send.
-#[derive(Drop)]
+#[derive(Debug, Drop)]
 pub struct Attempt {
+    /// SETUP, OUT or IN.
     pub kind: TokenKind,
+    /// The device's address, 0 to 127.
     pub addr: u8,
+    /// The endpoint's number, 0 to 15.
     pub ep: u8,
+    /// Whether it is at low speed.
     pub low: bool,
+    /// Whether PRE goes before each of the host's packets (8.6.5).
     pub pre: bool,
+    /// The endpoint's maximum packet in bytes.
     pub max: u8,
+    /// What SETUP and OUT send.
     pub payload: Option<(Toggle, ArrayVec<u8, 64>)>,
 }
 
 /// What the host got in an attempt.
-#[derive(Drop)]
+#[derive(Debug, Drop)]
 pub enum Outcome {
+    /// Data, which the bus has acknowledged.
     Payload(Toggle, ArrayVec<u8, 64>),
+    /// The data came through (8.4.5).
     Ack,
+    /// Nothing to give, or no room now (8.4.5).
     Nak,
+    /// The endpoint is halted, or the request refused (8.4.5).
     Stall,
     /// No good answer came.
     Nothing,

@@ -8,7 +8,7 @@ use arrayvec::ArrayVec;
 use usb_packet::Packet;
 
 /// What damage did to a packet on its way.
-#[derive(Clone, Copy)]
+#[derive(Clone, Copy, Debug)]
 pub enum Mark {
     /// Nothing.
     Whole,
@@ -32,9 +32,11 @@ impl Mark {
 }
 
 /// A packet of the host, and what damage did to it.
-#[derive(Drop)]
+#[derive(Debug, Drop)]
 pub struct Outgoing {
+    /// The packet as it was sent.
     pub packet: Packet,
+    /// What damage did to it.
     pub mark: Mark,
 }
 

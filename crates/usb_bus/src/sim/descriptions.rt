@@ -6,7 +6,7 @@ use std::rc::Rc;
 use usb_device::DeviceSpec;
 
 /// The descriptions in the plan's order.
-#[derive(Drop)]
+#[derive(Debug, Drop)]
 pub struct Descriptions {
     specs: Vec<Rc<DeviceSpec>>,
 }

@@ -143,7 +143,8 @@ fn plug(
     spec: &Rc<DeviceSpec>,
 ) -> Result<(), AllocError>
     requires { IsIndexOf holders.old roots.old }
-    ensures ok { OnOk result (roots.new ≡ changed (replaced (Some spec.now.value)) roots.old path.now) }
+    ensures ok { OnOk result
+        (roots.new ≡ changed (replaced (Some spec.now.value)) roots.old path.now) }
     ensures err { OnErr result (roots.new ≡ roots.old) }
     ensures index { IsIndexOf holders.new roots.new }
 {

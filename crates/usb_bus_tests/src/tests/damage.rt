@@ -7,8 +7,8 @@ use super::step::{Step, told};
 use std::alloc::{AllocError, Global};
 use std::str;
 use std::test::Fail;
-use usb_bench::{plugged, trace_of};
 use usb_bus::{Damage, Harm, SimBus, Tracer};
+use usb_testbus::{plugged, trace_of};
 
 /// The damage to a packet of one of the attempts SETUP, IN and OUT, and what that attempt tells and its line.
 #[derive(Clone, Copy)]

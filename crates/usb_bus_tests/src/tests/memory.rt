@@ -6,8 +6,8 @@ use super::step::Speed::Full;
 use super::step::{Step, told};
 use std::alloc::{AllocError, Global};
 use std::test::Fail;
-use usb_bench::{bus_of, trace_of};
 use usb_bus::{SimBus, Tracer};
+use usb_testbus::{bus_of, trace_of};
 
 const PLUG_BULK: &str = r#"
 [[event]]

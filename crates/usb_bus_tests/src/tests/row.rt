@@ -4,8 +4,8 @@ use super::step::{Step, told};
 use std::alloc::{AllocError, Global};
 use std::str;
 use std::test::Fail;
-use usb_bench::{bus_of, trace_of};
 use usb_bus::{Damage, Harm, SimBus, Trace};
+use usb_testbus::{bus_of, trace_of};
 
 /// A step and what it tells.
 pub(super) type Told<'a> = (Step, &'a str);

@@ -12,8 +12,8 @@ use super::watched::Frail;
 use std::alloc::{AllocError, Global};
 use std::str;
 use std::test::Fail;
-use usb_bench::{bus_on, untraced_of};
 use usb_bus::{SimBus, Trace, Watched};
+use usb_testbus::{bus_on, untraced_of};
 
 /// How many writes there may be, and what becomes of the enumeration of a function and its trace.
 #[derive(Clone, Copy)]

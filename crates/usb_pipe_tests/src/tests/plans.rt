@@ -2,8 +2,8 @@
 
 use std::alloc::{AllocError, Global};
 use std::test::Fail;
-use usb_bench::{plan_text, plugged};
 use usb_bus::{SimBus, Tracer};
+use usb_testbus::{plan_text, plugged};
 
 /// A function with one interface and no endpoints.
 pub(super) const FUNCTION: &str = r#"

@@ -3,9 +3,9 @@ ghost use Rattle.usb_transaction.specs.Transactions.{IsTarget};
 
 use std::alloc::Global;
 use std::test::Fail;
-use usb_bench::trace_of;
 use usb_bus::{SimBus, Tracer};
 use usb_pipe::{Bus, PipeFault, Setup, Target, control_in, control_none};
+use usb_testbus::trace_of;
 
 /// A full-speed device at address 1.
 pub(super) const TARGET: Target = Target {

@@ -1,28 +1,25 @@
 //! Simulated buses for tests: from a plan's text, with the port and the device made ready.
 #![tactic(auto)]
 
-ghost use Rattle.std.specs.Prelude.{◌≡◌, ◌++◌, codes, decimal, false, flat_map, string_bytes, IfOk, Ok, OnOk};
+ghost use Rattle.std.specs.Prelude.{◌≡◌, ◌++◌, codes, decimal, false, flat_map, string_bytes, IfOk, IsOk, Ok, OnOk};
 ghost use Rattle.usb_bus.specs.Watch.{inner_of, has_failed};
-ghost use Rattle.usb_bus.specs.Sim.{world_of, writer_of};
-ghost use Rattle.usb_world.specs.Steps.{after, root_call};
-ghost use Rattle.usb_port.specs.Calls.{set_call, clear_call};
+ghost use Rattle.usb_bus.specs.Sim.{writer_of};
 ghost use Rattle.usb_plan.specs.Plan.{spelled_plan};
-ghost use Rattle.usb_bench.specs.Bench.{IsOpened, IsReady, made_ready, port_called};
 
 use std::alloc::{AllocError, Global};
 use std::io::Write;
 use thiserror::Error;
-use usb_bus::{Bus, BusFault, Plan, SimBus, Trace, Tracer, Untraced, Watched};
+use usb_bus::{Bus, BusFault, Plan, SimBus, Tracer, Untraced, Watched};
 use usb_plan::{PlanFault, read_plan};
 use usb_request::feature::{C_PORT_CONNECTION, C_PORT_RESET, PORT_POWER, PORT_RESET};
 
 /// Why there is no such bus.
 #[derive(Clone, Copy, Debug, PartialEq, Eq, Error)]
-pub enum BenchFault {
+pub enum TestBusFault {
     /// The text is no plan.
     #[error("{0}")]
     Plan(PlanFault),
-    /// The bus told a fault.
+    /// The fault of the bus.
     #[error("{0}")]
     Bus(BusFault),
     /// Memory was refused.
@@ -52,13 +49,13 @@ pub fn bus_on<W: Write + Drop>(
     alloc: Global,
     text: &str,
     writer: Watched<W>,
-) -> Result<SimBus<Tracer<W>>, BenchFault>
+) -> Result<SimBus<Tracer<W>>, TestBusFault>
     requires { has_failed writer ≡ false }
-    ensures world { IfOk result (λ bus. IsOpened text.now (world_of bus)) }
+    ensures plan { OnOk result (IsOk (spelled_plan text.now)) }
     ensures writer { IfOk result (λ bus. writer_of bus ≡ writer) }
 {
     let plan = plan_of(alloc, text)?;
-    SimBus::new(alloc, &plan, writer).map_err(|_| BenchFault::Memory)
+    SimBus::new(alloc, &plan, writer).map_err(|_| TestBusFault::Memory)
 }
 
 /// The bus of a plan's text, before anything came, that makes no line of its trace.
@@ -66,19 +63,19 @@ pub fn bus_on<W: Write + Drop>(
 /// # Errors
 ///
 /// As `bus_on`.
-pub fn untraced_of(alloc: Global, text: &str) -> Result<SimBus<Untraced>, BenchFault>
-    ensures { IfOk result (λ bus. IsOpened text.now (world_of bus)) }
+pub fn untraced_of(alloc: Global, text: &str) -> Result<SimBus<Untraced>, TestBusFault>
+    ensures { OnOk result (IsOk (spelled_plan text.now)) }
 {
     let plan = plan_of(alloc, text)?;
-    SimBus::untraced(alloc, &plan).map_err(|_| BenchFault::Memory)
+    SimBus::untraced(alloc, &plan).map_err(|_| TestBusFault::Memory)
 }
 
-fn plan_of(alloc: Global, text: &str) -> Result<Plan, BenchFault>
+fn plan_of(alloc: Global, text: &str) -> Result<Plan, TestBusFault>
     ensures { IfOk result (λ plan. spelled_plan text.now ≡ Ok plan) }
 {
     match read_plan(alloc, text) {
         Ok(plan) => Ok(plan),
-        Err(fault) => Err(BenchFault::Plan(fault)),
+        Err(fault) => Err(TestBusFault::Plan(fault)),
     }
 }
 
@@ -87,39 +84,28 @@ fn plan_of(alloc: Global, text: &str) -> Result<Plan, BenchFault>
 /// # Errors
 ///
 /// As `bus_on`.
-pub fn bus_of(alloc: Global, text: &str) -> Result<SimBus<Tracer<Vec<u8>>>, BenchFault>
-    ensures { IfOk result (λ bus. IsOpened text.now (world_of bus)) }
+pub fn bus_of(alloc: Global, text: &str) -> Result<SimBus<Tracer<Vec<u8>>>, TestBusFault>
+    ensures { OnOk result (IsOk (spelled_plan text.now)) }
 {
     bus_on(alloc, text, Watched::new(Vec::new(alloc)))
 }
 
-/// The bus of a plan's text whose first event came: root port 1 has power, and what is plugged there was reset.
+/// The bus of a plan's text whose first event came: root port 1 has power, what is plugged there was reset, and no change
+/// is left there.
 ///
 /// # Errors
 ///
 /// As `bus_on`; `Bus` where the event could not come.
-pub fn plugged(alloc: Global, text: &str) -> Result<SimBus<Tracer<Vec<u8>>>, BenchFault>
-    ensures { IfOk result (λ bus. IsReady text.now (world_of bus)) }
+pub fn plugged(alloc: Global, text: &str) -> Result<SimBus<Tracer<Vec<u8>>>, TestBusFault>
+    ensures { OnOk result (IsOk (spelled_plan text.now)) }
 {
     let mut bus = bus_of(alloc, text)?;
-    plug(&mut bus)?;
-    Ok(bus)
-}
-
-/// Gives power to root port 1, lets the next event come, and resets what is plugged at the port; no change is left there.
-///
-/// # Errors
-///
-/// `Bus` where the event could not come.
-pub fn plug<T: Trace>(bus: &mut SimBus<T>) -> Result<(), BenchFault>
-    ensures { OnOk result (world_of bus.new ≡ made_ready (world_of bus.old)) }
-{
     bus.root_set(1, PORT_POWER);
-    bus.apply_next_event().map_err(BenchFault::Bus)?;
+    bus.apply_next_event().map_err(TestBusFault::Bus)?;
     bus.root_clear(1, C_PORT_CONNECTION);
     bus.root_set(1, PORT_RESET);
     bus.root_clear(1, C_PORT_RESET);
-    Ok(())
+    Ok(bus)
 }
 
 /// The trace that a bus kept.
