@@ -12,22 +12,20 @@ use Rattle.usb_device.specs.declared.transfer.RememberedPacket.{RememberedPacket
 use Rattle.usb_device.specs.declared.transfer.RememberedPacket.TheVariants.{Nothing, SetupSeen}
 use Rattle.usb_device.specs.Rows.{State, Reply, received, unread, forgotten, answered, unless_busy, in_row, in_other_row, bulk_ack_row, token_row, after_memory, awaits_control, ends_with_address, awaits_address}
 use Rattle.usb_device.specs.Effect.{asks, asked_by_data}
-use Rattle.usb_device.specs.Tree.{Ports, ended, vacant, taken, Place, empty, full, row_of, reach_at, state_at, place_at}
+use Rattle.usb_device.specs.Tree.{Ports, ended, vacant, taken, Place, empty, full, row_of, reach, reach_at, state_at, place_at}
 use Rattle.usb_device.specs.Delivery.{hears, reply_to, answer_of, asked_by, effect_of}
 use Rattle.usb_device.proofs.Interface.{keeps-received}
 use Rattle.usb_world.specs.declared.damage.Damage.{Damage}
 use Rattle.usb_world.specs.declared.event.Event.{Event}
 use Rattle.usb_world.specs.declared.types.Attempt.{Attempt}
-use Rattle.usb_world.specs.declared.types.BusFault.{BusFault}
-use Rattle.usb_world.specs.declared.types.BusFault.TheVariants.{LimitReached}
 use Rattle.usb_world.specs.Wire.{mark_of, harm_to, marked}
 use Rattle.usb_world.specs.Exchange.{token_of, token_out, payload_out, reply_out, ports_in}
 use Rattle.usb_world.specs.Paths.{address_of}
 use Rattle.usb_world.specs.WayEffects.{resets_at, reset_if}
 use Rattle.usb_world.specs.AttemptPackets.{after_sent, deep_at, sent_resets, attempt_resets, IsDataOut, IfOut, IsSettled}
 use Rattle.usb_world.specs.World.{World}
-use Rattle.usb_world.specs.Steps.{is_due, took, took_first, event_taken, due_from, ready, damage_in, with_attempt, attempted, Step, attempt, root_call, event, report, after, Course, here, step}
-use Rattle.usb_world.specs.Courses.{Own, Injective}
+use Rattle.usb_world.specs.Steps.{due_from, ready, damage_in, with_attempt, Step, attempt, root_call, event, report, after, Course}
+use Rattle.usb_world.specs.Courses.{address_at, Own, Injective}
 use Rattle.usb_world.specs.Addresses.{is_setup, NoneTakes, MovesData, GivesNoAddress}
 use Rattle.usb_world.proofs.AwaitedAcks.{none_awaited_answer, data_no_control_in}
 use Rattle.usb_world.proofs.Booleans.{no, and_false}
@@ -35,9 +33,10 @@ use Rattle.usb_world.proofs.PacketEffects.{packet_state, heard_state}
 use Rattle.usb_world.proofs.AttemptPackets.{forgotten_state, calm_sent, sent_out, token_out as token_calm_out, ack_out}
 use Rattle.usb_world.proofs.OneDevice.{stands, state_stands, settled_memory}
 use Rattle.usb_world.proofs.OneHolderAttempts.{ready_settled}
-use Rattle.usb_world.proofs.StepInvariants.{settled_called, settled_happened, settled_ports}
+use Rattle.usb_world.proofs.StepInvariants.{settled_after}
 use Rattle.usb_world.proofs.Courses.{made_reach, goes}
-use Rattle.usb_world.proofs.AddressesKept.{step_own, step_unshared}
+use Rattle.usb_world.proofs.AddressesKept.{own_steps, step_own, step_unshared, ready_own}
+use Rattle.usb_world.proofs.LiftedSteps.{over_due, over_attempt, kept_course, due_alike}
 use Rattle.usb_world.proofs.Equality.{equal_same}
 use Rattle.usb_world.proofs.States.{kept_address, forgotten_address}
 
@@ -332,13 +331,9 @@ module _ (a : Attempt) (d : Option Damage) (k : Ports) (settled : IsSettled k) (
 -- Worlds
 
 pub due_own : (f : List ℕ → Option ℕ) (es : List Event) (w : World) → Own f w → Own f (due_from es w)
-unfolding due_from took after
-due_own f [] w h = h
-due_own f (e ∷ es) w h = split (is_due e w) (due_own f es (took e es w) (step_own f event (record w { left = e ∷ es; fault = None }) refl h))
-  where
-    split : (x : Bool) → Own f (due_from es (took e es w)) → Own f (if x then due_from es (took e es w) else w)
-    split true g = g
-    split false g = h
+due_own f es w own =
+    subst (λ (k : Ports). (p : List ℕ) → reach k p ≡ true → address_at k p ≡ f p) (ap (λ v. v.roots) (due_alike es w))
+    (over_due (own_steps f).events es (record w { left = es }) refl own)
 
 made_own : (f : List ℕ → Option ℕ) (a : Attempt) (w : World) → is_setup a.kind ≡ false → NoneTakes a.addr w.roots → IsSettled w.roots → Own f w → Own f (with_attempt a w)
 unfolding with_attempt
@@ -349,45 +344,14 @@ made_own f a w kind none settled own (suc j ∷ p) h =
     ∙ own (suc j ∷ p) (made_reach a w (suc j ∷ p) (data_calm a (damage_in w) w.roots settled kind j p) h)
 
 pub data_own : (f : List ℕ → Option ℕ) (a : Attempt) (w : World) → is_setup a.kind ≡ false → NoneTakes a.addr (ready w).roots → IsSettled w.roots → Own f w → Own f (after (attempt a) w)
-unfolding after ready
-data_own f a w kind none settled own = tried w.fault
-  where
-    tried : (x : Option BusFault) → Own f (attempted a x w)
-    tried (Some x) = own
-    tried None = made (w.attempts == w.limit)
-      where
-        made : (x : Bool) → Own f (if x then record w { fault = Some LimitReached } else with_attempt a (ready w))
-        made true = own
-        made false = made_own f a (ready w) kind none (ready_settled w settled) (due_own f w.left w own)
+data_own f a w kind none settled own =
+    over_attempt (Own f) a w (λ _. (own, own)) (λ _. made_own f a (ready w) kind none (ready_settled w settled) (ready_own f w own))
 
 pub data_keeps : (f : List ℕ → Option ℕ) → Injective f → (a : Attempt) (w : World) → is_setup a.kind ≡ false → NoneTakes a.addr (ready w).roots → IsSettled w.roots
     → Own f w → w.shared ≡ false → Own f (after (attempt a) w) × ((after (attempt a) w).shared ≡ false)
 data_keeps f inj a w kind none settled own h = (data_own f a w kind none settled own, step_unshared f inj (attempt a) w own h)
 
 -- Courses
-
-keeps_settled : (s : Step) (w : World) → IsSettled w.roots → IsSettled (after s w).roots
-unfolding after with_attempt took ready
-keeps_settled (attempt a) w h = tried w.fault
-  where
-    tried : (x : Option BusFault) → IsSettled (attempted a x w).roots
-    tried (Some x) = h
-    tried None = made (w.attempts == w.limit)
-      where
-        made : (x : Bool) → IsSettled (if x then record w { fault = Some LimitReached } else with_attempt a (ready w)).roots
-        made true = h
-        made false = settled_ports a (damage_in (ready w)) (ready w).roots
-keeps_settled (root_call c n) w h = settled_called c w.roots (n ∷ []) h
-keeps_settled event w h = taken_it w.fault
-  where
-    first : (es : List Event) → IsSettled (took_first es w).roots
-    first [] = h
-    first (e ∷ es) = settled_happened e.action w.devices w.roots h
-
-    taken_it : (x : Option BusFault) → IsSettled (event_taken x w).roots
-    taken_it (Some x) = h
-    taken_it None = first w.left
-keeps_settled (report l) w h = h
 
 moved_own : (f : List ℕ → Option ℕ) (s : Step) (w : World) → MovesData s w → IsSettled w.roots → Own f w → Own f (after s w)
 moved_own f (attempt a) w m settled own = data_own f a w m.0 m.1 settled own
@@ -402,6 +366,5 @@ given_own f s w (inr m) settled own = moved_own f s w m settled own
 -- a course of such steps keeps each reachable device at its own address, and sets no mark
 pub course_keeps : (f : List ℕ → Option ℕ) → Injective f → {w v : World} → Course GivesNoAddress w v → IsSettled w.roots → Own f w → w.shared ≡ false
     → Own f v × (v.shared ≡ false) × IsSettled v.roots
-course_keeps f inj (here w) settled own h = (own, h, settled)
-course_keeps f inj (step s {w} {v} k more) settled own h =
-    course_keeps f inj more (keeps_settled s w settled) (given_own f s w k settled own) (step_unshared f inj s w own h)
+course_keeps f inj c settled own h =
+    kept_course (λ w. Own f w × (w.shared ≡ false) × IsSettled w.roots) (λ s w k x. (given_own f s w k x.2 x.0, step_unshared f inj s w x.0 x.1, settled_after s w x.2)) c (own, h, settled)

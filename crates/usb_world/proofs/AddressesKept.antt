@@ -1,5 +1,5 @@
 -- Which courses keep each device at its own address, and set no mark.
-use Rattle.std.proofs.Common.{◌≡◌, ℕ, zero, suc, ◌+◌, ◌==◌, ◌&&◌, ◌||◌, not, nat_lt, if◌then◌else◌, ◌⊎◌, inl, inr, Bool, true, false, List, [], ◌∷◌, ◌++◌, length, Option, None, Some, option_map, slice_get, is_some, refl, ap, sym, ◌∙◌}
+use Rattle.std.proofs.Common.{◌≡◌, ℕ, zero, suc, ◌+◌, ◌==◌, ◌&&◌, ◌||◌, not, nat_lt, if◌then◌else◌, ◌⊎◌, inl, inr, Bool, true, false, List, [], ◌∷◌, ◌++◌, length, Option, None, Some, option_map, refl, ap, sym, subst, ◌∙◌}
 use Rattle.usb_packet.specs.declared.Packet.{Packet}
 use Rattle.usb_packet.specs.declared.Packet.TheVariants.{Token, Payload, Ack, Sof, Nak, Stall, Pre}
 use Rattle.usb_packet.specs.declared.Toggle.{Toggle}
@@ -29,10 +29,8 @@ use Rattle.usb_device.proofs.Interface.{keeps-received}
 use Rattle.usb_world.specs.declared.damage.Damage.{Damage}
 use Rattle.usb_world.specs.declared.event.Event.{Event}
 use Rattle.usb_world.specs.declared.event.Action.{Action}
-use Rattle.usb_world.specs.declared.event.Action.TheVariants.{Plug, Unplug, Show, Send, Receive, Clear}
 use Rattle.usb_world.specs.declared.types.Attempt.{Attempt}
 use Rattle.usb_world.specs.declared.types.BusFault.{BusFault}
-use Rattle.usb_world.specs.declared.types.BusFault.TheVariants.{LimitReached}
 use Rattle.usb_world.specs.declared.wire.Mark.{Mark}
 use Rattle.usb_world.specs.declared.wire.Mark.TheVariants as mark
 use Rattle.usb_world.specs.Wire.{mark_of, harm_to, marked, marked_some}
@@ -42,7 +40,7 @@ use Rattle.usb_world.specs.Paths.{address_of, is_way, Two}
 use Rattle.usb_world.specs.WayEffects.{resets_at, call_resets}
 use Rattle.usb_world.specs.AttemptPackets.{after_sent, answers_to, after_attempt, deep_at, sent_resets, attempt_resets}
 use Rattle.usb_world.specs.World.{World}
-use Rattle.usb_world.specs.Steps.{with_plugged, happened, way_of, names_path, is_due, took, took_first, due_from, ready, damage_in, with_attempt, attempted, event_taken, Step, attempt, root_call, event, report, after, Course, here, step}
+use Rattle.usb_world.specs.Steps.{happened, way_of, names_path, took, due_from, ready, damage_in, with_attempt, event_taken, Step, attempt, root_call, event, report, after}
 use Rattle.usb_world.specs.Courses.{is_made, made_resets, root_resets, resets, address_at, Own, Injective, is_quiet, QuietStep, quiet_data}
 use Rattle.usb_world.proofs.Booleans.{no, both, and_of, decided, neither_of}
 use Rattle.usb_world.proofs.PlugEvents.{event_place}
@@ -51,10 +49,11 @@ use Rattle.usb_world.proofs.PacketEffects.{packet_state, heard_state}
 use Rattle.usb_world.proofs.AttemptPackets.{forgotten_state, calm_sent, token_out as token_calm_out}
 use Rattle.usb_world.proofs.Holders.{twice_two}
 use Rattle.usb_world.proofs.OneDevice.{stands, state_stands}
-use Rattle.usb_world.proofs.Courses.{happened_reach, due_reach, unreset_reach, made_reach, goes}
+use Rattle.usb_world.proofs.Courses.{happened_reach, made_reach, root_reach, goes}
 use Rattle.usb_world.proofs.HarmlessRequests.{harmless_resets, IsHarmlessOut}
 use Rattle.usb_world.proofs.States.{kept_address, forgotten_address}
-use Rattle.usb_world.proofs.DueEvents.{first_shared, due_shared}
+use Rattle.usb_world.proofs.LiftedSteps.{OverEvents, OverSteps, Keeps, keeps_events, happened_by, over_taken, over_due, over_ready, over_attempt, over_step, due_alike}
+use Rattle.usb_world.proofs.DueEvents.{beside_events, ready_beside}
 
 -- A packet that is no ACK changes no address
 
@@ -134,35 +133,31 @@ replaced_state o k [] (suc j ∷ p) w = refl
 replaced_state o k (zero ∷ x) (suc j ∷ p) w = refl
 replaced_state o k (suc i ∷ x) (suc j ∷ p) w = (event_place o k i x j p w).0
 
-plugged_state : (o : Option Spec) (k : Ports) (x p : List ℕ) → (is_some o && way_of x p) ≡ false → state_there (with_plugged o x k) p ≡ state_there k p
-plugged_state None k x p h = refl
-plugged_state (Some s) k x p h = replaced_state (Some s) k x p h
-
 happened_state : (a : Action) (d : List Spec) (k : Ports) (p : List ℕ) → names_path d a p ≡ false → state_there (happened a d k) p ≡ state_there k p
-happened_state (Plug x i) d k p h = plugged_state (slice_get d i) k x p h
-happened_state (Unplug x) d k p h = replaced_state None k x p h
-happened_state Show d k p h = refl
-happened_state (Send x b) d k p h = refl
-happened_state (Receive x n) d k p h = refl
-happened_state (Clear x) d k p h = refl
+happened_state a d k p = happened_by (λ v named. named ≡ false → state_there v p ≡ state_there k p) a d k p (λ h. refl) (λ o x. replaced_state o k x p)
+
+-- a device that is reached was reached before, and is as it was
+abbrev pub Stood : List ℕ → World → World → Type 0
+Stood p w v = reach v.roots p ≡ true → (reach w.roots p ≡ true) × (state_there v.roots p ≡ state_there w.roots p)
+
+pub happened_stood : (a : Action) (d : List Spec) (k : Ports) (p : List ℕ) → reach (happened a d k) p ≡ true → (reach k p ≡ true) × (state_there (happened a d k) p ≡ state_there k p)
+happened_stood a d k p on = let before : _ = happened_reach a d k p on in (before.0, happened_state a d k p before.1)
+
+pub stood_events : (p : List ℕ) → OverEvents (Stood p)
+unfolding took
+stood_events p = record {
+  same = λ w on. (on, refl);
+  joined = λ w m v x y on. let late : _ = y on in let early : _ = x late.0 in (early.0, late.1 ∙ early.1);
+  came = λ e es w l. happened_stood e.action w.devices w.roots p;
+}
 
 pub due_state : (es : List Event) (w : World) (p : List ℕ) → reach (due_from es w).roots p ≡ true → state_there (due_from es w).roots p ≡ state_there w.roots p
-unfolding due_from took
-due_state [] w p h = refl
-due_state (e ∷ es) w p h =
-    elim (is_due e w) as (λ b. reach (if b then due_from es (took e es w) else w).roots p ≡ true → state_there (if b then due_from es (took e es w) else w).roots p ≡ state_there w.roots p) [
-      | true ↦ λ h. due_state es (took e es w) p h ∙ happened_state e.action w.devices w.roots p (happened_reach e.action w.devices w.roots p (due_reach es (took e es w) p refl h).0).1
-      | false ↦ λ h. refl
-    ] h
-
-pub first_state : (es : List Event) (w : World) (p : List ℕ) → reach (took_first es w).roots p ≡ true → state_there (took_first es w).roots p ≡ state_there w.roots p
-unfolding took
-first_state [] w p h = refl
-first_state (e ∷ es) w p h = happened_state e.action w.devices w.roots p (happened_reach e.action w.devices w.roots p h).1
+due_state es w p =
+    subst (λ (k : Ports). reach k p ≡ true → state_there k p ≡ state_there w.roots p) (ap (λ v. v.roots) (due_alike es w))
+    (λ on. (over_due (stood_events p) es (record w { left = es }) refl on).1)
 
 pub taken_state : (f : Option BusFault) (w : World) (p : List ℕ) → reach (event_taken f w).roots p ≡ true → state_there (event_taken f w).roots p ≡ state_there w.roots p
-taken_state (Some f) w p h = refl
-taken_state None w p h = first_state w.left w p h
+taken_state f w p on = (over_taken (stood_events p) f w on).1
 
 root_address : (c : PortCall) (n : ℕ) (k : Ports) (p : List ℕ) → root_resets c n k p ≡ false → address_at (changed (called c) k (n ∷ [])) p ≡ address_at k p
 root_address c n k [] h = refl
@@ -382,63 +377,33 @@ quiet_resets (root_call c n) w p h = by_path n p
 quiet_resets event w p h = refl
 quiet_resets (report l) w p h = refl
 
-attempted_address : (a : Attempt) (f : Option BusFault) (w : World) (p : List ℕ) → quiet_data a.kind a.payload ≡ true → reach w.roots p ≡ true → reach (attempted a f w).roots p ≡ true
-    → made_resets a (ready w) p ≡ false → address_at (attempted a f w).roots p ≡ address_at w.roots p
-unfolding ready
-attempted_address a (Some f) w p q on h r = refl
-attempted_address a None w p q on h r =
-    elim (w.attempts == w.limit) as (λ b. reach (if b then record w { fault = Some LimitReached } else with_attempt a (ready w)).roots p ≡ true → address_at (if b then record w { fault = Some LimitReached } else with_attempt a (ready w)).roots p ≡ address_at w.roots p) [
-      | true ↦ λ h. refl
-      | false ↦ λ h. made_address a (ready w) (quiet_sends a (damage_in (ready w)) q) p ∙ ap (option_map address_of) (due_state w.left w p (made_reach a (ready w) p r h))
-    ] h
-
-step_address : (s : Step) (w : World) (p : List ℕ) → is_quiet s ≡ true → reach w.roots p ≡ true → reach (after s w).roots p ≡ true → address_at (after s w).roots p ≡ address_at w.roots p
-unfolding after resets
-step_address (attempt a) w p q on h = attempted_address a w.fault w p q on h (by_path p)
-  where
-    by_path : (p : List ℕ) → made_resets a (ready w) p ≡ false
-    by_path [] = refl
-    by_path (zero ∷ p) = refl
-    by_path (suc j ∷ p) = (quiet_sends a (damage_in (ready w)) q).harmless (after_sent (token_out a (damage_in (ready w))) (ready w).roots) j p
-step_address (root_call c n) w p q on h = root_address c n w.roots p (quiet_resets (root_call c n) w p q)
-step_address event w p q on h = ap (option_map address_of) (taken_state w.fault w p h)
-step_address (report l) w p q on h = refl
+-- each device keeps its own address over a quiet step
+pub own_steps : (f : List ℕ → Option ℕ) → OverSteps QuietStep (Keeps (Own f))
+unfolding resets
+own_steps f = record {
+  events = keeps_events (Own f) (λ e es w l own p h. let x : _ = (stood_events p).came e es w l h in ap (option_map address_of) x.1 ∙ own p x.0);
+  made = λ a w made q own p h.
+      let rest : made_resets a (ready w) p ≡ false = ap (λ x. x && made_resets a (ready w) p) (sym made) ∙ quiet_resets (attempt a) w p q in
+      made_address a (ready w) (quiet_sends a (damage_in (ready w)) q) p ∙ own p (made_reach a (ready w) p rest h);
+  root = λ c n w q own p h. let rest : _ = quiet_resets (root_call c n) w p q in root_address c n w.roots p rest ∙ own p (root_reach c n w.roots p rest h);
+  refused = λ w own. own;
+}
 
 pub step_own : (f : List ℕ → Option ℕ) (s : Step) (w : World) → is_quiet s ≡ true → Own f w → Own f (after s w)
-step_own f s w q own p h =
-    let on : _ = (unreset_reach s w p (quiet_resets s w p q) h).0 in
-    step_address s w p q on h ∙ own p on
+step_own f = over_step (own_steps f)
+
+pub ready_own : (f : List ℕ → Option ℕ) (w : World) → Own f w → Own f (ready w)
+ready_own f = over_ready (own_steps f).events
 
 -- no mark is set
 
-pub ready_own : (f : List ℕ → Option ℕ) (w : World) → Own f w → Own f (ready w)
-unfolding ready
-ready_own f w own p h = ap (option_map address_of) (due_state w.left w p h) ∙ own p (due_reach w.left w p refl h).0
-
 -- neither a world before an attempt nor the attempt sets the mark
 pub ready_unshared : (f : List ℕ → Option ℕ) → Injective f → (w : World) → Own f w → w.shared ≡ false → ((ready w).shared || is_twice (held (ready w).roots)) ≡ false
-unfolding ready
-ready_unshared f inj w own h = neither_of (ready w).shared (is_twice (held (ready w).roots)) (due_shared w.left w ∙ h) (own_not_twice f inj (ready w) (ready_own f w own))
+ready_unshared f inj w own h = neither_of (ready w).shared (is_twice (held (ready w).roots)) (ap (λ v. v.shared) (ready_beside w) ∙ h) (own_not_twice f inj (ready w) (ready_own f w own))
 
 pub step_unshared : (f : List ℕ → Option ℕ) → Injective f → (s : Step) (w : World) → Own f w → w.shared ≡ false → (after s w).shared ≡ false
-unfolding after with_attempt ports_in ready
-step_unshared f inj (attempt a) w own h = tried w.fault
-  where
-    tried : (x : Option BusFault) → (attempted a x w).shared ≡ false
-    tried (Some x) = h
-    tried None = elim (w.attempts == w.limit) as (λ b. (if b then record w { fault = Some LimitReached } else with_attempt a (ready w)).shared ≡ false) [
-      | true ↦ h
-      | false ↦ neither_of (ready w).shared (is_twice (held (ready w).roots)) (due_shared w.left w ∙ h) (own_not_twice f inj (ready w) (ready_own f w own))
-    ]
+unfolding after with_attempt
+step_unshared f inj (attempt a) w own h = over_attempt (λ v. v.shared ≡ false) a w (λ _. (h, h)) (λ _. ready_unshared f inj w own h)
 step_unshared f inj (root_call c n) w own h = h
-step_unshared f inj event w own h = taken_it w.fault
-  where
-    taken_it : (x : Option BusFault) → (event_taken x w).shared ≡ false
-    taken_it (Some x) = h
-    taken_it None = first_shared w.left w ∙ h
+step_unshared f inj event w own h = ap (λ v. v.shared) (over_taken beside_events w.fault w) ∙ h
 step_unshared f inj (report l) w own h = h
-
--- a course of such steps keeps each reachable device at its own address, and sets no mark, whatever is lost and whatever is plugged
-pub course_own : (f : List ℕ → Option ℕ) → Injective f → {w v : World} → Course QuietStep w v → Own f w → w.shared ≡ false → Own f v × (v.shared ≡ false)
-course_own f inj (here w) own h = (own, h)
-course_own f inj (step s {w} {v} k more) own h = course_own f inj more (step_own f s w k own) (step_unshared f inj s w own h)

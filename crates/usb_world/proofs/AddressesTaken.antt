@@ -24,7 +24,8 @@ use Rattle.usb_world.proofs.Holders.{one_path}
 use Rattle.usb_world.proofs.Courses.{made_reach}
 use Rattle.usb_world.proofs.OneHolder.{holder_holds, Holder}
 use Rattle.usb_world.proofs.OneHolderAttempts.{made_is, holder_in, in_in, silent_in}
-use Rattle.usb_world.proofs.AddressesInTransfers.{due_own, data_calm, ports_address, bulk_acked}
+use Rattle.usb_world.proofs.AddressesKept.{ready_own}
+use Rattle.usb_world.proofs.AddressesInTransfers.{data_calm, ports_address, bulk_acked}
 use Rattle.usb_world.proofs.RootResets.{same_is}
 use Rattle.usb_world.proofs.Equality.{self_number, self_path}
 
@@ -144,8 +145,7 @@ module _ (a : Attempt) (w : World) (h : HolderIn a w) (into : IsIn a) (n : ℕ) 
 
   module _ (f : List ℕ → Option ℕ) (own : Own f w) where
     own_ready : Own f (ready w)
-    unfolding ready
-    own_ready = due_own f w.left w own
+    own_ready = ready_own f w own
 
     abbrev g : List ℕ → Option ℕ
     g q = if same_path (suc j ∷ p) q then Some taken else f q

@@ -39,7 +39,7 @@ use Rattle.usb_world.proofs.Booleans.{no, not_true, decided, and_none}
 use Rattle.usb_world.proofs.AwaitedAcks.{IsNoControlIn}
 use Rattle.usb_world.proofs.AddressLosses.{no_control_in_unlost, holder_loss}
 use Rattle.usb_world.proofs.Devices.{each_holder}
-use Rattle.usb_world.proofs.DueEvents.{due_losses}
+use Rattle.usb_world.proofs.DueEvents.{ready_beside}
 use Rattle.usb_world.proofs.Equality.{unequal}
 use Rattle.usb_world.proofs.OneHolder.{no_payload, none_is, token_is}
 use Rattle.usb_world.proofs.OneHolderAttempts.{made_is, ready_settled, holder_in, in_in, silent_in, ExchangedIn}
@@ -59,7 +59,7 @@ clears a w = cleared_in a (damage_in (ready w)) (ready w).roots
 pub losses_as : (a : Attempt) (w : World) (gone cleared : Bool) → IsMade a w → loses a w ≡ gone → clears a w ≡ cleared → (after (attempt a) w).losses ≡ counted gone (after_clearing cleared w.losses)
 unfolding with_attempt ready
 losses_as a w gone cleared m x y =
-    ap (λ v. v.losses) (made_is a w m) ∙ ap (λ l. counted (loses a w) (after_clearing (clears a w) l)) (due_losses w.left w) ∙ ap₂ (λ b c. counted b (after_clearing c w.losses)) x y
+    ap (λ v. v.losses) (made_is a w m) ∙ ap (λ l. counted (loses a w) (after_clearing (clears a w) l)) (ap (λ v. v.losses) (ready_beside w)) ∙ ap₂ (λ b c. counted b (after_clearing c w.losses)) x y
 
 -- Attempts that count nothing
 

@@ -1,5 +1,5 @@
 -- A port of which nothing is asked keeps its change bits and its power, where the device above it is still reached.
-use Rattle.std.proofs.Common.{◌≡◌, ℕ, zero, suc, ◌==◌, ◌&&◌, ◌||◌, not, if◌then◌else◌, Bool, true, false, List, [], ◌∷◌, ◌++◌, Option, None, Some, slice_get, is_some, refl, ap, sym, subst, ◌∙◌}
+use Rattle.std.proofs.Common.{◌≡◌, ℕ, zero, suc, ◌&&◌, ◌||◌, not, Bool, true, false, List, [], ◌∷◌, ◌++◌, Option, None, Some, refl, ap, sym, subst, ◌∙◌}
 use Rattle.std.proofs.lemmas.Option.{same_Some}
 use Rattle.usb_port.specs.PortState.{PortState, plugged, unplugged}
 use Rattle.usb_port.specs.declared.call.PortCall.{PortCall}
@@ -12,25 +12,22 @@ use Rattle.usb_device.specs.Spec.{Spec}
 use Rattle.usb_device.specs.Tree.{Ports, ended, vacant, taken, called, replaced, changed, changed_at, port_at, place_at}
 use Rattle.usb_device.specs.Delivery.{effect_of}
 use Rattle.usb_device.specs.View.{port_there}
-use Rattle.usb_world.specs.declared.event.Event.{Event}
 use Rattle.usb_world.specs.declared.event.Action.{Action}
-use Rattle.usb_world.specs.declared.event.Action.TheVariants.{Plug, Unplug, Show, Send, Receive, Clear}
 use Rattle.usb_world.specs.declared.types.Attempt.{Attempt}
-use Rattle.usb_world.specs.declared.types.BusFault.{BusFault}
-use Rattle.usb_world.specs.declared.types.BusFault.TheVariants.{LimitReached}
 use Rattle.usb_world.specs.Exchange.{token_out, payload_out, reply_out, ports_in}
 use Rattle.usb_world.specs.Paths.{is_way, on_way, same_number}
 use Rattle.usb_world.specs.AttemptPackets.{after_sent, after_attempt, sent_resets, IsAttemptAt}
 use Rattle.usb_world.specs.WayEffects.{effect_resets, resets_at, leaves_port, way_leaves, takes_reset}
 use Rattle.usb_world.specs.World.{World}
-use Rattle.usb_world.specs.Steps.{with_plugged, happened, way_of, names_path, is_due, took, took_first, due_from, ready, damage_in, with_attempt, attempted, event_taken, Step, attempt, root_call, event, report, after, Course, here, step}
-use Rattle.usb_world.specs.Courses.{is_made, made_resets, root_resets, resets}
+use Rattle.usb_world.specs.Steps.{happened, way_of, names_path, took, ready, damage_in, with_attempt, Course}
+use Rattle.usb_world.specs.Courses.{made_resets, root_resets}
 use Rattle.usb_world.specs.PortRequests.{sent_leaves, made_leaves, root_leaves, leaves_step, LeavesPort, row_reached, StillSet}
 use Rattle.usb_world.proofs.Booleans.{no, both, and_false, or_right, not_true}
 use Rattle.usb_world.proofs.PortCalls.{call_port, call_port_below}
 use Rattle.usb_world.proofs.PacketPlaces.{way_port}
 use Rattle.usb_world.proofs.AttemptPackets.{token_out as token_calm, ack_out as ack_calm, forgotten_port}
-use Rattle.usb_world.proofs.Courses.{happened_reach, due_reach, made_reach, same_device, course_wider, goes}
+use Rattle.usb_world.proofs.LiftedSteps.{OverSteps, happened_by, over_course}
+use Rattle.usb_world.proofs.Courses.{happened_reach, made_reach, root_reach, goes}
 use Rattle.usb_world.proofs.PacketWays.{calm_leaves}
 
 still_same : (b : PortState) (o : Option PortState) → o ≡ Some b → StillSet b o
@@ -109,53 +106,20 @@ replaced_bits o k (suc i ∷ x) [] (suc n) b w h = row_event o k i x n b h
 replaced_bits o k (suc i ∷ x) (zero ∷ q) n b w h = still_same b _ h
 replaced_bits o k (suc i ∷ x) (suc j ∷ q) n b w h = deep_event o k i x j q n b w h
 
-plugged_bits : (o : Option Spec) (k : Ports) (x q : List ℕ) (n : ℕ) (b : PortState) → (is_some o && way_of x q) ≡ false
-    → port_there k (q ++ (n ∷ [])) ≡ Some b → StillSet b (port_there (with_plugged o x k) (q ++ (n ∷ [])))
-plugged_bits None k x q n b w h = still_same b _ h
-plugged_bits (Some s) k x q n b w h = replaced_bits (Some s) k x q n b w h
-
 happened_bits : (a : Action) (d : List Spec) (k : Ports) (q : List ℕ) (n : ℕ) (b : PortState) → names_path d a q ≡ false
     → port_there k (q ++ (n ∷ [])) ≡ Some b → StillSet b (port_there (happened a d k) (q ++ (n ∷ [])))
-happened_bits (Plug x i) d k q n b w h = plugged_bits (slice_get d i) k x q n b w h
-happened_bits (Unplug x) d k q n b w h = replaced_bits None k x q n b w h
-happened_bits Show d k q n b w h = still_same b _ h
-happened_bits (Send x y) d k q n b w h = still_same b _ h
-happened_bits (Receive x y) d k q n b w h = still_same b _ h
-happened_bits (Clear x) d k q n b w h = still_same b _ h
+happened_bits a d k q n b =
+    happened_by (λ v named. named ≡ false → port_there k (q ++ (n ∷ [])) ≡ Some b → StillSet b (port_there v (q ++ (n ∷ [])))) a d k q (λ w h. still_same b _ h) (λ o x. replaced_bits o k x q n b)
 
 no_way : (x : List ℕ) → way_of x [] ≡ false
 unfolding is_way
 no_way [] = refl
 no_way (m ∷ x) = refl
 
--- no event is at the host itself
-names_none : (a : Action) (d : List Spec) → names_path d a [] ≡ false
-names_none (Plug x i) d = ap (λ y. is_some (slice_get d i) && y) (no_way x) ∙ and_false (is_some (slice_get d i))
-names_none (Unplug x) d = no_way x
-names_none Show d = refl
-names_none (Send x y) d = refl
-names_none (Receive x y) d = refl
-names_none (Clear x) d = refl
-
-not_named : (a : Action) (d : List Spec) (k : Ports) (q : List ℕ) → row_reached (happened a d k) q ≡ true → names_path d a q ≡ false
-not_named a d k [] h = names_none a d
-not_named a d k (m ∷ q) h = (happened_reach a d k (m ∷ q) h).1
-
-due_row : (es : List Event) (w : World) (q : List ℕ) → w.left ≡ es → row_reached (due_from es w).roots q ≡ true → row_reached w.roots q ≡ true
-due_row es w [] l h = refl
-due_row es w (m ∷ q) l h = (due_reach es w (m ∷ q) l h).0
-
-due_bits : (es : List Event) (w : World) (q : List ℕ) (n : ℕ) (b : PortState) → row_reached (due_from es w).roots q ≡ true
-    → port_there w.roots (q ++ (n ∷ [])) ≡ Some b → StillSet b (port_there (due_from es w).roots (q ++ (n ∷ [])))
-unfolding due_from took
-due_bits [] w q n b on h = still_same b _ h
-due_bits (e ∷ es) w q n b on h =
-    elim (is_due e w) as (λ x. row_reached (if x then due_from es (took e es w) else w).roots q ≡ true → StillSet b (port_there (if x then due_from es (took e es w) else w).roots (q ++ (n ∷ [])))) [
-      | true ↦ λ on. still_then b (port_there (happened e.action w.devices w.roots) (q ++ (n ∷ []))) (port_there (due_from es (took e es w)).roots (q ++ (n ∷ [])))
-          (happened_bits e.action w.devices w.roots q n b (not_named e.action w.devices w.roots q (due_row es (took e es w) q refl on)) h)
-          (λ c at. due_bits es (took e es w) q n c on at)
-      | false ↦ λ on. still_same b _ h
-    ] on
+-- where a row is reached, it was before, and no event was at it or above it; none is at the host itself
+row_happened : (a : Action) (d : List Spec) (k : Ports) (q : List ℕ) → row_reached (happened a d k) q ≡ true → (row_reached k q ≡ true) × (names_path d a q ≡ false)
+row_happened a d k [] h = (refl, happened_by (λ v named. named ≡ false) a d k [] refl (λ o. no_way))
+row_happened a d k (m ∷ q) h = happened_reach a d k (m ∷ q) h
 
 -- Attempts
 
@@ -218,13 +182,6 @@ left_root c (suc i) k (zero ∷ q) n h = refl
 left_root c (suc i) k (suc j ∷ []) n h = ap (λ x. is_reset c && (x && takes_reset (place_at k j []))) (not_true (same_number i j) h) ∙ and_false (is_reset c)
 left_root c (suc i) k (suc j ∷ x ∷ q) n h = refl
 
-left_step : (s : Step) (w : World) (q : List ℕ) (n : ℕ) → leaves_step s w (q ++ (n ∷ [])) ≡ true → resets s w q ≡ false
-unfolding leaves_step resets
-left_step (attempt a) w q n h = ap (λ x. is_made w.fault w && x) (left_made a (ready w) q n h) ∙ and_false (is_made w.fault w)
-left_step (root_call c m) w q n h = left_root c m w.roots q n h
-left_step event w q n h = refl
-left_step (report l) w q n h = refl
-
 -- Steps
 
 call_apart : (c : PortCall) (k : Ports) (i j : ℕ) (p : List ℕ) → not (same_number i j) ≡ true → port_at (changed_at (called c) k i []) j p ≡ port_at k j p
@@ -257,44 +214,27 @@ made_row : (a : Attempt) (w : World) (q : List ℕ) (n : ℕ) → made_leaves a 
 made_row a w [] n g h = refl
 made_row a w (m ∷ q) n g h = made_reach a w (m ∷ q) (left_made a w (m ∷ q) n g) h
 
-attempted_bits : (a : Attempt) (f : Option BusFault) (w : World) (q : List ℕ) (n : ℕ) (b : PortState) → made_leaves a (ready w) (q ++ (n ∷ [])) ≡ true → row_reached (attempted a f w).roots q ≡ true
-    → port_there w.roots (q ++ (n ∷ [])) ≡ Some b → StillSet b (port_there (attempted a f w).roots (q ++ (n ∷ [])))
-unfolding ready
-attempted_bits a (Some f) w q n b g on h = still_same b _ h
-attempted_bits a None w q n b g on h =
-    elim (w.attempts == w.limit) as (λ x. row_reached (if x then record w { fault = Some LimitReached } else with_attempt a (ready w)).roots q ≡ true
-    → StillSet b (port_there (if x then record w { fault = Some LimitReached } else with_attempt a (ready w)).roots (q ++ (n ∷ [])))) [
-      | true ↦ λ on. still_same b _ h
-      | false ↦ λ on. subst (StillSet b) (sym (made_port a (ready w) (q ++ (n ∷ [])) g)) (due_bits w.left w q n b (made_row a (ready w) q n g on) h)
-    ] on
+root_row : (c : PortCall) (m : ℕ) (k : Ports) (q : List ℕ) (n : ℕ) → root_leaves m (q ++ (n ∷ [])) ≡ true → row_reached (changed (called c) k (m ∷ [])) q ≡ true → row_reached k q ≡ true
+root_row c m k [] n g h = refl
+root_row c m k (x ∷ q) n g h = root_reach c m k (x ∷ q) (left_root c m k (x ∷ q) n g) h
 
-first_bits : (es : List Event) (w : World) (q : List ℕ) (n : ℕ) (b : PortState) → row_reached (took_first es w).roots q ≡ true
-    → port_there w.roots (q ++ (n ∷ [])) ≡ Some b → StillSet b (port_there (took_first es w).roots (q ++ (n ∷ [])))
-unfolding took
-first_bits [] w q n b on h = still_same b _ h
-first_bits (e ∷ es) w q n b on h = happened_bits e.action w.devices w.roots q n b (not_named e.action w.devices w.roots q on) h
+-- where a row is reached, it was before, and what was set at its port still is
+abbrev BitsStay : List ℕ → ℕ → World → World → Type 0
+BitsStay q n w v = row_reached v.roots q ≡ true → (row_reached w.roots q ≡ true) × ((b : PortState) → port_there w.roots (q ++ (n ∷ [])) ≡ Some b → StillSet b (port_there v.roots (q ++ (n ∷ []))))
 
-taken_bits : (f : Option BusFault) (w : World) (q : List ℕ) (n : ℕ) (b : PortState) → row_reached (event_taken f w).roots q ≡ true
-    → port_there w.roots (q ++ (n ∷ [])) ≡ Some b → StillSet b (port_there (event_taken f w).roots (q ++ (n ∷ [])))
-taken_bits (Some f) w q n b on h = still_same b _ h
-taken_bits None w q n b on h = first_bits w.left w q n b on h
-
-step_bits : (s : Step) (w : World) (q : List ℕ) (n : ℕ) (b : PortState) → leaves_step s w (q ++ (n ∷ [])) ≡ true → row_reached (after s w).roots q ≡ true
-    → port_there w.roots (q ++ (n ∷ [])) ≡ Some b → StillSet b (port_there (after s w).roots (q ++ (n ∷ [])))
-unfolding after leaves_step
-step_bits (attempt a) w q n b g on h = attempted_bits a w.fault w q n b g on h
-step_bits (root_call c m) w q n b g on h = still_same b _ (root_port c m w.roots (q ++ (n ∷ [])) g ∙ h)
-step_bits event w q n b g on h = taken_bits w.fault w q n b on h
-step_bits (report l) w q n b g on h = still_same b _ h
-
--- the device above the port is reached all the while
-course_row : (q : List ℕ) (n : ℕ) {w v : World} → Course (LeavesPort (q ++ (n ∷ []))) w v → row_reached v.roots q ≡ true → row_reached w.roots q ≡ true
-course_row [] n c h = refl
-course_row (m ∷ q) n c h = (same_device (m ∷ q) (course_wider (λ s w g. left_step s w (m ∷ q) n g) c) h).0
+bits_steps : (q : List ℕ) (n : ℕ) → OverSteps (LeavesPort (q ++ (n ∷ []))) (BitsStay q n)
+unfolding took leaves_step
+bits_steps q n = record {
+  events = record {
+    same = λ w on. (on, λ b h. still_same b _ h);
+    joined = λ w m v x y on. let late : _ = y on in let early : _ = x late.0 in (early.0, λ b h. still_then b (port_there m.roots (q ++ (n ∷ []))) (port_there v.roots (q ++ (n ∷ []))) (early.1 b h) late.1);
+    came = λ e es w l on. let row : _ = row_happened e.action w.devices w.roots q on in (row.0, λ b. happened_bits e.action w.devices w.roots q n b row.1);
+  };
+  made = λ a w made g on. (made_row a (ready w) q n g on, λ b h. still_same b _ (made_port a (ready w) (q ++ (n ∷ [])) g ∙ h));
+  root = λ c m w g on. (root_row c m w.roots q n g on, λ b h. still_same b _ (root_port c m w.roots (q ++ (n ∷ [])) g ∙ h));
+  refused = λ w on. (on, λ b h. still_same b _ h);
+}
 
 pub course_bits : (q : List ℕ) (n : ℕ) {w v : World} → Course (LeavesPort (q ++ (n ∷ []))) w v → row_reached v.roots q ≡ true → (b : PortState)
     → port_there w.roots (q ++ (n ∷ [])) ≡ Some b → StillSet b (port_there v.roots (q ++ (n ∷ [])))
-course_bits q n (here w) on b h = still_same b _ h
-course_bits q n (step s {w} {v} k more) on b h =
-    still_then b (port_there (after s w).roots (q ++ (n ∷ []))) (port_there v.roots (q ++ (n ∷ [])))
-    (step_bits s w q n b k (course_row q n more on) h) (course_bits q n more on)
+course_bits q n c on = (over_course (bits_steps q n) c on).1

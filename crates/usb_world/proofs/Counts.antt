@@ -1,7 +1,7 @@
 -- How the counts of several steps join.
 use Rattle.std.proofs.Common.{◌≡◌, ◌∙◌, refl, sym, ap, subst, arith, suc, zero}
 use Rattle.std.proofs.lemmas.Option.{same_Some}
-use Rattle.std.specs.Prelude.{ℕ, ◌+◌, ◌-◌, ◌<◌, ◌≤◌, List, [], ◌∷◌, length, Bool, true, false, slice_get, slice_set, slice_index_or, is_some, if◌then◌else◌, ◌&&◌, ◌==◌, Option, Some, None}
+use Rattle.std.specs.Prelude.{ℕ, ◌+◌, ◌-◌, ◌<◌, ◌≤◌, List, [], ◌∷◌, length, Bool, true, false, slice_set, slice_index_or, is_some, if◌then◌else◌, ◌&&◌, ◌==◌, Option, Some, None}
 use Rattle.usb_port.specs.PortState.{PortState, is_attached, off}
 use Rattle.std.proofs.Common.{length-set}
 use Rattle.usb_request.specs.Features.{PORT_ENABLE, PORT_RESET, PORT_POWER, C_PORT_CONNECTION, C_PORT_ENABLE, C_PORT_RESET}
@@ -9,6 +9,7 @@ use Rattle.usb_port.specs.declared.call.PortCall.{PortCall}
 use Rattle.usb_port.specs.Calls.{called_port, port_by, is_reset, set_call, clear_call, IsSetFeature, IsClearFeature}
 use Rattle.usb_device.specs.Rows.{State}
 use Rattle.usb_device.specs.Tree.{Ports, ended, vacant, taken, new_ports, first_ports, all_off, acted, Place, empty, full, before, reset_where, called, replaced, changed, changed_at, row_of}
+use Rattle.usb_world.proofs.LiftedSteps.{happened_by}
 use Rattle.usb_world.proofs.Booleans.{no}
 use Rattle.usb_world.specs.World.{World, roots_of, root_row, to_come, change_of, Spends, IsRootPort, changes, root_port_at}
 use Rattle.usb_device.specs.Spec.{Spec, Hub}
@@ -16,8 +17,7 @@ use Rattle.usb_device.specs.declared.effect.Effect.{Effect}
 use Rattle.usb_device.specs.declared.effect.Effect.TheVariants as effect
 use Rattle.usb_world.specs.PluggedDevices.{hub_ports}
 use Rattle.usb_world.specs.declared.event.Action.{Action}
-use Rattle.usb_world.specs.declared.event.Action.TheVariants.{Plug, Unplug, Show, Send, Receive, Clear}
-use Rattle.usb_world.specs.Steps.{with_plugged, happened, SetsRoot, ClearsRoot, root_call, after}
+use Rattle.usb_world.specs.Steps.{happened, SetsRoot, ClearsRoot, root_call, after}
 
 pub spends_none : (w : World) → Spends 0 w w
 spends_none w = record {
@@ -154,12 +154,7 @@ acted_long (effect.Calls c i) k = row_long_at (called c) k i []
 acted_long effect.PortsOff k = off_long k
 
 pub happened_long : (a : Action) (ds : List Spec) (k : Ports) → length (row_of (happened a ds k)) ≡ length (row_of k)
-happened_long (Plug path device) ds k = elim (slice_get ds device) as (λ o. length (row_of (with_plugged o path k)) ≡ length (row_of k)) [ None ↦ refl | Some spec ↦ row_long (replaced (Some spec)) k path ]
-happened_long (Unplug path) ds k = row_long (replaced None) k path
-happened_long Show ds k = refl
-happened_long (Send path bytes) ds k = refl
-happened_long (Receive path packets) ds k = refl
-happened_long (Clear path) ds k = refl
+happened_long a ds k = happened_by (λ v _. length (row_of v) ≡ length (row_of k)) a ds k [] refl (λ o p. row_long (replaced o) k p)
 
 -- what is written at one place sets at most one change bit of a row
 pub change_most : (p : PortState) → change_of p ≤ 1
@@ -170,9 +165,6 @@ head_changes : (q : Place) (p : PortState) (k : Ports) → changes (row_of (befo
 unfolding row_of changes
 head_changes (empty b) p k = omega (arith, change_most b)
 head_changes (full b s a) p k = omega (arith, change_most b)
-
-same_changes : (n : ℕ) → n ≤ n + 1
-same_changes n = omega arith
 
 changes_at : (f : Place → Place) (k : Ports) (i : ℕ) (p : List ℕ) → changes (row_of (changed_at f k i p)) ≤ changes (row_of k) + 1
 unfolding row_of changed_at changes
@@ -191,12 +183,7 @@ changes_path f k (zero ∷ p) = omega arith
 changes_path f k (suc i ∷ p) = changes_at f k i p
 
 pub happened_changes : (a : Action) (ds : List Spec) (k : Ports) → changes (row_of (happened a ds k)) ≤ changes (row_of k) + 1
-happened_changes (Plug path device) ds k = elim (slice_get ds device) as (λ o. changes (row_of (with_plugged o path k)) ≤ changes (row_of k) + 1) [ None ↦ same_changes (changes (row_of k)) | Some spec ↦ changes_path (replaced (Some spec)) k path ]
-happened_changes (Unplug path) ds k = changes_path (replaced None) k path
-happened_changes Show ds k = omega arith
-happened_changes (Send path bytes) ds k = omega arith
-happened_changes (Receive path packets) ds k = omega arith
-happened_changes (Clear path) ds k = omega arith
+happened_changes a ds k = happened_by (λ v _. changes (row_of v) ≤ changes (row_of k) + 1) a ds k [] (omega arith) (λ o p. changes_path (replaced o) k p)
 
 -- an event that came
 pub event_spends : (old new : World) → changes (root_row new) ≤ changes (root_row old) + 1 → roots_of new ≡ roots_of old → new.taken ≡ old.taken + 1

@@ -1,7 +1,6 @@
 -- What a step of the world does to reachable, live and pending, and what whole courses do.
-use Rattle.std.proofs.Common.{◌≡◌, ℕ, zero, suc, ◌+◌, ◌==◌, ◌&&◌, not, nat_le, length, if◌then◌else◌, ◌⊎◌, inl, inr, true, false, List, [], ◌∷◌, ◌++◌, Option, None, Some, slice_get, is_some, refl, ap, sym, subst, ◌∙◌}
+use Rattle.std.proofs.Common.{◌≡◌, ℕ, zero, suc, ◌+◌, ◌&&◌, nat_le, length, if◌then◌else◌, ◌⊎◌, inl, inr, true, false, List, [], ◌∷◌, ◌++◌, Option, None, Some, refl, ap, sym, subst, ◌∙◌}
 use Rattle.usb_port.specs.declared.call.PortCall.{PortCall}
-use Rattle.usb_port.specs.Calls.{is_clearing}
 use Rattle.usb_device.specs.declared.delivery.Content.TheVariants.{Whole}
 use Rattle.usb_device.specs.Spec.{Spec}
 use Rattle.usb_device.specs.Tree.{Ports, called, replaced, changed, reach, place}
@@ -12,12 +11,9 @@ use Rattle.arrayvec.specs.ArrayVec.{ArrayVec}
 use Rattle.usb_world.specs.declared.damage.Damage.{Damage}
 use Rattle.usb_world.specs.declared.event.Event.{Event}
 use Rattle.usb_world.specs.declared.event.Action.{Action}
-use Rattle.usb_world.specs.declared.event.Action.TheVariants.{Plug, Unplug, Show, Send, Receive, Clear}
 use Rattle.usb_world.specs.declared.exchange.ExchangeAnswer.{ExchangeAnswer}
 use Rattle.usb_world.specs.declared.exchange.ExchangeAnswer.TheVariants.{Nothing, One, Collision}
 use Rattle.usb_world.specs.declared.types.Attempt.{Attempt}
-use Rattle.usb_world.specs.declared.types.BusFault.{BusFault}
-use Rattle.usb_world.specs.declared.types.BusFault.TheVariants.{LimitReached}
 use Rattle.usb_world.specs.declared.wire.Mark.{Mark}
 use Rattle.usb_world.specs.Wire.{is_read, mark_of, harm_to, marked, marked_some}
 use Rattle.usb_world.specs.Exchange.{token_of, payload_of, reply_of, goes_out, token_out, payload_out, reply_out, heard_in, mark_in, place_of_answer, ports_in}
@@ -25,10 +21,10 @@ use Rattle.usb_world.specs.Paths.{live, pend, is_way}
 use Rattle.usb_world.specs.WayEffects.{IsNew}
 use Rattle.usb_world.specs.AttemptPackets.{IfOut, IsTokenFor, IsDataOut, IsAckOut, IsAttemptAt}
 use Rattle.usb_world.specs.World.{World}
-use Rattle.usb_world.specs.Losses.{after_clearing}
-use Rattle.usb_world.specs.Steps.{with_plugged, happened, way_of, names_path, is_due, took, took_first, due_from, ready, damage_in, with_attempt, attempted, event_taken, Step, attempt, root_call, event, report, after, Course, here, step}
+use Rattle.usb_world.specs.Steps.{happened, way_of, names_path, took, due_from, ready, damage_in, with_attempt, Step, attempt, root_call, event, report, after, Course, here, step}
 use Rattle.usb_world.specs.Courses.{NoneNames, Undisturbed, is_made, made_resets, made_spares, root_resets, root_spares, resets, spares_step, Reached, UndisturbedOrPends, NoReset, Spares}
-use Rattle.usb_world.proofs.Booleans.{no, decided}
+use Rattle.usb_world.proofs.Booleans.{no, both, decided}
+use Rattle.usb_world.proofs.LiftedSteps.{OverEvents, OverSteps, with_limit_told, with_call, happened_by, over_due, over_step, over_course, made_after}
 use Rattle.usb_world.proofs.PlugEvents.{event_reach, event_live, event_pend}
 use Rattle.usb_world.proofs.PortCalls.{call_new, call_reach, call_live, call_pend}
 use Rattle.usb_world.proofs.AttemptPackets.{attempt_reach, attempt_new, attempt_pend, attempt_live, sent_out}
@@ -80,97 +76,20 @@ replaced_live o k [] (suc j ∷ p) h = inl (h, refl)
 replaced_live o k (zero ∷ x) (suc j ∷ p) h = inl (h, refl)
 replaced_live o k (suc i ∷ x) (suc j ∷ p) h = event_live o k i x j p h
 
-plugged_reach : (o : Option Spec) (k : Ports) (x p : List ℕ) → reach (with_plugged o x k) p ≡ true → (reach k p ≡ true) × ((is_some o && way_of x p) ≡ false)
-plugged_reach None k x p h = (h, refl)
-plugged_reach (Some s) k x p h = replaced_reach (Some s) k x p h
-
-plugged_pend : (o : Option Spec) (k : Ports) (x p : List ℕ) → pend k p ≡ true → pend (with_plugged o x k) p ≡ true
-plugged_pend None k x p h = h
-plugged_pend (Some s) k x p h = replaced_pend (Some s) k x p h
-
-plugged_live : (o : Option Spec) (k : Ports) (x p : List ℕ) → live k p ≡ true
-    → ((live (with_plugged o x k) p ≡ true) × ((is_some o && way_of x p) ≡ false)) ⊎ (pend (with_plugged o x k) p ≡ true)
-plugged_live None k x p h = inl (h, refl)
-plugged_live (Some s) k x p h = replaced_live (Some s) k x p h
-
 pub happened_reach : (a : Action) (d : List Spec) (k : Ports) (p : List ℕ) → reach (happened a d k) p ≡ true → (reach k p ≡ true) × (names_path d a p ≡ false)
-happened_reach (Plug x i) d k p h = plugged_reach (slice_get d i) k x p h
-happened_reach (Unplug x) d k p h = replaced_reach None k x p h
-happened_reach Show d k p h = (h, refl)
-happened_reach (Send x b) d k p h = (h, refl)
-happened_reach (Receive x n) d k p h = (h, refl)
-happened_reach (Clear x) d k p h = (h, refl)
+happened_reach a d k p = happened_by (λ v named. reach v p ≡ true → (reach k p ≡ true) × (named ≡ false)) a d k p (λ h. (h, refl)) (λ o x. replaced_reach o k x p)
 
-pub happened_pend : (a : Action) (d : List Spec) (k : Ports) (p : List ℕ) → pend k p ≡ true → pend (happened a d k) p ≡ true
-happened_pend (Plug x i) d k p h = plugged_pend (slice_get d i) k x p h
-happened_pend (Unplug x) d k p h = replaced_pend None k x p h
-happened_pend Show d k p h = h
-happened_pend (Send x b) d k p h = h
-happened_pend (Receive x n) d k p h = h
-happened_pend (Clear x) d k p h = h
+happened_pend : (a : Action) (d : List Spec) (k : Ports) (p : List ℕ) → pend k p ≡ true → pend (happened a d k) p ≡ true
+happened_pend a d k p = happened_by (λ v _. pend k p ≡ true → pend v p ≡ true) a d k p (λ h. h) (λ o x. replaced_pend o k x p)
 
-pub happened_live : (a : Action) (d : List Spec) (k : Ports) (p : List ℕ) → live k p ≡ true → ((live (happened a d k) p ≡ true) × (names_path d a p ≡ false)) ⊎ (pend (happened a d k) p ≡ true)
-happened_live (Plug x i) d k p h = plugged_live (slice_get d i) k x p h
-happened_live (Unplug x) d k p h = replaced_live None k x p h
-happened_live Show d k p h = inl (h, refl)
-happened_live (Send x b) d k p h = inl (h, refl)
-happened_live (Receive x n) d k p h = inl (h, refl)
-happened_live (Clear x) d k p h = inl (h, refl)
+happened_live : (a : Action) (d : List Spec) (k : Ports) (p : List ℕ) → live k p ≡ true → ((live (happened a d k) p ≡ true) × (names_path d a p ≡ false)) ⊎ (pend (happened a d k) p ≡ true)
+happened_live a d k p = happened_by (λ v named. live k p ≡ true → ((live v p ≡ true) × (named ≡ false)) ⊎ (pend v p ≡ true)) a d k p (λ h. inl (h, refl)) (λ o x. replaced_live o k x p)
 
 took_reach : (e : Event) (es : List Event) (w : World) (p : List ℕ) → w.left ≡ e ∷ es → reach (took e es w).roots p ≡ true → (reach w.roots p ≡ true) × Undisturbed w (took e es w) p
 unfolding took
 took_reach e es w p l h =
     let at : _ = happened_reach e.action w.devices w.roots p h in
     (at.0, record { events = e ∷ []; split = l; silent = (at.1, tt); devices = refl })
-
-took_live : (e : Event) (es : List Event) (w : World) (p : List ℕ) → w.left ≡ e ∷ es → live w.roots p ≡ true → UndisturbedOrPends w (took e es w) p
-unfolding took
-took_live e es w p l h = pick (happened_live e.action w.devices w.roots p h)
-  where
-    pick : ((live (happened e.action w.devices w.roots) p ≡ true) × (names_path w.devices e.action p ≡ false)) ⊎ (pend (happened e.action w.devices w.roots) p ≡ true) → UndisturbedOrPends w (took e es w) p
-    pick (inl y) = inl (y.0, record { events = e ∷ []; split = l; silent = (y.1, tt); devices = refl })
-    pick (inr y) = inr y
-
-took_pend : (e : Event) (es : List Event) (w : World) (p : List ℕ) → pend w.roots p ≡ true → pend (took e es w).roots p ≡ true
-unfolding took
-took_pend e es w p h = happened_pend e.action w.devices w.roots p h
-
-pub due_reach : (es : List Event) (w : World) (p : List ℕ) → w.left ≡ es → reach (due_from es w).roots p ≡ true → (reach w.roots p ≡ true) × Undisturbed w (due_from es w) p
-unfolding due_from took
-due_reach [] w p l h = (h, undisturbed_here w w p refl refl)
-due_reach (e ∷ es) w p l h =
-    elim (is_due e w) as (λ b. reach (if b then due_from es (took e es w) else w).roots p ≡ true → (reach w.roots p ≡ true) × Undisturbed w (if b then due_from es (took e es w) else w) p) [
-      | true ↦ λ h. let on : _ = due_reach es (took e es w) p refl h in
-          let at : _ = took_reach e es w p l on.0 in (at.0, undisturbed_on w (took e es w) (due_from es (took e es w)) p at.1 on.1)
-      | false ↦ λ h. (h, undisturbed_here w w p refl refl)
-    ] h
-
-pub due_pend : (es : List Event) (w : World) (p : List ℕ) → pend w.roots p ≡ true → pend (due_from es w).roots p ≡ true
-unfolding due_from took
-due_pend [] w p h = h
-due_pend (e ∷ es) w p h =
-    elim (is_due e w) as (λ b. pend (if b then due_from es (took e es w) else w).roots p ≡ true) [
-      | true ↦ due_pend es (took e es w) p (happened_pend e.action w.devices w.roots p h)
-      | false ↦ h
-    ]
-
-due_live : (es : List Event) (w : World) (p : List ℕ) → w.left ≡ es → live w.roots p ≡ true → UndisturbedOrPends w (due_from es w) p
-unfolding due_from took
-due_live [] w p l h = inl (h, undisturbed_here w w p refl refl)
-due_live (e ∷ es) w p l h =
-    elim (is_due e w) as (λ b. UndisturbedOrPends w (if b then due_from es (took e es w) else w) p) [
-      | true ↦ pick (took_live e es w p l h) (due_live es (took e es w) p refl) (due_pend es (took e es w) p)
-      | false ↦ inl (h, undisturbed_here w w p refl refl)
-    ]
-  where
-    on : Undisturbed w (took e es w) p → UndisturbedOrPends (took e es w) (due_from es (took e es w)) p → UndisturbedOrPends w (due_from es (took e es w)) p
-    on f (inl y) = inl (y.0, undisturbed_on w (took e es w) (due_from es (took e es w)) p f y.1)
-    on f (inr y) = inr y
-
-    pick : UndisturbedOrPends w (took e es w) p → (live (took e es w).roots p ≡ true → UndisturbedOrPends (took e es w) (due_from es (took e es w)) p) → (pend (took e es w).roots p ≡ true → pend (due_from es (took e es w)).roots p ≡ true)
-        → UndisturbedOrPends w (due_from es (took e es w)) p
-    pick (inl y) live_on pend_on = on y.1 (live_on y.0)
-    pick (inr y) live_on pend_on = inr (pend_on y)
 
 -- The packets of an attempt are a token, data and an ACK
 
@@ -243,13 +162,9 @@ made_live a w [] f h = no h
 made_live a w (zero ∷ p) f h = no h
 made_live a w (suc j ∷ p) f h = attempt_live a.addr (token_out a (damage_in w)) (payload_out a (damage_in w)) (reply_out a (damage_in w) w.roots) (goes a (damage_in w) w.roots) w.roots j p f h
 
-made_rest : (a : Attempt) (w : World) (p : List ℕ) → Undisturbed w (with_attempt a w) p
-unfolding with_attempt ports_in
-made_rest a w p = undisturbed_here w (with_attempt a w) p refl refl
-
 -- A root call
 
-root_reach : (c : PortCall) (n : ℕ) (k : Ports) (p : List ℕ) → root_resets c n k p ≡ false → reach (changed (called c) k (n ∷ [])) p ≡ true → reach k p ≡ true
+pub root_reach : (c : PortCall) (n : ℕ) (k : Ports) (p : List ℕ) → root_resets c n k p ≡ false → reach (changed (called c) k (n ∷ [])) p ≡ true → reach k p ≡ true
 root_reach c n k [] f h = no h
 root_reach c n k (zero ∷ p) f h = no h
 root_reach c zero k (suc j ∷ p) f h = h
@@ -276,47 +191,40 @@ root_live c (suc i) k (suc j ∷ p) g h = call_live c k i j p g h
 -- Steps
 
 -- a device that a step resets is new after it
-attempted_new : (a : Attempt) (f : Option BusFault) (w : World) (p : List ℕ) → (is_made f w && made_resets a (ready w) p) ≡ true → IsNew (place (attempted a f w).roots p)
-attempted_new a (Some f) w p h = no h
-attempted_new a None w p h =
-    elim (w.attempts == w.limit) as (λ b. (not b && made_resets a (ready w) p) ≡ true → IsNew (place (if b then record w { fault = Some LimitReached } else with_attempt a (ready w)).roots p)) [
-      | true ↦ λ h. no h
-      | false ↦ λ h. made_new a (ready w) p h
-    ] h
-
 pub step_new : (s : Step) (w : World) (p : List ℕ) → resets s w p ≡ true → IsNew (place (after s w).roots p)
 unfolding after resets
-step_new (attempt a) w p h = attempted_new a w.fault w p h
+step_new (attempt a) w p h =
+    let x : _ = both (is_made w.fault w) (made_resets a (ready w) p) h in
+    subst (λ v. IsNew (place v.roots p)) (sym (made_after a w x.0)) (made_new a (ready w) p x.1)
 step_new (root_call c n) w p h = root_new c n w.roots p h
 step_new event w p h = no h
 step_new (report l) w p h = no h
 
-attempted_reach : (a : Attempt) (f : Option BusFault) (w : World) (p : List ℕ) → (is_made f w && made_resets a (ready w) p) ≡ false → reach (attempted a f w).roots p ≡ true
-    → (reach w.roots p ≡ true) × Undisturbed w (attempted a f w) p
-unfolding ready
-attempted_reach a (Some f) w p g h = (h, undisturbed_here w w p refl refl)
-attempted_reach a None w p g h =
-    elim (w.attempts == w.limit) as (λ b. (not b && made_resets a (ready w) p) ≡ false → reach (if b then record w { fault = Some LimitReached } else with_attempt a (ready w)).roots p ≡ true → (reach w.roots p ≡ true) × Undisturbed w (if b then record w { fault = Some LimitReached } else with_attempt a (ready w)) p) [
-      | true ↦ λ g h. (h, undisturbed_here w (record w { fault = Some LimitReached }) p refl refl)
-      | false ↦ λ g h.
-          let on : _ = due_reach w.left w p refl (made_reach a (ready w) p g h) in
-          (on.0, undisturbed_on w (ready w) (with_attempt a (ready w)) p on.1 (made_rest a (ready w) p))
-    ] g h
+-- a device that is reached was reached before, and was not disturbed
+abbrev pub StaysReached : List ℕ → World → World → Type 0
+StaysReached p w v = reach v.roots p ≡ true → (reach w.roots p ≡ true) × Undisturbed w v p
 
-first_reach : (es : List Event) (w : World) (p : List ℕ) → w.left ≡ es → reach (took_first es w).roots p ≡ true → (reach w.roots p ≡ true) × Undisturbed w (took_first es w) p
-first_reach [] w p l h = (h, undisturbed_here w w p refl refl)
-first_reach (e ∷ es) w p l h = took_reach e es w p l h
+reach_events : (p : List ℕ) → OverEvents (StaysReached p)
+reach_events p = record {
+  same = λ w h. (h, undisturbed_here w w p refl refl);
+  joined = λ w m v x y h. let late : _ = y h in let early : _ = x late.0 in (early.0, undisturbed_on w m v p early.1 late.1);
+  came = λ e es w l. took_reach e es w p l;
+}
 
-event_taken_reach : (f : Option BusFault) (w : World) (p : List ℕ) → reach (event_taken f w).roots p ≡ true → (reach w.roots p ≡ true) × Undisturbed w (event_taken f w) p
-event_taken_reach (Some f) w p h = (h, undisturbed_here w w p refl refl)
-event_taken_reach None w p h = first_reach w.left w p refl h
+reach_steps : (p : List ℕ) → OverSteps (NoReset p) (StaysReached p)
+unfolding resets with_attempt
+reach_steps p = record {
+  events = reach_events p;
+  made = λ a w made k h. (made_reach a (ready w) p (ap (λ x. x && made_resets a (ready w) p) (sym made) ∙ k) h, undisturbed_here (ready w) (with_attempt a (ready w)) p refl refl);
+  root = λ c n w k h. (root_reach c n w.roots p k h, undisturbed_here w (with_call c n w) p refl refl);
+  refused = λ w h. (h, undisturbed_here w (with_limit_told w) p refl refl);
+}
+
+pub due_reach : (es : List Event) (w : World) (p : List ℕ) → w.left ≡ es → reach (due_from es w).roots p ≡ true → (reach w.roots p ≡ true) × Undisturbed w (due_from es w) p
+due_reach es w p l = over_due (reach_events p) es w l
 
 pub unreset_reach : (s : Step) (w : World) (p : List ℕ) → resets s w p ≡ false → reach (after s w).roots p ≡ true → (reach w.roots p ≡ true) × Undisturbed w (after s w) p
-unfolding after resets
-unreset_reach (attempt a) w p g h = attempted_reach a w.fault w p g h
-unreset_reach (root_call c n) w p g h = (root_reach c n w.roots p g h, undisturbed_here w (record w { roots = changed (called c) w.roots (n ∷ []); losses = after_clearing (is_clearing c) w.losses }) p refl refl)
-unreset_reach event w p g h = event_taken_reach w.fault w p h
-unreset_reach (report l) w p g h = (h, undisturbed_here w w p refl refl)
+unreset_reach s w p = over_step (reach_steps p) s w
 
 -- a device becomes reachable in one way only: by PORT_RESET at its own port, which leaves it new
 pub step_reach : (s : Step) (w : World) (p : List ℕ) → reach (after s w).roots p ≡ true → Reached w (after s w) p (resets s w p)
@@ -326,87 +234,82 @@ step_reach s w p h = pick (decided (resets s w p))
     pick (inl y) = inr (y, step_new s w p y)
     pick (inr y) = let on : _ = unreset_reach s w p y h in inl (y, on.0, on.1)
 
--- Pending persists
-
-attempted_pend : (a : Attempt) (f : Option BusFault) (w : World) (p : List ℕ) → made_spares a (ready w) p ≡ true → pend w.roots p ≡ true → pend (attempted a f w).roots p ≡ true
-unfolding ready
-attempted_pend a (Some f) w p g h = h
-attempted_pend a None w p g h =
-    elim (w.attempts == w.limit) as (λ b. pend (if b then record w { fault = Some LimitReached } else with_attempt a (ready w)).roots p ≡ true) [
-      | true ↦ h
-      | false ↦ made_pend a (ready w) p g (due_pend w.left w p h)
-    ]
-
-first_pend : (es : List Event) (w : World) (p : List ℕ) → pend w.roots p ≡ true → pend (took_first es w).roots p ≡ true
-first_pend [] w p h = h
-first_pend (e ∷ es) w p h = took_pend e es w p h
-
-event_taken_pend : (f : Option BusFault) (w : World) (p : List ℕ) → pend w.roots p ≡ true → pend (event_taken f w).roots p ≡ true
-event_taken_pend (Some f) w p h = h
-event_taken_pend None w p h = first_pend w.left w p h
-
-pub step_pend : (s : Step) (w : World) (p : List ℕ) → spares_step s w p ≡ true → pend w.roots p ≡ true → pend (after s w).roots p ≡ true
-unfolding after spares_step
-step_pend (attempt a) w p g h = attempted_pend a w.fault w p g h
-step_pend (root_call c n) w p g h = root_pend c n w.roots p g h
-step_pend event w p g h = event_taken_pend w.fault w p h
-step_pend (report l) w p g h = h
-
--- No event comes on a live way but that it is pending
-
-attempted_live : (a : Attempt) (f : Option BusFault) (w : World) (p : List ℕ) → made_spares a (ready w) p ≡ true → live w.roots p ≡ true → UndisturbedOrPends w (attempted a f w) p
-unfolding ready
-attempted_live a (Some f) w p g h = inl (h, undisturbed_here w w p refl refl)
-attempted_live a None w p g h =
-    elim (w.attempts == w.limit) as (λ b. UndisturbedOrPends w (if b then record w { fault = Some LimitReached } else with_attempt a (ready w)) p) [
-      | true ↦ inl (h, undisturbed_here w (record w { fault = Some LimitReached }) p refl refl)
-      | false ↦ pick (due_live w.left w p refl h)
-    ]
-  where
-    pick : UndisturbedOrPends w (ready w) p → UndisturbedOrPends w (with_attempt a (ready w)) p
-    pick (inl y) = inl (made_live a (ready w) p g y.0, undisturbed_on w (ready w) (with_attempt a (ready w)) p y.1 (made_rest a (ready w) p))
-    pick (inr y) = inr (made_pend a (ready w) p g y)
-
-first_live : (es : List Event) (w : World) (p : List ℕ) → w.left ≡ es → live w.roots p ≡ true → UndisturbedOrPends w (took_first es w) p
-first_live [] w p l h = inl (h, undisturbed_here w w p refl refl)
-first_live (e ∷ es) w p l h = took_live e es w p l h
-
-event_taken_live : (f : Option BusFault) (w : World) (p : List ℕ) → live w.roots p ≡ true → UndisturbedOrPends w (event_taken f w) p
-event_taken_live (Some f) w p h = inl (h, undisturbed_here w w p refl refl)
-event_taken_live None w p h = first_live w.left w p refl h
-
-pub step_live : (s : Step) (w : World) (p : List ℕ) → spares_step s w p ≡ true → live w.roots p ≡ true → UndisturbedOrPends w (after s w) p
-unfolding after spares_step
-step_live (attempt a) w p g h = attempted_live a w.fault w p g h
-step_live (root_call c n) w p g h = inl (root_live c n w.roots p g h, undisturbed_here w (record w { roots = changed (called c) w.roots (n ∷ []); losses = after_clearing (is_clearing c) w.losses }) p refl refl)
-step_live event w p g h = event_taken_live w.fault w p h
-step_live (report l) w p g h = inl (h, undisturbed_here w w p refl refl)
-
--- Courses
-
 -- a device that is reachable after a course that does not reset it was reachable before it, and is the same one
 pub same_device : (p : List ℕ) {w v : World} → Course (NoReset p) w v → reach v.roots p ≡ true → (reach w.roots p ≡ true) × Undisturbed w v p
-same_device p (here w) h = (h, undisturbed_here w w p refl refl)
-same_device p (step s {w} {v} k more) h =
-    let on : _ = same_device p more h in
-    let first : _ = unreset_reach s w p k on.0 in
-    (first.0, undisturbed_on w (after s w) v p first.1 on.1)
+same_device p c = over_course (reach_steps p) c
+
+-- Powered on its whole way, or pending
+
+-- a relation that holds over steps that spare a path, and over an event that does not name it
+pub record OverUnnamed (K : Step → World → Type 0) (R : World → World → Type 0) (p : List ℕ) : Type 0 where
+  pub same : (w : World) → R w w
+  pub joined : (w m v : World) → R w m → R m v → R w v
+  pub came : (e : Event) (events : List Event) (w : World) → w.left ≡ e ∷ events → names_path w.devices e.action p ≡ false → R w (took e events w)
+  pub made : (a : Attempt) (w : World) → K (attempt a) w → R (ready w) (with_attempt a (ready w))
+  pub root : (c : PortCall) (n : ℕ) (w : World) → K (root_call c n) w → R w (with_call c n w)
+  pub refused : (w : World) → R w (with_limit_told w)
+  pub spares : (s : Step) (w : World) → K s w → spares_step s w p ≡ true
+
+abbrev pub OrPends : (World → World → Type 0) → List ℕ → World → World → Type 0
+OrPends R p w v = ((live v.roots p ≡ true) × R w v) ⊎ (pend v.roots p ≡ true)
+
+-- what is powered stays so and is related, or is pending; and what is pending stays so
+pub record LiveOrPends (R : World → World → Type 0) (p : List ℕ) (w v : World) : Type 0 where
+  pub powered : live w.roots p ≡ true → OrPends R p w v
+  pub pending : pend w.roots p ≡ true → pend v.roots p ≡ true
+
+module _ {K : Step → World → Type 0} {R : World → World → Type 0} {p : List ℕ} (l : OverUnnamed K R p) where
+  live_joined : (w m v : World) → LiveOrPends R p w m → LiveOrPends R p m v → LiveOrPends R p w v
+  live_joined w m v x y = record { powered = λ h. early (x.powered h); pending = λ h. y.pending (x.pending h) }
+    where
+      late : R w m → OrPends R p m v → OrPends R p w v
+      late a (inl z) = inl (z.0, l.joined w m v a z.1)
+      late a (inr z) = inr z
+
+      early : OrPends R p w m → OrPends R p w v
+      early (inl z) = late z.1 (y.powered z.0)
+      early (inr z) = inr (y.pending z)
+
+  live_came : (e : Event) (events : List Event) (w : World) → w.left ≡ e ∷ events → LiveOrPends R p w (took e events w)
+  unfolding took
+  live_came e events w left = record { powered = λ h. pick (happened_live e.action w.devices w.roots p h); pending = happened_pend e.action w.devices w.roots p }
+    where
+      pick : ((live (happened e.action w.devices w.roots) p ≡ true) × (names_path w.devices e.action p ≡ false)) ⊎ (pend (happened e.action w.devices w.roots) p ≡ true) → OrPends R p w (took e events w)
+      pick (inl y) = inl (y.0, l.came e events w left y.1)
+      pick (inr y) = inr y
+
+  pub over_live : OverSteps K (LiveOrPends R p)
+  unfolding spares_step
+  over_live = record {
+    events = record { same = λ w. record { powered = λ h. inl (h, l.same w); pending = λ h. h }; joined = live_joined; came = live_came };
+    made = λ a w made k. let spares : _ = l.spares (attempt a) w k in record { powered = λ h. inl (made_live a (ready w) p spares h, l.made a w k); pending = made_pend a (ready w) p spares };
+    root = λ c n w k. let spares : _ = l.spares (root_call c n) w k in record { powered = λ h. inl (root_live c n w.roots p spares h, l.root c n w k); pending = root_pend c n w.roots p spares };
+    refused = λ w. record { powered = λ h. inl (h, l.refused w); pending = λ h. h };
+  }
+
+-- no event comes on a live way but that it is pending
+undisturbed_steps : (p : List ℕ) → OverSteps (Spares p) (LiveOrPends (λ w v. Undisturbed w v p) p)
+unfolding took with_attempt
+undisturbed_steps p = over_live (record {
+  same = λ w. undisturbed_here w w p refl refl;
+  joined = λ w m v. undisturbed_on w m v p;
+  came = λ e es w l silent. record { events = e ∷ []; split = l; silent = (silent, tt); devices = refl };
+  made = λ a w k. undisturbed_here (ready w) (with_attempt a (ready w)) p refl refl;
+  root = λ c n w k. undisturbed_here w (with_call c n w) p refl refl;
+  refused = λ w. undisturbed_here w (with_limit_told w) p refl refl;
+  spares = λ s w k. k;
+})
+
+pub step_pend : (s : Step) (w : World) (p : List ℕ) → spares_step s w p ≡ true → pend w.roots p ≡ true → pend (after s w).roots p ≡ true
+step_pend s w p k = (over_step (undisturbed_steps p) s w k).pending
 
 pub pending_persists : (p : List ℕ) {w v : World} → Course (Spares p) w v → pend w.roots p ≡ true → pend v.roots p ≡ true
-pending_persists p (here w) h = h
-pending_persists p (step s {w} {v} k more) h = pending_persists p more (step_pend s w p k h)
+pending_persists p c = (over_course (undisturbed_steps p) c).pending
 
 pub untouched_or_pending : (p : List ℕ) {w v : World} → Course (Spares p) w v → live w.roots p ≡ true → UndisturbedOrPends w v p
-untouched_or_pending p (here w) h = inl (h, undisturbed_here w w p refl refl)
-untouched_or_pending p (step s {w} {v} k more) h = pick (step_live s w p k h) (untouched_or_pending p more) (pending_persists p more)
-  where
-    on : Undisturbed w (after s w) p → UndisturbedOrPends (after s w) v p → UndisturbedOrPends w v p
-    on u (inl y) = inl (y.0, undisturbed_on w (after s w) v p u y.1)
-    on u (inr y) = inr y
+untouched_or_pending p c = (over_course (undisturbed_steps p) c).powered
 
-    pick : UndisturbedOrPends w (after s w) p → (live (after s w).roots p ≡ true → UndisturbedOrPends (after s w) v p) → (pend (after s w).roots p ≡ true → pend v.roots p ≡ true) → UndisturbedOrPends w v p
-    pick (inl y) live_on pend_on = on y.1 (live_on y.0)
-    pick (inr y) live_on pend_on = inr (pend_on y)
+-- Courses
 
 -- courses join
 pub course_joined : {K : Step → World → Type 0} {w v u : World} → Course K w v → Course K v u → Course K w u

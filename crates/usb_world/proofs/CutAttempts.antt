@@ -1,9 +1,7 @@
 -- Each device over an attempt that the bus gave up: it was made whole, and only its line was not written; or it changed no device.
-use Rattle.std.proofs.Common.{◌≡◌, ◌≢◌, ℕ, ◌==◌, ◌||◌, List, [], ◌∷◌, true, false, ◌⊎◌, inl, inr, Option, None, Some, Err, refl, sym, subst, ap, ◌∙◌}
+use Rattle.std.proofs.Common.{◌≡◌, ◌≢◌, ℕ, ◌==◌, ◌||◌, List, true, false, ◌⊎◌, inl, inr, Option, None, Some, Err, refl, sym, subst, ap, ◌∙◌}
 use Rattle.usb_device.specs.Delivery.{held, is_twice}
-use Rattle.usb_device.specs.Tree.{Ports, reach, path_to, reach_on, state_on}
-use Rattle.usb_device.specs.View.{state_there}
-use Rattle.usb_world.specs.declared.event.Event.{Event}
+use Rattle.usb_device.specs.Tree.{Ports, path_to, reach_on, state_on}
 use Rattle.usb_world.specs.declared.types.Attempt.{Attempt}
 use Rattle.usb_world.specs.declared.types.BusFault.{BusFault}
 use Rattle.usb_world.specs.declared.types.BusFault.TheVariants.{LimitReached, Memory, TraceFailed}
@@ -11,11 +9,11 @@ use Rattle.usb_world.specs.AttemptPackets.{IsSettled}
 use Rattle.usb_world.specs.OneHolder.{IsMade}
 use Rattle.usb_world.specs.World.{World, IsAttempt, Attempted}
 use Rattle.usb_world.specs.Devices.{Relation, EachWas}
-use Rattle.usb_world.specs.Steps.{took, took_first, is_due, has_due, due_from, ready, damage_in, with_attempt, attempt, after, Coming, nothing_yet, next_came, Left, at_event, at_packet, at_line, GaveUp, AttemptFails}
-use Rattle.usb_world.proofs.AddressesKept.{due_state}
+use Rattle.usb_world.specs.Steps.{ready, damage_in, with_attempt, attempt, after, Left, at_event, at_packet, at_line, GaveUp, AttemptFails}
+use Rattle.usb_world.proofs.AddressesKept.{Stood, stood_events}
+use Rattle.usb_world.proofs.LiftedSteps.{over_ready, over_coming}
 use Rattle.usb_world.proofs.Booleans.{decided, neither}
-use Rattle.usb_world.proofs.Courses.{due_reach, happened_reach}
-use Rattle.usb_world.proofs.DueEvents.{came_shared, due_shared}
+use Rattle.usb_world.proofs.DueEvents.{came_shared, ready_beside}
 use Rattle.usb_world.proofs.Equality.{same_equal}
 use Rattle.usb_world.proofs.MadeAttempts.{limited}
 use Rattle.usb_world.proofs.OneHolderAttempts.{made_is, ready_settled}
@@ -26,40 +24,10 @@ use Rattle.usb_world.proofs.UnsharedRefusals.{cut_alone}
 abbrev Same : Relation
 Same j s v = v ≡ s
 
-first_roots : (e : Event) (es : List Event) (w : World) → is_due e w ≡ true → (due_from (e ∷ []) w).roots ≡ (took e es w).roots
-unfolding due_from took
-first_roots e es w h = rw h refl
-
-abbrev Stood : World → World → List ℕ → Type 0
-Stood w v p = (reach w.roots p ≡ true) × (state_there v.roots p ≡ state_there w.roots p)
-
-first_stood : (events : List Event) (w : World) → (elim events [ [] ↦ false | e ∷ es ↦ is_due e w ]) ≡ true → (p : List ℕ)
-    → reach (took_first events w).roots p ≡ true → Stood w (took_first events w) p
-unfolding took
-first_stood [] w d p on = (on, refl)
-first_stood (e ∷ es) w d p on =
-    let same : (due_from (e ∷ []) w).roots ≡ (took e es w).roots = first_roots e es w d in
-    ((happened_reach e.action w.devices w.roots p on).0, ap (λ k. state_there k p) (sym same) ∙ due_state (e ∷ []) w p (ap (λ k. reach k p) same ∙ on))
-
-next_stood : (w : World) → has_due w ≡ true → (p : List ℕ) → reach (took_first w.left w).roots p ≡ true → Stood w (took_first w.left w) p
-unfolding has_due
-next_stood w d p on = first_stood w.left w d p on
-
-came_stood : {w v : World} → Coming w v → (p : List ℕ) → reach v.roots p ≡ true → Stood w v p
-came_stood (nothing_yet w) p on = (on, refl)
-came_stood (next_came {w} {v} c due) p on =
-    let last : Stood v (took_first v.left v) p = next_stood v due p on in
-    let before : Stood w v p = came_stood c p last.0 in
-    (before.0, last.1 ∙ before.1)
-
-each_stood : (w v : World) → ((p : List ℕ) → reach v.roots p ≡ true → Stood w v p) → EachWas Same w v
+each_stood : (w v : World) → ((p : List ℕ) → Stood p w v) → EachWas Same w v
 each_stood w v f j s on there =
-    let x : Stood w v (path_to j) = f (path_to j) on in
+    let x : _ = f (path_to j) on in
     record { before = s; on = x.0; stands = sym x.1 ∙ there; so = refl }
-
-ready_stood : (w : World) (p : List ℕ) → reach (ready w).roots p ≡ true → Stood w (ready w) p
-unfolding ready
-ready_stood w p on = ((due_reach w.left w p refl on).0, due_state w.left w p on)
 
 -- What is so of each device depends on the ports alone
 
@@ -74,8 +42,7 @@ pub data Cut (a : Attempt) (w v : World) : Type 0 where
   made_whole : w.shared ≡ false → IsMade a w → (after (attempt a) w).shared ≡ false → (after (attempt a) w).roots ≡ v.roots → Cut a w v
 
 ready_shared : (w : World) → (ready w).shared ≡ w.shared
-unfolding ready
-ready_shared w = due_shared w.left w
+ready_shared w = ap (λ v. v.shared) (ready_beside w)
 
 cut_at : (a : Attempt) (w x v : World) → x.roots ≡ v.roots → Cut a w x → Cut a w v
 cut_at a w x v e (unmade h each) = unmade h (each_at Same w x v e each)
@@ -91,11 +58,11 @@ packet_cut : (a : Attempt) (w x : World) (k : Ports) → k ≡ (ready w).roots �
 packet_cut a w x k e is single =
     let both : (ready w).shared || is_twice (held (ready w).roots) ≡ false = sym (ap (λ y. y.shared) is) ∙ single in
     unmade (sym (ready_shared w) ∙ (neither (ready w).shared (is_twice (held (ready w).roots)) both).0)
-    (each_at Same w (ready w) x (sym (ap (λ y. y.roots) is ∙ e)) (each_stood w (ready w) (ready_stood w)))
+    (each_at Same w (ready w) x (sym (ap (λ y. y.roots) is ∙ e)) (each_stood w (ready w) (λ p. over_ready (stood_events p) w)))
 
 module _ (a : Attempt) (w : World) (fits : IsAttempt a) (sound : w.fault ≡ None) (settled : IsSettled w.roots) where
   left_cut : (f : BusFault) (x : World) → w.attempts ≢ w.limit → Left a w f x → x.shared ≡ false → Cut a w x
-  left_cut f x below (at_event c) single = unmade (sym (came_shared c) ∙ single) (each_stood w x (came_stood c))
+  left_cut f x below (at_event c) single = unmade (sym (came_shared c) ∙ single) (each_stood w x (λ p. over_coming (stood_events p) c))
   left_cut f x below (at_packet k e c is) single =
       let both : (ready w).shared || is_twice (held (ready w).roots) ≡ false = sym (ap (λ y. y.shared) is) ∙ single in
       packet_cut a w x k

@@ -1,17 +1,29 @@
 -- What the events that come before an attempt, or as a step, leave of a world as it was.
-use Rattle.std.proofs.Common.{◌≡◌, Bool, true, false, List, [], ◌∷◌, if◌then◌else◌, refl, ◌∙◌}
+use Rattle.std.proofs.Common.{◌≡◌, List, [], ◌∷◌, refl, sym, ap, ◌∙◌}
 use Rattle.usb_world.specs.declared.event.Event.{Event}
 use Rattle.usb_world.specs.World.{World}
-use Rattle.usb_world.specs.Steps.{is_due, took, took_first, due_from, damage_in, Coming, nothing_yet, next_came}
+use Rattle.usb_world.specs.Steps.{took, took_first, due_from, ready, Coming}
+use Rattle.usb_world.proofs.LiftedSteps.{OverEvents, over_due, over_ready, over_coming, due_alike}
+
+-- all is as it was but the ports, the events to come, how many came, and when the last one did
+abbrev pub SameBeside : World → World → Type 0
+SameBeside w v = record v { roots = w.roots; left = w.left; taken = w.taken; attempts_then = w.attempts_then } ≡ w
+
+pub beside_events : OverEvents SameBeside
+unfolding took
+beside_events = record {
+  same = λ w. refl;
+  joined = λ w m v x y. ap (λ (u : World). record u { roots = w.roots; left = w.left; taken = w.taken; attempts_then = w.attempts_then }) y ∙ x;
+  came = λ e events w l. refl;
+}
+
+pub ready_beside : (w : World) → SameBeside w (ready w)
+ready_beside w = over_ready beside_events w
 
 pub first_fault : (events : List Event) (w : World) → (took_first events w).fault ≡ w.fault
 unfolding took
 first_fault [] w = refl
 first_fault (e ∷ events) w = refl
-
-pub came_fault : {w v : World} → Coming w v → v.fault ≡ w.fault
-came_fault (nothing_yet w) = refl
-came_fault (next_came {w} {v} c due) = first_fault v.left v ∙ came_fault c
 
 pub first_shared : (es : List Event) (w : World) → (took_first es w).shared ≡ w.shared
 unfolding took
@@ -19,29 +31,7 @@ first_shared [] w = refl
 first_shared (e ∷ es) w = refl
 
 pub due_shared : (es : List Event) (w : World) → (due_from es w).shared ≡ w.shared
-unfolding due_from took
-due_shared [] w = refl
-due_shared (e ∷ es) w = elim (is_due e w) as (λ b. (if b then due_from es (took e es w) else w).shared ≡ w.shared) [ true ↦ due_shared es (took e es w) | false ↦ refl ]
+due_shared es w = ap (λ v. v.shared) (sym (due_alike es w)) ∙ ap (λ v. v.shared) (over_due beside_events es (record w { left = es }) refl)
 
 pub came_shared : {w v : World} → Coming w v → v.shared ≡ w.shared
-came_shared (nothing_yet w) = refl
-came_shared (next_came {w} {v} c due) = first_shared v.left v ∙ came_shared c
-
-pub due_losses : (es : List Event) (w : World) → (due_from es w).losses ≡ w.losses
-unfolding due_from took
-due_losses [] w = refl
-due_losses (e ∷ es) w = split (is_due e w) (due_losses es (took e es w))
-  where
-    split : (x : Bool) → (due_from es (took e es w)).losses ≡ w.losses → (if x then due_from es (took e es w) else w).losses ≡ w.losses
-    split true g = g
-    split false g = refl
-
--- the events that are due change neither the damages nor how many attempts were made
-pub due_damage : (es : List Event) (w : World) → damage_in (due_from es w) ≡ damage_in w
-unfolding due_from took
-due_damage [] w = refl
-due_damage (e ∷ es) w = split (is_due e w) (due_damage es (took e es w))
-  where
-    split : (x : Bool) → damage_in (due_from es (took e es w)) ≡ damage_in w → damage_in (if x then due_from es (took e es w) else w) ≡ damage_in w
-    split true g = g
-    split false g = refl
+came_shared c = ap (λ v. v.shared) (over_coming beside_events c)

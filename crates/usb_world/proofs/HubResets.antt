@@ -23,7 +23,7 @@ use Rattle.usb_world.proofs.OneDevice.{state_stands}
 use Rattle.usb_world.proofs.Courses.{made_reach, step_new}
 use Rattle.usb_world.proofs.OneHolder.{replied, holder_holds, Holder}
 use Rattle.usb_world.proofs.OneHolderAttempts.{made_is, made_true, holder_in, setup_in, silent_in, others_in}
-use Rattle.usb_world.proofs.AddressesInTransfers.{due_own}
+use Rattle.usb_world.proofs.AddressesKept.{ready_own}
 use Rattle.usb_world.proofs.RootResets.{is_same, same_is, new_address}
 use Rattle.usb_world.proofs.HolderRequests.{other_rests}
 
@@ -114,8 +114,7 @@ module _ (a : Attempt) (w : World) (h : HolderIn a w) (bytes : List ℕ) (is : I
   one = holder_in a w h
 
   own_ready : Own f (ready w)
-  unfolding ready
-  own_ready = due_own f w.left w own
+  own_ready = ready_own f w own
 
   -- the device at a path has the address that it had
   abbrev Stays : ℕ → List ℕ → Type 0

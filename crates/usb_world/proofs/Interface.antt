@@ -1,6 +1,6 @@
 -- The lemmas that crates above cite. All others are for this crate alone.
 pub use Rattle.usb_world.proofs.AddressesInTransfers.{course_keeps, data_calm, data_own, due_own}
-pub use Rattle.usb_world.proofs.AddressesKept.{due_state, first_state, own_not_twice, quiet_resets, ready_own, step_own, step_unshared, taken_state}
+pub use Rattle.usb_world.proofs.AddressesKept.{due_state, happened_stood, own_not_twice, quiet_resets, ready_own, ready_unshared, step_own, step_unshared, taken_state}
 pub use Rattle.usb_world.proofs.AddressesTaken.{seen, unseen}
 pub use Rattle.usb_world.proofs.AttemptLosses.{CountsNone, Counts, EndsWithAddress, StaysEndless, each_counts, got_it, got_none, in_clears, in_counts, loses, losses_as, out_counts, set_up_counts}
 pub use Rattle.usb_world.proofs.AttemptPackets.{CalmOut, ack_out, calm_sent, token_out}
@@ -11,11 +11,12 @@ pub use Rattle.usb_world.proofs.Courses.{course_joined, course_then, course_wide
 pub use Rattle.usb_world.proofs.CutAttempts.{Cut, cut_or_same, made_whole, unmade}
 pub use Rattle.usb_world.proofs.DamageEffects.{losses_after, losses_cleared, no_losses_yet, until_most}
 pub use Rattle.usb_world.proofs.Devices.{each_beside, each_both, each_in, each_joined, each_none, each_out, each_setup, each_wider}
-pub use Rattle.usb_world.proofs.DueEvents.{came_shared, due_shared, first_fault, first_shared}
+pub use Rattle.usb_world.proofs.DueEvents.{came_shared, due_shared, ready_beside, first_fault, first_shared}
 pub use Rattle.usb_world.proofs.Equality.{equal_same, same_equal, self_number, self_path, swapped, unequal}
 pub use Rattle.usb_world.proofs.HolderOfAttempt.{holder_or_nobody, one_answers}
 pub use Rattle.usb_world.proofs.HolderRequests.{elsewhere, others_asked_nothing, others_leave, self_asked}
 pub use Rattle.usb_world.proofs.HubResets.{hub_reset, hub_rest, register_address}
+pub use Rattle.usb_world.proofs.LiftedSteps.{Keeps, OverEvents, OverSteps, due_alike, happened_by, keeps_events, kept_course, made_after, over_attempt, over_coming, over_course, over_due, over_first, over_ready, over_step, over_taken, with_call, with_limit_told}
 pub use Rattle.usb_world.proofs.MadeAttempts.{faulted, limited, made_damages, made_step, made_unshared}
 pub use Rattle.usb_world.proofs.OneDevice.{other_address, rest_state, rested_effect, settled_memory, stands, state_stands, token_calls}
 pub use Rattle.usb_world.proofs.OneHolder.{is_state, remembers, third}
@@ -33,5 +34,5 @@ pub use Rattle.usb_world.proofs.RestingPorts.{rests_or_pends, stands_or_pends}
 pub use Rattle.usb_world.proofs.RootResets.{is_same, reset_distinct, reset_own, rest_own, same_is, taken_distinct}
 pub use Rattle.usb_world.proofs.SanePorts.{ports_counted, ports_stand, reach_live, sane_new_ports, sane_spec}
 pub use Rattle.usb_world.proofs.States.{unreset}
-pub use Rattle.usb_world.proofs.StepInvariants.{between_after, between_course, between_opening, between_ready, sane_called_at, sane_happened, sane_ports, settled_called, settled_happened, settled_new, settled_ports}
+pub use Rattle.usb_world.proofs.StepInvariants.{between_after, between_course, between_opening, between_ready, course_taken, ready_taken, sane_called_at, sane_happened, sane_ports, settled_after, settled_called, settled_happened, settled_new, settled_ports}
 pub use Rattle.usb_world.proofs.Ways.{at_or_below_way, way_apart, way_itself, way_parent, way_rest, way_shorter, way_trans}

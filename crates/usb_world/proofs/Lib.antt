@@ -12,6 +12,7 @@ pub mod DamageEffects
 pub mod Booleans
 pub mod Equality
 pub mod States
+pub mod LiftedSteps
 pub mod DueEvents
 pub mod PlugEvents
 pub mod PortCalls

@@ -21,7 +21,6 @@ use Rattle.usb_world.specs.declared.types.Attempt.{Attempt}
 use Rattle.usb_world.specs.declared.types.BusFault.TheVariants.{LimitReached}
 use Rattle.usb_world.specs.declared.types.Outcome.TheVariants as outcome
 use Rattle.usb_world.specs.declared.damage.Damage.{Damage}
-use Rattle.usb_world.specs.declared.event.Event.{Event}
 use Rattle.usb_world.specs.declared.exchange.ExchangeAnswer.{ExchangeAnswer}
 use Rattle.usb_world.specs.declared.exchange.ExchangeAnswer.TheVariants.{Nothing, One, Collision}
 use Rattle.usb_world.specs.declared.wire.Mark.TheVariants as mark
@@ -32,13 +31,14 @@ use Rattle.usb_world.specs.Exchange.{token_of, payload_of, reply_of, answer_mark
 use Rattle.usb_world.specs.AttemptPackets.{heard_by, deep_at, attempt_resets, IsSettled, NobodyHolds}
 use Rattle.usb_world.specs.World.{World, Made}
 use Rattle.usb_world.specs.Courses.{is_made, resets}
-use Rattle.usb_world.specs.Steps.{is_due, took, due_from, ready, damage_in, with_attempt, outcome_in, attempt, after}
+use Rattle.usb_world.specs.Steps.{AnyStep, ready, damage_in, with_attempt, outcome_in, attempt, after}
 use Rattle.usb_world.specs.OneHolder.{way_to, way_back, token_way, answer_way, reply_way, out_alone, in_alone, IsSetup, IsOut, IsIn, hears_attempt, IsMade, HolderIn, payload_way, got}
 use Rattle.usb_world.proofs.Booleans.{no, neither}
-use Rattle.usb_world.proofs.StepInvariants.{settled_happened}
+use Rattle.usb_world.proofs.StepInvariants.{settled_steps}
+use Rattle.usb_world.proofs.LiftedSteps.{over_ready}
 use Rattle.usb_world.proofs.OneHolder.{replied, outcome_unread, remembers, acts, rests, first, second, third, second_below, is_heard_in, is_state, token_is, none_is, in_same, asked, asked_reply, nobody, setup_one, out_one, in_one, setup_alone, Holder, ExchangedWithHolder}
 use Rattle.usb_world.proofs.Equality.{unequal, same_equal}
-use Rattle.usb_world.proofs.DueEvents.{due_damage}
+use Rattle.usb_world.proofs.DueEvents.{ready_beside}
 
 -- each packet of an attempt that goes out comes whole
 pub record AllWhole (a : Attempt) (damage : Option Damage) (k : Ports) (deep : Bool) (s : State) : Type 0 where
@@ -179,18 +179,8 @@ module _ (a : Attempt) (k : Ports) (h : Holder a.addr k) (loud : h.own.spec.sile
 
 -- Worlds
 
-due_settled : (es : List Event) (w : World) → IsSettled w.roots → IsSettled (due_from es w).roots
-unfolding due_from took
-due_settled [] w h = h
-due_settled (e ∷ es) w h = split (is_due e w) (due_settled es (took e es w) (settled_happened e.action w.devices w.roots h))
-  where
-    split : (x : Bool) → IsSettled (due_from es (took e es w)).roots → IsSettled (if x then due_from es (took e es w) else w).roots
-    split true g = g
-    split false g = h
-
 pub ready_settled : (w : World) → IsSettled w.roots → IsSettled (ready w).roots
-unfolding ready
-ready_settled w h = due_settled w.left w h
+ready_settled = over_ready (settled_steps {K = AnyStep}).events
 
 pub made_is : (a : Attempt) (w : World) → IsMade a w → after (attempt a) w ≡ with_attempt a (ready w)
 unfolding after
@@ -208,8 +198,7 @@ pub made_true : (a : Attempt) (w : World) → IsMade a w → is_made w.fault w �
 made_true a w m = rw (m.sound, unequal w.attempts w.limit m.within) refl
 
 pub damage_ready : (w : World) → damage_in (ready w) ≡ damage_in w
-unfolding ready
-damage_ready w = due_damage w.left w
+damage_ready w = ap damage_in (ready_beside w)
 
 pub nobody_in : (a : Attempt) (w : World) → IsMade a w → NobodyHolds a.addr (ready w).roots → (outcome_in a w ≡ outcome.Nothing) × ((after (attempt a) w).roots ≡ (ready w).roots)
 unfolding outcome_in with_attempt

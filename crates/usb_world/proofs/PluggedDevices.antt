@@ -1,5 +1,5 @@
 -- What is plugged where in a course of steps.
-use Rattle.std.proofs.Common.{◌≡◌, ℕ, zero, suc, ◌+◌, ◌<◌, ◌==◌, ◌&&◌, ⊎_elim, not, if◌then◌else◌, Bool, true, false, List, [], ◌∷◌, ◌++◌, length, take, drop, Option, None, Some, is_some, option_map, slice_get, nat_lt, nat_le, refl, ap, sym, subst, ◌∙◌, arith, append_assoc, length-append}
+use Rattle.std.proofs.Common.{◌≡◌, ℕ, zero, suc, ◌+◌, ◌<◌, ◌&&◌, ⊎_elim, not, true, false, List, [], ◌∷◌, ◌++◌, length, take, drop, Option, None, Some, is_some, option_map, slice_get, nat_lt, nat_le, refl, ap, sym, subst, ◌∙◌, arith, append_assoc, length-append}
 use Rattle.std.proofs.lemmas.Bool.{ltb-true}
 use Rattle.std.proofs.lemmas.List.Elements.{All-head, All-tail}
 use Rattle.std.proofs.lemmas.Option.{slice_get_cases}
@@ -10,18 +10,16 @@ use Rattle.usb_device.specs.View.{state_there}
 use Rattle.usb_world.specs.declared.event.Action.{Action}
 use Rattle.usb_world.specs.declared.event.Action.TheVariants.{Plug, Unplug, Show, Send, Receive, Clear}
 use Rattle.usb_world.specs.declared.event.Event.{Event}
-use Rattle.usb_world.specs.declared.types.Attempt.{Attempt}
-use Rattle.usb_world.specs.declared.types.BusFault.{BusFault}
-use Rattle.usb_world.specs.declared.types.BusFault.TheVariants.{LimitReached}
 use Rattle.usb_world.specs.PlanLimits.{after_most}
 use Rattle.usb_world.specs.PlanData.{PlanData, IsPlan, is_taken, action_fits, event_fits, events_fit}
 use Rattle.usb_world.specs.PluggedDevices.{PluggedMap, plugged_by, plugged_after, index_at, device_indexed, is_rooted, has_port}
 use Rattle.usb_world.specs.PlanCourses.{FollowsPlan, AtPorts, PlugsAtPort, spec_of}
 use Rattle.usb_world.specs.World.{World}
 use Rattle.usb_world.specs.Courses.{NoneNames, Undisturbed}
-use Rattle.usb_world.specs.Steps.{names_path, way_of, happened, with_plugged, took, took_first, is_due, due_from, ready, damage_in, with_attempt, attempted, event_taken, Step, attempt, root_call, event, report, after, AnyStep, Course, here, step, opening}
+use Rattle.usb_world.specs.Steps.{names_path, way_of, happened, with_plugged, took, ready, damage_in, with_attempt, after, AnyStep, Course, opening}
 use Rattle.usb_world.specs.Paths.{is_way}
 use Rattle.usb_world.proofs.Booleans.{no, both}
+use Rattle.usb_world.proofs.LiftedSteps.{OverSteps, Keeps, keeps_events, happened_by, over_course}
 use Rattle.usb_world.proofs.Ways.{undisturbed_on_way}
 use Rattle.usb_world.proofs.PluggedShapes.{Shape, Fits, spec_there, has_there, put_there, there_other, gaps, empty_gaps, fits_gaps, fits_there}
 use Rattle.usb_world.proofs.PluggedPorts.{shape, described_there, shape_root, shape_attempt, shape_new, shape_event}
@@ -37,49 +35,17 @@ record Alike (w v : World) : Type 0 where
 -- What each event keeps, and what hangs only on what is plugged and left, each course keeps
 module _ (J : World → Type 0) (by_event : (e : Event) (events : List Event) (w : World) → w.left ≡ e ∷ events → J w → J (took e events w))
     (by_rest : (w v : World) → Alike w v → J w → J v) where
-  first_keeps : (events : List Event) (w : World) → w.left ≡ events → J w → J (took_first events w)
-  first_keeps [] w e h = h
-  first_keeps (x ∷ events) w e h = by_event x events w e h
-
-  due_keeps : (events : List Event) (w : World) → w.left ≡ events → J w → J (due_from events w)
-  unfolding due_from took
-  due_keeps [] w e h = h
-  due_keeps (x ∷ events) w e h = split (is_due x w) (due_keeps events (took x events w) refl (by_event x events w e h))
-    where
-      split : (b : Bool) → J (due_from events (took x events w)) → J (if b then due_from events (took x events w) else w)
-      split true g = g
-      split false g = h
-
-  ready_keeps : (w : World) → J w → J (ready w)
-  unfolding ready
-  ready_keeps w h = due_keeps w.left w refl h
-
-  made_keeps : (a : Attempt) (w : World) → J w → J (with_attempt a w)
+  plan_steps : OverSteps AnyStep (Keeps J)
   unfolding with_attempt
-  made_keeps a w h = by_rest w _ (record { left = refl; taken = refl; devices = refl; shape = shape_attempt a (damage_in w) w.roots }) h
-
-  attempt_keeps : (a : Attempt) (f : Option BusFault) (w : World) → J w → J (attempted a f w)
-  attempt_keeps a (Some f) w h = h
-  attempt_keeps a None w h = split (w.attempts == w.limit)
-    where
-      split : (b : Bool) → J (if b then record w { fault = Some LimitReached } else with_attempt a (ready w))
-      split true = by_rest w _ (record { left = refl; taken = refl; devices = refl; shape = refl }) h
-      split false = made_keeps a (ready w) (ready_keeps w h)
-
-  event_keeps : (f : Option BusFault) (w : World) → J w → J (event_taken f w)
-  event_keeps (Some f) w h = h
-  event_keeps None w h = first_keeps w.left w refl h
-
-  step_keeps : (s : Step) (w : World) → J w → J (after s w)
-  unfolding after
-  step_keeps (attempt a) w h = attempt_keeps a w.fault w h
-  step_keeps (root_call c n) w h = by_rest w _ (record { left = refl; taken = refl; devices = refl; shape = shape_root c w.roots (n ∷ []) }) h
-  step_keeps event w h = event_keeps w.fault w h
-  step_keeps (report line) w h = h
+  plan_steps = record {
+    events = keeps_events J by_event;
+    made = λ a w made k. by_rest (ready w) _ (record { left = refl; taken = refl; devices = refl; shape = shape_attempt a (damage_in (ready w)) (ready w).roots });
+    root = λ c n w k. by_rest w _ (record { left = refl; taken = refl; devices = refl; shape = shape_root c w.roots (n ∷ []) });
+    refused = λ w. by_rest w _ (record { left = refl; taken = refl; devices = refl; shape = refl });
+  }
 
   course_keeps : {w v : World} → Course AnyStep w v → J w → J v
-  course_keeps (here w) h = h
-  course_keeps (step s {w} {v} k c) h = course_keeps c (step_keeps s w h)
+  course_keeps c = over_course plan_steps c
 
 -- The events
 
@@ -231,17 +197,9 @@ way_away : (o : Option Spec) (x : Shape) (e p : List ℕ) → way_of e p ≡ fal
 way_away o x [] p h = refl
 way_away o x (m ∷ e) p h = there_other o x (m ∷ e) p h
 
-plug_away : (o : Option Spec) (e : List ℕ) (k : Ports) (p : List ℕ) → (is_some o && way_of e p) ≡ false → spec_there (shape (with_plugged o e k)) p ≡ spec_there (shape k) p
-plug_away None e k p h = refl
-plug_away (Some t) e k p h = ap (λ x. spec_there x p) (shape_event (Some t) k e) ∙ way_away (Some t) (shape k) e p h
-
 happened_away : (a : Action) (ds : List Spec) (k : Ports) (p : List ℕ) → names_path ds a p ≡ false → spec_there (shape (happened a ds k)) p ≡ spec_there (shape k) p
-happened_away (Plug e d) ds k p h = plug_away (slice_get ds d) e k p h
-happened_away (Unplug e) ds k p h = ap (λ x. spec_there x p) (shape_event None k e) ∙ way_away None (shape k) e p h
-happened_away Show ds k p h = refl
-happened_away (Send e bytes) ds k p h = refl
-happened_away (Receive e packets) ds k p h = refl
-happened_away (Clear e) ds k p h = refl
+happened_away a ds k p =
+    happened_by (λ v named. named ≡ false → spec_there (shape v) p ≡ spec_there (shape k) p) a ds k p (λ h. refl) (λ o e h. ap (λ x. spec_there x p) (shape_event o k e) ∙ way_away o (shape k) e p h)
 
 none_parts : (ds : List Spec) (past : List Event) (e : Event) (p : List ℕ) → NoneNames ds (past ++ e ∷ []) p → NoneNames ds past p × (names_path ds e.action p ≡ false)
 none_parts ds [] e p h = (tt, h.0)

@@ -1,5 +1,5 @@
 -- Devices that are reachable after an attempt, or the events before it: the one that holds its address still is, and each was before.
-use Rattle.std.proofs.Common.{◌≡◌, ℕ, true, false, List, Option, Some, option_map, refl, sym, ap, ap₂, ◌∙◌}
+use Rattle.std.proofs.Common.{◌≡◌, ℕ, true, false, List, Option, Some, option_map, sym, ap, ap₂, ◌∙◌}
 use Rattle.std.proofs.lemmas.Option.{same_Some}
 use Rattle.usb_device.specs.Rows.{State}
 use Rattle.usb_device.specs.Tree.{Ports, reach_at, state_at, Spot, path_to, reach_on, state_on}
@@ -14,9 +14,10 @@ use Rattle.usb_world.specs.OneHolder.{IsMade, HolderIn}
 use Rattle.usb_world.specs.Addresses.{is_setup}
 use Rattle.usb_world.specs.Paths.{address_of}
 use Rattle.usb_world.proofs.AddressesInTransfers.{data_calm}
-use Rattle.usb_world.proofs.AddressesKept.{due_state}
+use Rattle.usb_world.proofs.AddressesKept.{stood_events}
+use Rattle.usb_world.proofs.LiftedSteps.{over_ready}
 use Rattle.usb_world.proofs.AttemptPackets.{forgotten_reach}
-use Rattle.usb_world.proofs.Courses.{due_reach, made_reach}
+use Rattle.usb_world.proofs.Courses.{made_reach}
 use Rattle.usb_world.proofs.Holders.{one_path}
 use Rattle.usb_world.proofs.OneHolder.{acts, Holder}
 use Rattle.usb_world.proofs.OneHolderAttempts.{made_is, holder_in, ready_settled}
@@ -35,8 +36,7 @@ stays_reachable_in a w h =
 
 -- before the events that were due
 pub due_back : (w : World) (j : Spot) → reach_on (ready w).roots j ≡ true → (reach_on w.roots j ≡ true) × (state_on (ready w).roots j ≡ state_on w.roots j)
-unfolding ready
-due_back w j on = ((due_reach w.left w (path_to j) refl on).0, due_state w.left w (path_to j) on)
+due_back w j = over_ready (stood_events (path_to j)) w
 
 -- before IN and OUT
 pub data_back : (a : Attempt) (w : World) → IsMade a w → is_setup a.kind ≡ false → (j : Spot) → reach_on (after (attempt a) w).roots j ≡ true → reach_on (ready w).roots j ≡ true

@@ -13,26 +13,15 @@ use Rattle.usb_world.specs.AttemptPackets.{IsSettled}
 use Rattle.usb_world.specs.SanePorts.{IsSane}
 use Rattle.usb_world.specs.World.{World, IsAttempt, Attempted}
 use Rattle.usb_world.specs.Courses.{address_at, Own, Injective}
-use Rattle.usb_world.specs.Steps.{took_first, event_taken, event, after, ready, damage_in, with_attempt, Coming, nothing_yet, next_came, Left, at_event, at_packet, at_line, GaveUp, AttemptFails, attempt, IsBetween, IsCut}
-use Rattle.usb_world.proofs.StepInvariants.{between_ready, between_after}
-use Rattle.usb_world.proofs.AddressesKept.{step_own, ready_unshared, ready_own}
+use Rattle.usb_world.specs.Steps.{AnyStep, after, ready, damage_in, with_attempt, Left, at_event, at_packet, at_line, GaveUp, AttemptFails, attempt, IsCut}
+use Rattle.usb_world.proofs.StepInvariants.{between_ready, between_steps}
+use Rattle.usb_world.proofs.AddressesKept.{own_steps, ready_unshared, ready_own}
+use Rattle.usb_world.proofs.LiftedSteps.{over_coming}
 use Rattle.usb_world.proofs.Booleans.{no}
 use Rattle.usb_world.proofs.OneHolderAttempts.{ready_settled, at_limit}
 use Rattle.usb_world.proofs.AlikeTrees.{Alike, self_of}
 use Rattle.usb_world.proofs.CutPackets.{cut_alike}
-use Rattle.usb_world.proofs.DueEvents.{came_fault, came_shared}
-
--- Events that came
-
-event_is : (w : World) → w.fault ≡ None → after event w ≡ took_first w.left w
-unfolding after
-event_is w h = ap (λ x. event_taken x w) h
-
--- what each event keeps stays while they come
-pub came_keeps : (P : World → Type 0) → ((w : World) → P w → P (after event w)) → {w v : World} → Coming w v → w.fault ≡ None → P w → P v
-came_keeps P step (nothing_yet w) sound h = h
-came_keeps P step (next_came {w} {v} c due) sound h =
-    subst P (event_is v (came_fault c ∙ sound)) (step v (came_keeps P step c sound h))
+use Rattle.usb_world.proofs.DueEvents.{came_shared}
 
 -- Trees that are alike
 
@@ -62,12 +51,12 @@ module _ (a : Attempt) (w : World) (is : IsAttempt a) (sound : w.fault ≡ None)
   packet_alike k c = cut_alike a (damage_in (ready w)) (ready w).roots k is (ready_settled w settled) c
 
   left_own : (f : List ℕ → Option ℕ) (v : World) → Left a w Memory v → Own f w → Own f v
-  left_own f v (at_event c) own = came_keeps (Own f) (λ x h. step_own f event x refl h) c sound own
+  left_own f v (at_event c) own = over_coming (own_steps f).events c own
   left_own f v (at_packet k e c made) own = subst (Own f) (sym made) (alike_own f (ready w).roots k (packet_alike k c) (ready_own f w own))
   left_own f v (at_line e made) own = cc
 
   left_sane : (v : World) → Left a w Memory v → All IsSpec w.devices → IsSane w.roots → IsSane v.roots
-  left_sane v (at_event c) r h = (came_keeps IsBetween (λ x g. between_after event x g) c sound (record { settled = settled; sane = h; ruled = r })).sane
+  left_sane v (at_event c) r h = (over_coming (between_steps {K = AnyStep}).events c (record { settled = settled; sane = h; ruled = r })).sane
   left_sane v (at_packet k e c made) r h =
       subst (λ x. IsSane x.roots) (sym made) ((packet_alike k c).sane (between_ready w (record { settled = settled; sane = h; ruled = r })).sane)
   left_sane v (at_line e made) r h = cc

@@ -23,6 +23,7 @@ use Rattle.usb_world.specs.ExchangeEffects.{Exchanged, StaysPlugged}
 use Rattle.usb_world.specs.Silence.{silent_exchange}
 use Rattle.usb_world.specs.Paths.{address_of}
 use Rattle.usb_world.proofs.Courses.{goes}
+use Rattle.usb_world.proofs.Equality.{swapped}
 use Rattle.usb_world.proofs.Holders.{occurs, one_if, counted}
 use Rattle.usb_world.proofs.OneDevice.{nobody_answers, sent_to_nobody, settled_memory, token_calls}
 use Rattle.usb_world.proofs.Routes.{rest_clears}
@@ -36,9 +37,6 @@ no_path (Some p ∷ []) e = cc
 no_path (None ∷ w ∷ ws) e = cc
 no_path (Some p ∷ w ∷ ws) e = cc
 
-turned : (m n : ℕ) → (m == n) ≡ false → (n == m) ≡ false
-turned m n h = grind (arith, nat_tests, h)
-
 none_occurs : (n : ℕ) (xs : List (ℕ × Option (ArrayVec ℕ))) → paths_at n xs ≡ [] → occurs n (addresses xs) ≡ 0
 unfolding occurs
 none_occurs n [] e = refl
@@ -46,7 +44,7 @@ none_occurs n (x ∷ xs) e = split (x.0 == n) refl (none_occurs n xs) e
   where
     split : (b : Bool) → (x.0 == n) ≡ b → (paths_at n xs ≡ [] → occurs n (addresses xs) ≡ 0) → (if b then x.1 ∷ paths_at n xs else paths_at n xs) ≡ [] → one_if (n == x.0) + occurs n (addresses xs) ≡ 0
     split true is behind e = cc
-    split false is behind e = rw (turned x.0 n is) (omega (arith, behind e))
+    split false is behind e = rw (swapped x.0 n is) (omega (arith, behind e))
 
 pub nobody_there : (n : ℕ) (k : Ports) → holder_of n k ≡ Nobody → NobodyHolds n k
 nobody_there n k h i e t at on = split (n == address_of t) refl

@@ -1,5 +1,5 @@
 -- What is so between two steps stays so.
-use Rattle.std.proofs.Common.{◌≡◌, ℕ, zero, suc, Bool, true, false, if◌then◌else◌, ◌&&◌, ◌==◌, List, [], ◌∷◌, refl, ap, sym}
+use Rattle.std.proofs.Common.{◌≡◌, ℕ, zero, suc, Bool, true, false, ◌&&◌, List, [], ◌∷◌, ◌≤◌, refl, ap, sym, arith}
 use Rattle.usb_port.specs.PortState.{is_attached}
 use Rattle.usb_device.specs.Spec.{Spec, Hub, IsSpec}
 use Rattle.usb_port.specs.declared.call.PortCall.{PortCall}
@@ -11,9 +11,6 @@ use Rattle.usb_device.specs.Tree.{Ports, ended, vacant, taken, Place, empty, ful
 use Rattle.usb_device.specs.Delivery.{all_forgotten}
 use Rattle.usb_world.specs.declared.damage.Damage.{Damage}
 use Rattle.usb_world.specs.declared.event.Action.{Action}
-use Rattle.usb_world.specs.declared.event.Event.{Event}
-use Rattle.usb_world.specs.declared.types.BusFault.{BusFault}
-use Rattle.usb_world.specs.declared.types.BusFault.TheVariants.{LimitReached}
 use Rattle.usb_world.specs.declared.event.Action.TheVariants.{Plug, Unplug, Show, Send, Receive, Clear}
 use Rattle.usb_world.specs.declared.types.Attempt.{Attempt}
 use Rattle.std.proofs.lemmas.List.Elements.{All-head, All-tail}
@@ -24,9 +21,10 @@ use Rattle.usb_world.specs.AttemptPackets.{IsSettled}
 use Rattle.usb_world.specs.SanePorts.{IsSane}
 use Rattle.usb_world.specs.PlanData.{PlanData}
 use Rattle.usb_world.specs.World.{World}
-use Rattle.usb_world.specs.Steps.{happened, with_plugged, took, took_first, is_due, due_from, ready, damage_in, with_attempt, attempted, event_taken, Step, attempt, root_call, event, report, after, Course, here, step, IsBetween, opening}
+use Rattle.usb_world.specs.Steps.{happened, with_plugged, took, ready, damage_in, with_attempt, Step, after, AnyStep, Course, IsBetween, opening}
 use Rattle.usb_world.proofs.SanePorts.{sane_path, sane_new_ports, sane_called, sane_replaced}
 use Rattle.usb_world.proofs.AttemptPackets.{attempt_settled, attempt_sane}
+use Rattle.usb_world.proofs.LiftedSteps.{OverSteps, Keeps, keeps_events, happened_by, over_ready, over_step, over_course}
 use Rattle.usb_world.proofs.States.{forgets}
 
 -- A device that remembers nothing, and all below it
@@ -124,17 +122,8 @@ settled_path f c k (suc i ∷ x) h = settled (changed_at f k i x) (rests_changed
 pub settled_new : (n : ℕ) → IsSettled (new_ports n)
 settled_new n = settled (new_ports n) (rests_new n)
 
-settled_plugged : (o : Option Spec) (p : List ℕ) (k : Ports) → IsSettled k → IsSettled (with_plugged o p k)
-settled_plugged None p k h = h
-settled_plugged (Some t) p k h = settled_path (replaced (Some t)) (rests_replaced (Some t)) k p h
-
 pub settled_happened : (a : Action) (ds : List Spec) (k : Ports) → IsSettled k → IsSettled (happened a ds k)
-settled_happened (Plug p d) ds k h = settled_plugged (slice_get ds d) p k h
-settled_happened (Unplug p) ds k h = settled_path (replaced None) (rests_replaced None) k p h
-settled_happened Show ds k h = h
-settled_happened (Send p bytes) ds k h = h
-settled_happened (Receive p packets) ds k h = h
-settled_happened (Clear p) ds k h = h
+settled_happened a ds k h = happened_by (λ v _. IsSettled v) a ds k [] h (λ o x. settled_path (replaced o) (rests_replaced o) k x h)
 
 pub settled_called : (c : PortCall) (k : Ports) (p : List ℕ) → IsSettled k → IsSettled (changed (called c) k p)
 settled_called c k p h = settled_path (called c) (rests_called c) k p h
@@ -174,50 +163,49 @@ sane_ports a d k h = attempt_sane (token_out a d) (payload_out a d) (reply_out a
 pub between_opening : (p : PlanData) → All IsSpec p.devices → IsBetween (opening p)
 between_opening p r = record { settled = settled_new p.roots; sane = sane_new_ports p.roots; ruled = r }
 
-took_between : (e : Event) (events : List Event) (w : World) → IsBetween w → IsBetween (took e events w)
-unfolding took
-took_between e events w h = record { settled = settled_happened e.action w.devices w.roots h.settled; sane = sane_happened e.action w.devices h.ruled w.roots h.sane; ruled = h.ruled }
+pub settled_steps : {K : Step → World → Type 0} → OverSteps K (Keeps (λ w. IsSettled w.roots))
+unfolding took with_attempt
+settled_steps = record {
+  events = keeps_events (λ w. IsSettled w.roots) (λ e es w l. settled_happened e.action w.devices w.roots);
+  made = λ a w made k h. settled_ports a (damage_in (ready w)) (ready w).roots;
+  root = λ c n w k. settled_called c w.roots (n ∷ []);
+  refused = λ w h. h;
+}
 
-first_between : (events : List Event) (w : World) → IsBetween w → IsBetween (took_first events w)
-first_between [] w h = h
-first_between (e ∷ events) w h = took_between e events w h
+pub settled_after : (s : Step) (w : World) → IsSettled w.roots → IsSettled (after s w).roots
+settled_after s w = over_step (settled_steps {K = AnyStep}) s w tt
 
-due_between : (events : List Event) (w : World) → IsBetween w → IsBetween (due_from events w)
-unfolding due_from
-due_between [] w h = h
-due_between (e ∷ events) w h = split (is_due e w) (due_between events (took e events w) (took_between e events w h))
-  where
-    split : (x : Bool) → IsBetween (due_from events (took e events w)) → IsBetween (if x then due_from events (took e events w) else w)
-    split true g = g
-    split false g = h
+pub between_steps : {K : Step → World → Type 0} → OverSteps K (Keeps IsBetween)
+unfolding took with_attempt
+between_steps = record {
+  events = keeps_events IsBetween (λ e es w l h. record { settled = settled_happened e.action w.devices w.roots h.settled; sane = sane_happened e.action w.devices h.ruled w.roots h.sane; ruled = h.ruled });
+  made = λ a w made k h. record { settled = settled_ports a (damage_in (ready w)) (ready w).roots; sane = sane_ports a (damage_in (ready w)) (ready w).roots h.sane; ruled = h.ruled };
+  root = λ c n w k h. record { settled = settled_called c w.roots (n ∷ []) h.settled; sane = sane_called_at c w.roots (n ∷ []) h.sane; ruled = h.ruled };
+  refused = λ w h. record { settled = h.settled; sane = h.sane; ruled = h.ruled };
+}
 
 pub between_ready : (w : World) → IsBetween w → IsBetween (ready w)
-unfolding ready
-between_ready w h = due_between w.left w h
-
-attempt_between : (a : Attempt) (w : World) → IsBetween w → IsBetween (with_attempt a w)
-unfolding with_attempt
-attempt_between a w h = record { settled = settled_ports a (damage_in w) w.roots; sane = sane_ports a (damage_in w) w.roots h.sane; ruled = h.ruled }
-
-attempted_between : (a : Attempt) (f : Option BusFault) (w : World) → IsBetween w → IsBetween (attempted a f w)
-attempted_between a (Some f) w h = h
-attempted_between a None w h = split (w.attempts == w.limit)
-  where
-    split : (x : Bool) → IsBetween (if x then record w { fault = Some LimitReached } else with_attempt a (ready w))
-    split true = record { settled = h.settled; sane = h.sane; ruled = h.ruled }
-    split false = attempt_between a (ready w) (between_ready w h)
-
-event_between : (f : Option BusFault) (w : World) → IsBetween w → IsBetween (event_taken f w)
-event_between (Some f) w h = h
-event_between None w h = first_between w.left w h
+between_ready = over_ready (between_steps {K = AnyStep}).events
 
 pub between_after : (s : Step) (w : World) → IsBetween w → IsBetween (after s w)
-unfolding after
-between_after (attempt a) w h = attempted_between a w.fault w h
-between_after (root_call c n) w h = record { settled = settled_called c w.roots (n ∷ []) h.settled; sane = sane_called_at c w.roots (n ∷ []) h.sane; ruled = h.ruled }
-between_after event w h = event_between w.fault w h
-between_after (report line) w h = h
+between_after s w = over_step (between_steps {K = AnyStep}) s w tt
 
 pub between_course : {K : Step → World → Type 0} {w v : World} → Course K w v → IsBetween w → IsBetween v
-between_course (here w) h = h
-between_course (step s {w} {v} k c) h = between_course c (between_after s w h)
+between_course c = over_course between_steps c
+
+-- Events are counted
+
+counted_steps : {K : Step → World → Type 0} → OverSteps K (λ w v. w.taken ≤ v.taken)
+unfolding took with_attempt
+counted_steps = record {
+  events = record { same = λ w. omega arith; joined = λ w m v x y. omega (arith, x, y); came = λ e es w l. omega arith };
+  made = λ a w made k. omega arith;
+  root = λ c n w k. omega arith;
+  refused = λ w. omega arith;
+}
+
+pub ready_taken : (w : World) → w.taken ≤ (ready w).taken
+ready_taken = over_ready (counted_steps {K = AnyStep}).events
+
+pub course_taken : {K : Step → World → Type 0} {w v : World} → Course K w v → w.taken ≤ v.taken
+course_taken c = over_course counted_steps c

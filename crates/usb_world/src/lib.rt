@@ -24,7 +24,7 @@
 //! - What an attempt does to each device that is reachable after it, whatever the tree:
 //!   `what_an_attempt_does_to_a_device`.
 //! - A course of control transfers keeps the addresses that devices hold (`control_courses_keep_addresses`; any course
-//!   of events, root calls and setup data without PORT_RESET: `AddressesKept.course_own`; one IN or OUT:
+//!   of events, root calls and setup data without PORT_RESET: `AddressesKept.step_own`; one IN or OUT:
 //!   `AddressesInTransfers.data_keeps`). Which steps give one: PORT_RESET of a root port (`RootResets.reset_own`,
 //!   `rest_own`, `reset_distinct`) and of a hub's (`HubResets.hub_reset`, `hub_rest`), the host's ACK of the status
 //!   stage (`AddressesTaken.seen`, `unseen`, `RootResets.taken_distinct`); one that is lost is counted, and no other
