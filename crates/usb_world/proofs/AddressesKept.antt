@@ -45,7 +45,7 @@ use Rattle.usb_world.specs.World.{World}
 use Rattle.usb_world.specs.Steps.{with_plugged, happened, way_of, names_path, is_due, took, took_first, due_from, ready, damage_in, with_attempt, attempted, event_taken, Step, attempt, root_call, event, report, after, Course, here, step}
 use Rattle.usb_world.specs.Courses.{is_made, made_resets, root_resets, resets, address_at, Own, Injective, is_quiet, QuietStep, quiet_data}
 use Rattle.usb_world.proofs.Booleans.{no, both, and_of, decided, neither_of}
-use Rattle.usb_world.proofs.PlugEvents.{event_place}
+use Rattle.usb_world.proofs.WayChanges.{changed_apart}
 use Rattle.usb_world.proofs.PortCalls.{call_state}
 use Rattle.usb_world.proofs.PacketEffects.{packet_state, heard_state}
 use Rattle.usb_world.proofs.AttemptPackets.{forgotten_state, calm_sent, token_out as token_calm_out}
@@ -132,7 +132,7 @@ replaced_state o k x [] w = refl
 replaced_state o k x (zero ∷ p) w = refl
 replaced_state o k [] (suc j ∷ p) w = refl
 replaced_state o k (zero ∷ x) (suc j ∷ p) w = refl
-replaced_state o k (suc i ∷ x) (suc j ∷ p) w = (event_place o k i x j p w).0
+replaced_state o k (suc i ∷ x) (suc j ∷ p) w = (changed_apart (replaced o) k i x j p w).1
 
 plugged_state : (o : Option Spec) (k : Ports) (x p : List ℕ) → (is_some o && way_of x p) ≡ false → state_there (with_plugged o x k) p ≡ state_there k p
 plugged_state None k x p h = refl

@@ -13,6 +13,7 @@ pub mod Booleans
 pub mod Equality
 pub mod States
 pub mod DueEvents
+pub mod WayChanges
 pub mod PlugEvents
 pub mod PortCalls
 pub mod PacketEffects
