@@ -43,7 +43,7 @@ use Rattle.usb_world.specs.World.{World}
 use Rattle.usb_world.specs.Steps.{happened, way_of, names_path, took, due_from, ready, damage_in, with_attempt, event_taken, Step, attempt, root_call, event, report, after}
 use Rattle.usb_world.specs.Courses.{is_made, made_resets, root_resets, resets, address_at, Own, Injective, is_quiet, QuietStep, quiet_data}
 use Rattle.usb_world.proofs.Booleans.{no, both, and_of, decided, neither_of}
-use Rattle.usb_world.proofs.PlugEvents.{event_place}
+use Rattle.usb_world.proofs.WayChanges.{changed_apart}
 use Rattle.usb_world.proofs.PortCalls.{call_state}
 use Rattle.usb_world.proofs.PacketEffects.{packet_state, heard_state}
 use Rattle.usb_world.proofs.AttemptPackets.{forgotten_state, calm_sent, token_out as token_calm_out}
@@ -131,7 +131,7 @@ replaced_state o k x [] w = refl
 replaced_state o k x (zero ∷ p) w = refl
 replaced_state o k [] (suc j ∷ p) w = refl
 replaced_state o k (zero ∷ x) (suc j ∷ p) w = refl
-replaced_state o k (suc i ∷ x) (suc j ∷ p) w = (event_place o k i x j p w).0
+replaced_state o k (suc i ∷ x) (suc j ∷ p) w = (changed_apart (replaced o) k i x j p w).1
 
 happened_state : (a : Action) (d : List Spec) (k : Ports) (p : List ℕ) → names_path d a p ≡ false → state_there (happened a d k) p ≡ state_there k p
 happened_state a d k p = happened_by (λ v named. named ≡ false → state_there v p ≡ state_there k p) a d k p (λ h. refl) (λ o x. replaced_state o k x p)

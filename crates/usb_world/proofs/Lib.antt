@@ -14,6 +14,7 @@ pub mod Equality
 pub mod States
 pub mod LiftedSteps
 pub mod DueEvents
+pub mod WayChanges
 pub mod PlugEvents
 pub mod PortCalls
 pub mod PacketEffects

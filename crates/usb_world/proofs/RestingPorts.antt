@@ -13,7 +13,7 @@ use Rattle.usb_device.specs.View.{state_there}
 use Rattle.usb_world.specs.declared.event.Action.{Action}
 use Rattle.usb_world.specs.declared.types.Attempt.{Attempt}
 use Rattle.usb_world.specs.Exchange.{token_out, payload_out, reply_out, ports_in}
-use Rattle.usb_world.specs.Paths.{is_way, on_way, same_number, live}
+use Rattle.usb_world.specs.Paths.{is_way, same_number, live}
 use Rattle.usb_world.specs.AttemptPackets.{after_sent, after_attempt, IsAttemptAt}
 use Rattle.usb_world.specs.PlanCourses.{spec_of}
 use Rattle.usb_world.specs.WayEffects.{leaves_port, way_leaves}
@@ -23,7 +23,7 @@ use Rattle.usb_world.specs.Courses.{UndisturbedOrPends, Spares}
 use Rattle.usb_world.specs.PortRequests.{sent_leaves, made_leaves, root_leaves, leaves_step}
 use Rattle.usb_world.specs.RestingPorts.{SameAt, AsksNothingOf, RestsOrPends, StandsOrPends}
 use Rattle.usb_world.proofs.Booleans.{no, both}
-use Rattle.usb_world.proofs.PlugEvents.{event_place}
+use Rattle.usb_world.proofs.WayChanges.{changed_apart}
 use Rattle.usb_world.proofs.AttemptPackets.{token_out as token_calm, ack_out as ack_calm, forgotten_reach}
 use Rattle.usb_world.proofs.PluggedShapes.{spec_there}
 use Rattle.usb_world.proofs.PluggedPorts.{shape, described_there, shape_root, shape_attempt}
@@ -47,28 +47,6 @@ shaped k v p h = described_there v p ∙ ap (λ x. spec_there x p) h ∙ sym (de
 
 -- Events
 
-event_on : (o : Option Spec) (k : Ports) (i : ℕ) (e : List ℕ) (j : ℕ) (p : List ℕ) → on_way i e j p ≡ false → reach_at (changed_at (replaced o) k i e) j p ≡ reach_at k j p
-unfolding changed_at reach_at is_way
-event_on o ended i e j p h = refl
-event_on o (vacant b k) zero [] zero p h = no (sym h)
-event_on None (vacant b k) zero [] (suc j) p h = refl
-event_on (Some s) (vacant b k) zero [] (suc j) p h = refl
-event_on o (vacant b k) zero (n ∷ e) j p h = refl
-event_on o (vacant b k) (suc i) e zero p h = refl
-event_on o (vacant b k) (suc i) e (suc j) p h = event_on o k i e j p h
-event_on o (taken b s a k) zero [] zero p h = no (sym h)
-event_on None (taken b s a k) zero [] (suc j) p h = refl
-event_on (Some t) (taken b s a k) zero [] (suc j) p h = refl
-event_on o (taken b s a k) zero (zero ∷ e) j p h = refl
-event_on o (taken b s a k) zero (suc i ∷ e) zero [] h = refl
-event_on o (taken b s a k) zero (suc i ∷ e) zero (zero ∷ p) h = refl
-event_on o (taken b s a k) zero (suc i ∷ e) zero (suc j ∷ p) h = ap (λ x. b.enable && x) (event_on o a i e j p h)
-event_on o (taken b s a k) zero (suc i ∷ e) (suc j) p h = refl
-event_on o (taken b s a k) (suc i) e zero [] h = refl
-event_on o (taken b s a k) (suc i) e zero (zero ∷ p) h = refl
-event_on o (taken b s a k) (suc i) e zero (suc n ∷ p) h = refl
-event_on o (taken b s a k) (suc i) e (suc j) p h = event_on o k i e j p h
-
 event_same : (o : Option Spec) (k : Ports) (x p : List ℕ) → way_of x p ≡ false → SameAt k (changed (replaced o) k x) p
 unfolding is_way
 event_same o k x [] h = record { port = refl; on = refl; what = refl }
@@ -76,7 +54,8 @@ event_same o k x (zero ∷ p) h = record { port = refl; on = refl; what = refl }
 event_same o k [] (suc j ∷ p) h = same_self k (suc j ∷ p)
 event_same o k (zero ∷ x) (suc j ∷ p) h = same_self k (suc j ∷ p)
 event_same o k (suc i ∷ x) (suc j ∷ p) h =
-    record { port = (event_place o k i x j p h).1; on = event_on o k i x j p h; what = ap (option_map spec_of) (event_place o k i x j p h).0 }
+    let same : _ = changed_apart (replaced o) k i x j p h in
+    record { port = same.0.3; on = same.0.0; what = ap (option_map spec_of) same.1 }
 
 happened_same : (a : Action) (d : List Spec) (k : Ports) (p : List ℕ) → names_path d a p ≡ false → SameAt k (happened a d k) p
 happened_same a d k p = happened_by (λ v named. named ≡ false → SameAt k v p) a d k p (λ h. same_self k p) (λ o x. event_same o k x p)

@@ -1,0 +1,65 @@
+-- A change at a place: a way that does not lead there stays. One walk answers all that is asked of a way.
+use Rattle.std.proofs.Common.{◌≡◌, ℕ, zero, suc, ◌&&◌, ◌||◌, Bool, false, List, [], ◌∷◌}
+use Rattle.std.proofs.Common.{refl, ap, sym}
+use Rattle.usb_device.specs.Tree.{Ports, ended, vacant, taken, Place, empty, full, before, changed_at}
+use Rattle.usb_device.specs.Tree.{reach_at, state_at, port_at}
+use Rattle.usb_world.specs.Paths.{live_at, pend_at, is_way, on_way}
+use Rattle.usb_world.proofs.Booleans.{no}
+
+-- the ports on the way to a path are what they were: it is reached, live and pending as it was, and its port is the same
+abbrev pub SamePorts : Ports → Ports → ℕ → List ℕ → Type 0
+SamePorts k m j p =
+    (reach_at m j p ≡ reach_at k j p) × (live_at m j p ≡ live_at k j p)
+    × (pend_at m j p ≡ pend_at k j p) × (port_at m j p ≡ port_at k j p)
+
+-- and the device at its end
+abbrev pub SameWay : Ports → Ports → ℕ → List ℕ → Type 0
+SameWay k m j p = SamePorts k m j p × (state_at m j p ≡ state_at k j p)
+
+pub same_ports : (k : Ports) (j : ℕ) (p : List ℕ) → SamePorts k k j p
+same_ports k j p = (refl, refl, refl, refl)
+
+same_way : (k : Ports) (j : ℕ) (p : List ℕ) → SameWay k k j p
+same_way k j p = (same_ports k j p, refl)
+
+-- further on in the row
+same_after : (x y : Place) (k : Ports) (j : ℕ) (p : List ℕ)
+    → SameWay (before x k) (before y k) (suc j) p
+unfolding reach_at live_at pend_at port_at state_at
+same_after (empty b) (empty c) k j p = same_way k j p
+same_after (empty b) (full c t m) k j p = same_way k j p
+same_after (full b s a) (empty c) k j p = same_way k j p
+same_after (full b s a) (full c t m) k j p = same_way k j p
+
+-- what stands before a change in its row
+same_head : (x : Place) (k m : Ports) (p : List ℕ) → SameWay (before x k) (before x m) zero p
+unfolding reach_at live_at pend_at port_at state_at
+same_head (empty b) k m [] = same_way (vacant b k) zero []
+same_head (empty b) k m (n ∷ p) = same_way (vacant b k) zero (n ∷ p)
+same_head (full b s a) k m [] = same_way (taken b s a k) zero []
+same_head (full b s a) k m (zero ∷ p) = same_way (taken b s a k) zero (zero ∷ p)
+same_head (full b s a) k m (suc n ∷ p) = same_way (taken b s a k) zero (suc n ∷ p)
+
+pub changed_apart : (f : Place → Place) (k : Ports) (i : ℕ) (e : List ℕ) (j : ℕ) (p : List ℕ)
+    → on_way i e j p ≡ false → SameWay k (changed_at f k i e) j p
+unfolding changed_at reach_at live_at pend_at port_at state_at is_way
+changed_apart f ended i e j p h = same_way ended j p
+changed_apart f (vacant b k) zero [] zero p h = no (sym h)
+changed_apart f (vacant b k) zero [] (suc j) p h = same_after (empty b) (f (empty b)) k j p
+changed_apart f (vacant b k) zero (n ∷ e) j p h = same_way (vacant b k) j p
+changed_apart f (vacant b k) (suc i) e zero p h = same_head (empty b) k (changed_at f k i e) p
+changed_apart f (vacant b k) (suc i) e (suc j) p h = changed_apart f k i e j p h
+changed_apart f (taken b s a k) zero [] zero p h = no (sym h)
+changed_apart f (taken b s a k) zero [] (suc j) p h = same_after (full b s a) (f (full b s a)) k j p
+changed_apart f (taken b s a k) zero (zero ∷ e) j p h = same_way (taken b s a k) j p
+changed_apart f (taken b s a k) zero (suc i ∷ e) zero [] h = same_way (taken b s a k) zero []
+changed_apart f (taken b s a k) zero (suc i ∷ e) zero (zero ∷ p) h =
+    same_way (taken b s a k) zero (zero ∷ p)
+changed_apart f (taken b s a k) zero (suc i ∷ e) zero (suc j ∷ p) h =
+    let x : _ = changed_apart f a i e j p h in
+    let at : _ = x.0 in
+    let pends : Bool → Bool = λ c. b.power && (b.connection_changed || c) in
+    ((ap (λ c. b.enable && c) at.0, ap (λ c. b.power && c) at.1, ap pends at.2, at.3), x.1)
+changed_apart f (taken b s a k) zero (suc i ∷ e) (suc j) p h = same_way k j p
+changed_apart f (taken b s a k) (suc i) e zero p h = same_head (full b s a) k (changed_at f k i e) p
+changed_apart f (taken b s a k) (suc i) e (suc j) p h = changed_apart f k i e j p h
