@@ -8,9 +8,9 @@ pub use Rattle.usb_device.proofs.Figures.{answer-spec, figure-after}
 pub use Rattle.usb_device.proofs.Hubs.{at_least_one}
 pub use Rattle.usb_device.proofs.RowFrames.{keeps-received}
 pub use Rattle.usb_device.proofs.Packets.{packets_joined-is, packets_joined-whole, packet-fits, packet-further}
-pub use Rattle.usb_device.proofs.FirstPlaces.{changed_at-head, changed_at-same, changed_at-twice}
+pub use Rattle.usb_device.proofs.FirstPlaces.{changed_at-head, changed_at-port, changed_at-same, changed_at-twice, changed_at-zero}
 pub use Rattle.usb_device.proofs.Rows.{row_of-after, row_of-forgotten}
 pub use Rattle.usb_device.proofs.Strays.{or-joined}
 pub use Rattle.usb_device.proofs.HolderIndexes.{addresses, held-reached, same_index}
 pub use Rattle.usb_device.proofs.HolderPaths.{one_is_held}
-pub use Rattle.usb_device.proofs.ReachedPlaces.{index_around, index_called, index_plugged, reached-acted, reached-changed}
+pub use Rattle.usb_device.proofs.ReachedPlaces.{index_around, index_called, index_plugged, reached-acted, reached-both}

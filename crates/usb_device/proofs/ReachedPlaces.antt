@@ -1,16 +1,17 @@
 -- What changes at one place, and keeps which devices are reached.
-use Rattle.std.proofs.Common.{◌≡◌, ℕ, zero, suc, ◌+◌, ◌||◌, if◌then◌else◌, Bool, true, false, List, [], ◌∷◌, ◌++◌, Option, None, Some, append-nil, refl, ap, sym, ◌∙◌}
+use Rattle.std.proofs.Common.{◌≡◌, ℕ, zero, suc, ◌+◌, ◌-◌, ◌==◌, ◌&&◌, not, ◌⊎◌, inl, inr, arith, ◌||◌, if◌then◌else◌, Bool, true, false, List, [], ◌∷◌, ◌++◌, Option, None, Some, append-nil, refl, ap, sym, ◌∙◌}
+use Rattle.std.proofs.lemmas.Bool.Decides.{nat_tests}
 use Rattle.arrayvec.specs.ArrayVec.{ArrayVec}
-use Rattle.usb_port.specs.PortState.{PortState, is_attached, powered_on}
+use Rattle.usb_port.specs.PortState.{PortState, is_attached, powered_on, unplugged}
 use Rattle.usb_port.specs.declared.call.PortCall.{PortCall}
 use Rattle.usb_port.specs.declared.call.PortCall.TheVariants.{SetPower, SetReset, ClearEnable, ClearPower, ClearConnectionChange, ClearEnableChange, ClearResetChange}
-use Rattle.usb_device.specs.Tree.{Ports, ended, vacant, taken, Plugged, Place, empty, full, before, acted, called, put, changed, changed_at, place_at}
+use Rattle.usb_device.specs.Tree.{Ports, ended, vacant, taken, Plugged, Place, empty, full, port_of, before, acted, called, put, changed, changed_at, place_at}
 use Rattle.usb_device.specs.declared.effect.Effect.{Effect}
 use Rattle.usb_device.specs.declared.effect.Effect.TheVariants.{Leaves, Calls, PortsOff}
 use Rattle.usb_device.specs.declared.holders.Holders.{Holders}
 use Rattle.usb_device.specs.HolderIndex.{IsIndexOf, IsIndexWithout}
-use Rattle.usb_device.specs.Holders.{path_below, reached, all_reached, ReachedSame, keeps_enable, keeps_reached}
-use Rattle.usb_device.proofs.FirstPlaces.{changed_at-same, changed_at-twice}
+use Rattle.usb_device.specs.Holders.{path_below, reached, all_reached, ReachedSame, keeps_enable, keeps_others}
+use Rattle.usb_device.proofs.FirstPlaces.{changed_at-head, changed_at-tail, changed_at-same, changed_at-twice}
 use Rattle.usb_device.proofs.HolderIndexes.{same_index}
 
 by_enable : (x : ℕ × Option (ArrayVec ℕ)) (a k : List (ℕ × Option (ArrayVec ℕ))) (e : Bool) → (if e then x ∷ (a ++ k) else k) ≡ (if e then x ∷ (a ++ []) else []) ++ k
@@ -63,10 +64,65 @@ called-same ClearConnectionChange (full b s a) h w n = refl
 called-same ClearEnableChange (full b s a) h w n = refl
 called-same ClearResetChange (full b s a) h w n = refl
 
-pub reached-acted : (e : Effect) (a : Ports) → keeps_reached e ≡ true → (w : Option (ArrayVec ℕ)) (n : ℕ) → reached w n (acted e a) ≡ reached w n a
-reached-acted Leaves a h w n = refl
-reached-acted (Calls c i) a h w n = reached-changed (called c) w n a i [] (λ q at. called-same c q h)
-reached-acted PortsOff a h w n = cc
+-- without what is on a port, another change at that port is not seen, and at another one none that leaves the same devices reached
+abbrev SeenNot : (Place → Place) → ℕ → ℕ → Type 0
+SeenNot f i j = (i ≡ j) ⊎ ((q : Place) → ReachedSame (f q) q)
+
+seen_not_later : (f : Place → Place) (i j : ℕ) → SeenNot f (suc i) (suc j) → SeenNot f i j
+seen_not_later f i j (inl e) = inl (omega (arith, e))
+seen_not_later f i j (inr same) = inr same
+
+head_without : (q : Place) (k : Ports) → changed_at (put None) (before q k) 0 [] ≡ vacant (unplugged (port_of q)) k
+head_without q k = changed_at-head (put None) q k []
+
+other_at : (f : Place → Place) (w : Option (ArrayVec ℕ)) (n : ℕ) (q : Place) (k : Ports) (i j : ℕ) → SeenNot f i j
+    → ((i j : ℕ) → SeenNot f i j → reached w (n + 1) (changed_at (put None) (changed_at f k j []) i []) ≡ reached w (n + 1) (changed_at (put None) k i []))
+    → reached w n (changed_at (put None) (changed_at f (before q k) j []) i []) ≡ reached w n (changed_at (put None) (before q k) i [])
+unfolding reached
+other_at f w n q k zero zero h behind =
+    ap (reached w n) (ap (λ x. changed_at (put None) x 0 []) (changed_at-head f q k []) ∙ head_without (f q) k) ∙ sym (ap (reached w n) (head_without q k))
+other_at f w n q k zero (suc j) (inl e) behind = absurd (omega (arith, e))
+other_at f w n q k zero (suc j) (inr same) behind =
+    ap (reached w n) (ap (λ x. changed_at (put None) x 0 []) (changed_at-tail f q k j []) ∙ head_without q (changed_at f k j []))
+    ∙ reached-changed f w (n + 1) k j [] (λ r at. same r)
+    ∙ sym (ap (reached w n) (head_without q k))
+other_at f w n q k (suc i) zero (inl e) behind = absurd (omega (arith, e))
+other_at f w n q k (suc i) zero (inr same) behind =
+    ap (reached w n) (ap (λ x. changed_at (put None) x (suc i) []) (changed_at-head f q k []) ∙ changed_at-tail (put None) (f q) k i [])
+    ∙ same_head w n (f q) q (changed_at (put None) k i []) (same q)
+    ∙ sym (ap (reached w n) (changed_at-tail (put None) q k i []))
+other_at f w n q k (suc i) (suc j) h behind =
+    ap (reached w n) (ap (λ x. changed_at (put None) x (suc i) []) (changed_at-tail f q k j []) ∙ changed_at-tail (put None) q (changed_at f k j []) i [])
+    ∙ reached-head w n q (changed_at (put None) (changed_at f k j []) i [])
+    ∙ ap (λ l. reached w n (before q ended) ++ l) (behind i j (seen_not_later f i j h))
+    ∙ sym (reached-head w n q (changed_at (put None) k i []))
+    ∙ sym (ap (reached w n) (changed_at-tail (put None) q k i []))
+
+reached-other : (f : Place → Place) (w : Option (ArrayVec ℕ)) (n : ℕ) (k : Ports) (i j : ℕ) → SeenNot f i j
+    → reached w n (changed_at (put None) (changed_at f k j []) i []) ≡ reached w n (changed_at (put None) k i [])
+unfolding changed_at
+reached-other f w n ended i j h = refl
+reached-other f w n (vacant b k) i j h = other_at f w n (empty b) k i j h (λ x y g. reached-other f w (n + 1) k x y g)
+reached-other f w n (taken b s a k) i j h = other_at f w n (full b s a) k i j h (λ x y g. reached-other f w (n + 1) k x y g)
+
+one_port : (n i : ℕ) → (not (suc n == 0) && suc n - 1 == i) ≡ true → n ≡ i
+one_port n i e = grind (arith, nat_tests, e)
+
+-- what a device asks of its ports, without what is on the port of a number
+pub reached-acted : (e : Effect) (port : ℕ) (a : Ports) → keeps_others port e ≡ true → (w : Option (ArrayVec ℕ)) (n : ℕ)
+    → reached w n (changed (put None) (acted e a) (port ∷ [])) ≡ reached w n (changed (put None) a (port ∷ []))
+reached-acted Leaves port a h w n = refl
+reached-acted (Calls c i) zero a h w n = reached-changed (called c) w n a i [] (λ q at. called-same c q (kept (keeps_enable c) h))
+  where
+    kept : (b : Bool) → (b || false) ≡ true → b ≡ true
+    kept true e = refl
+    kept false e = e
+reached-acted (Calls c i) (suc m) a h w n = reached-other (called c) w n a m i (split (keeps_enable c) refl h)
+  where
+    split : (b : Bool) → keeps_enable c ≡ b → (b || (not (suc m == 0) && suc m - 1 == i)) ≡ true → SeenNot (called c) m i
+    split true e h = inr (λ q. called-same c q e)
+    split false e h = inl (one_port m i h)
+reached-acted PortsOff port a h w n = cc
 
 pub reached-called : (c : PortCall) (k : Ports) (port : ℕ) → keeps_enable c ≡ true → all_reached (changed (called c) k (port ∷ [])) ≡ all_reached k
 reached-called c k zero h = refl

@@ -1,5 +1,5 @@
 -- Which device holds which address, among those that packets reach.
-use Rattle.std.specs.Prelude.{◌≡◌, ℕ, ◌+◌, ◌<◌, ◌==◌, ◌||◌, ◌&&◌, if◌then◌else◌, Bool, true, false, List, [], ◌∷◌, ◌++◌, length, nat_le, slice_index_or, slice_set, fold, Option, None, Some, ⊤}
+use Rattle.std.specs.Prelude.{◌≡◌, ℕ, ◌+◌, ◌-◌, ◌<◌, ◌==◌, ◌||◌, ◌&&◌, not, if◌then◌else◌, Bool, true, false, List, [], ◌∷◌, ◌++◌, length, nat_le, slice_index_or, slice_set, fold, Option, None, Some, ⊤}
 use Rattle.arrayvec.specs.ArrayVec.{ArrayVec}
 use Rattle.usb_device.specs.declared.holders.Holder.{Holder}
 use Rattle.usb_device.specs.declared.holders.Holder.TheVariants.{Nobody, One, Several}
@@ -96,11 +96,11 @@ keeps_enable ClearConnectionChange = true
 keeps_enable ClearEnableChange = true
 keeps_enable ClearResetChange = true
 
--- what is asked of ports and leaves the same devices reached
-abbrev pub keeps_reached : Effect → Bool
-keeps_reached Leaves = true
-keeps_reached (Calls c i) = keeps_enable c
-keeps_reached PortsOff = false
+-- what is asked of ports and leaves the same devices reached, but for those on the port of a number, counted from 1, and below it
+abbrev pub keeps_others : ℕ → Effect → Bool
+keeps_others port Leaves = true
+keeps_others port (Calls c i) = keeps_enable c || (not (port == 0) && port - 1 == i)
+keeps_others port PortsOff = false
 
 -- each number is a byte
 abbrev pub AreBytes : List ℕ → Type 0

@@ -1,7 +1,7 @@
 //! What a device asks of its own ports.
-ghost use Rattle.std.specs.Prelude.{◌≡◌};
+ghost use Rattle.std.specs.Prelude.{◌≡◌, ◌-◌, ◌==◌, ◌&&◌, not};
 ghost use Rattle.usb_device.specs.Delivery.{asks_clearing};
-ghost use Rattle.usb_device.specs.Holders.{keeps_enable, keeps_reached};
+ghost use Rattle.usb_device.specs.Holders.{keeps_enable, keeps_others};
 
 use usb_port::PortCall;
 
@@ -27,17 +27,25 @@ impl Effect {
         }
     }
 
-    /// Whether the same devices are reached then, at the same addresses: no port is enabled or
-    /// disabled by it, and no device reset.
-    pub fn keeps_reached(self) -> bool
-        ensures { result ≡ keeps_reached self }
+    /// Whether the same devices are reached then, at the same addresses, but for those on the port
+    /// of a number, counted from 1, and below it: no other port is enabled or disabled by it, and no
+    /// other device reset. With 0 as the number it is so of all.
+    pub fn keeps_others(self, port: u8) -> bool
+        ensures { result ≡ keeps_others port self }
     {
         match self {
             Effect::Leaves => true,
-            Effect::Calls(call, _) => keeps_enable(call),
+            Effect::Calls(call, i) => keeps_enable(call) || is_port(port, i),
             Effect::PortsOff => false,
         }
     }
+}
+
+/// Whether a port counted from 0 has the number, counted from 1.
+fn is_port(number: u8, i: usize) -> bool
+    ensures { result ≡ (not (number == 0) && number - 1 == i) }
+{
+    number != 0 && usize::from(number - 1) == i
 }
 
 /// Whether a call leaves each port enabled or not, and resets no device (11.24.2).

@@ -6,8 +6,9 @@
 //!   of its ports; refused memory changes nothing.
 //! - `Ports` is a row of ports with all that is plugged below it: each port call, plug and unplug at a path is exactly
 //!   that change of the *tree*. `deliver` takes a packet down it exactly, or, where memory was refused, to just those
-//!   devices that come before the one whose sink was to grow (*stopped*). Where `find` answers true, the path that it
-//!   put behind the one it was given leads to a device that packets reach and that holds the address (`HolderBehind`).
+//!   devices that come before the one whose sink was to grow (*stopped*). `Holders` is the index of a tree: who holds
+//!   each address among the devices that packets reach, and whether one is held twice (`IsIndexOf`); `forget` and
+//!   `note` keep it so around any change at one path, and cost what stands there.
 //! - `child_mut` lends the device on a port. `DeviceSpec` keeps the rules of a device's keys, and `Devices` tells them
 //!   of each of its devices (`IsSpec`).
 //! - Laws (`src/laws.rt`): whole attempts with the device that is spoken to (`attempt_laws`), packets that are for none

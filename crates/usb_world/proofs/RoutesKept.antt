@@ -7,19 +7,19 @@ use Rattle.usb_port.specs.PortState.{PortState}
 use Rattle.usb_device.specs.declared.delivery.Sent.{Sent}
 use Rattle.usb_device.specs.declared.effect.Effect.TheVariants.{Leaves}
 use Rattle.usb_device.specs.Rows.{State, forgotten}
-use Rattle.usb_device.specs.Tree.{Ports, ended, vacant, taken, Place, empty, full, before, acted, changed_at, plugged_at, device_there, reach_at, place_at, Spot}
+use Rattle.usb_device.specs.Tree.{Ports, ended, vacant, taken, Place, empty, full, before, acted, put, changed, changed_at, changed_in, plugged_at, device_there, reach_at, place_at, Spot}
 use Rattle.usb_device.specs.Delivery.{answer_of, all_forgotten}
-use Rattle.usb_device.specs.Holders.{path_below, reached, all_reached, ReachedSame, keeps_reached}
+use Rattle.usb_device.specs.Holders.{path_below, reached, all_reached, ReachedSame, keeps_others}
 use Rattle.usb_device.specs.HolderIndex.{IsIndexOf, IsIndexWithout}
 use Rattle.usb_device.specs.declared.holders.Holders.{Holders}
 use Rattle.usb_device.specs.Route.{sent_in, effect_by, forgotten_in, address_by}
-use Rattle.usb_device.proofs.Interface.{changed_at-same, changed_at-twice, index_around, reached-acted, reached-changed, same_index}
+use Rattle.usb_device.proofs.Interface.{changed_at-port, changed_at-same, changed_at-twice, changed_at-zero, index_around, reached-acted, reached-both, same_index}
 use Rattle.usb_world.specs.declared.types.Attempt.{Attempt}
 use Rattle.usb_world.specs.declared.damage.Damage.{Damage}
 use Rattle.usb_world.specs.Paths.{address_of}
 use Rattle.usb_world.specs.AttemptPackets.{after_sent, deep_at, IsSettled, OneHolds}
 use Rattle.usb_world.specs.Exchange.{token_out, payload_out, reply_out, ended_in, ports_in}
-use Rattle.usb_world.specs.LonePackets.{Alone, is_whole_tree, IsWayTo, IsQuiet, KeptAt}
+use Rattle.usb_world.specs.LonePackets.{Alone, is_whole_tree, IsWayTo, without_port, IsQuiet, KeptAt}
 use Rattle.usb_world.proofs.Booleans.{no, both}
 use Rattle.usb_world.proofs.AttemptPackets.{token_out as token_calm, ack_out as ack_calm}
 use Rattle.usb_world.proofs.OneDevice.{stands, state_stands}
@@ -46,10 +46,12 @@ place_at-changed f (taken b s a k) zero (zero ∷ p) = refl
 place_at-changed f (taken b s a k) zero (suc j ∷ p) = place_at-changed f a j p
 place_at-changed f (taken b s a k) (suc j) p = place_at-changed f k j p
 
--- a device with another state of the same address, and ports below which the same devices are reached
-same_there : (b : PortState) (s t : State) (a c : Ports) → t.registers.address ≡ s.registers.address → ((w : Option (ArrayVec ℕ)) (n : ℕ) → reached w n c ≡ reached w n a) → ReachedSame (full b t c) (full b s a)
+-- a device with another state of the same address, and ports below which the same devices are reached, without what is on one of them
+same_there : (port : ℕ) (b : PortState) (s t : State) (a c : Ports) → t.registers.address ≡ s.registers.address
+    → ((w : Option (ArrayVec ℕ)) (n : ℕ) → reached w n (changed (put None) c (port ∷ [])) ≡ reached w n (changed (put None) a (port ∷ [])))
+    → ReachedSame (changed_in (put None) (full b t c) (port ∷ [])) (changed_in (put None) (full b s a) (port ∷ []))
 unfolding reached
-same_there b s t a c e h = λ w n. ap₂ (λ m l. if b.enable then (m, path_below w n) ∷ (l ++ []) else []) e (h (path_below w n) 1)
+same_there port b s t a c e h = λ w n. ap₂ (λ m l. if b.enable then (m, path_below w n) ∷ (l ++ []) else []) e (h (path_below w n) 1)
 
 -- ---- one packet
 
@@ -73,10 +75,10 @@ sent_one : (o : Option Sent) (k : Ports) (j : ℕ) (p : List ℕ) → Alone o k 
 sent_one None k j p h = sym (changed_at-same k j p)
 sent_one (Some q) k j p h = others_packet q false k j p h.on (others_rest q k j p h)
 
-quiet_asks : (o : Option Sent) (k : Ports) (j : ℕ) (p : List ℕ) (b : PortState) (s : State) (a : Ports) → IsQuiet o k (suc j ∷ p) → place_at k j p ≡ Some (full b s a) → keeps_reached (asked_of o (deep_at false p) s) ≡ true
-quiet_asks None k j p b s a h e = refl
-quiet_asks (Some q) k j p b s a h e =
-    sym (ap (λ x. keeps_reached (effect_by q (deep_at false p) (plugged_on x))) e) ∙ ap (λ x. keeps_reached (effect_by q (deep_at false p) x)) (plugged_place k j p) ∙ h
+quiet_asks : (port : ℕ) (o : Option Sent) (k : Ports) (j : ℕ) (p : List ℕ) (b : PortState) (s : State) (a : Ports) → IsQuiet port o k (suc j ∷ p) → place_at k j p ≡ Some (full b s a) → keeps_others port (asked_of o (deep_at false p) s) ≡ true
+quiet_asks port None k j p b s a h e = refl
+quiet_asks port (Some q) k j p b s a h e =
+    sym (ap (λ x. keeps_others port (effect_by q (deep_at false p) (plugged_on x))) e) ∙ ap (λ x. keeps_others port (effect_by q (deep_at false p) x)) (plugged_place k j p) ∙ h
 
 -- ---- an attempt
 
@@ -174,43 +176,57 @@ module _ (a : Attempt) (d : Option Damage) (k : Ports) (j : ℕ) (p : List ℕ) 
   here_address : here.own.registers.address ≡ a.addr
   here_address = same_Some here.own.registers.address a.addr (sym (ap (option_map address_of) (sym (state_stands k j p) ∙ ap stands here.at)) ∙ holds.at)
 
-  module _ (quiet : IsQuiet q (after_sent t k) (suc j ∷ p)) where
-    below_same : (w : Option (ArrayVec ℕ)) (n : ℕ) → reached w n below_then ≡ reached w n here.below
-    below_same = reached-acted (asked_of q deep first) here.below (quiet_asks q (after_sent t k) j p here.port first here.below quiet first_at)
+  module _ (port : ℕ) (quiet : IsQuiet port q (after_sent t k) (suc j ∷ p)) where
+    abbrev without : Place → Place
+    without x = changed_in (put None) x (port ∷ [])
 
-    left_same : (x : Place) → x ≡ full here.port here.own here.below → third.registers.address ≡ here.own.registers.address → ReachedSame (forgotten_in (till_end x)) x
+    below_same : (w : Option (ArrayVec ℕ)) (n : ℕ) → reached w n (changed (put None) below_then (port ∷ [])) ≡ reached w n (changed (put None) here.below (port ∷ []))
+    below_same = reached-acted (asked_of q deep first) port here.below (quiet_asks port q (after_sent t k) j p here.port first here.below quiet first_at)
+
+    left_same : (x : Place) → x ≡ full here.port here.own here.below → third.registers.address ≡ here.own.registers.address → ReachedSame (without (forgotten_in (till_end x))) (without x)
     left_same x is e =
-        subst (λ y. ReachedSame (forgotten_in (till_end y)) y) (sym is)
-        (subst (λ y. ReachedSame (forgotten_in y) (full here.port here.own here.below)) (sym end_place) (same_there here.port here.own (forgotten third) here.below below_then e below_same))
+        subst (λ y. ReachedSame (without (forgotten_in (till_end y))) (without y)) (sym is)
+        (subst (λ y. ReachedSame (without (forgotten_in y)) (without (full here.port here.own here.below))) (sym end_place)
+        (same_there port here.port here.own (forgotten third) here.below below_then e below_same))
 
-    addresses_stay : address_by (plugged_at (ended_in a d k) j p) ≡ Some a.addr → all_reached (ports_in a d k) ≡ all_reached k
+    addresses_stay : address_by (plugged_at (ended_in a d k) j p) ≡ Some a.addr → all_reached (without_port port (ports_in a d k) (suc j ∷ p)) ≡ all_reached (without_port port k (suc j ∷ p))
     addresses_stay e =
         let address : third.registers.address ≡ a.addr =
         same_Some third.registers.address a.addr (sym (ap (λ x. address_by (plugged_on x)) end_at) ∙ ap address_by (plugged_place (ended_in a d k) j p) ∙ e) in
-        ap all_reached all_is
-        ∙ reached-changed (λ x. forgotten_in (till_end x)) _ 1 k j p (λ x at. left_same x (same_Some x (full here.port here.own here.below) (sym at ∙ here.at)) (address ∙ sym here_address))
+        ap all_reached (changed_at-port (put None) (ports_in a d k) j p port ∙ ap (λ x. changed_at without x j p) all_is ∙ changed_at-twice without (λ x. forgotten_in (till_end x)) k j p)
+        ∙ reached-both (λ x. without (forgotten_in (till_end x))) without _ 1 k j p (λ x at. left_same x (same_Some x (full here.port here.own here.below) (sym at ∙ here.at)) (address ∙ sym here_address))
+        ∙ sym (ap all_reached (changed_at-port (put None) k j p port))
 
 -- where what was asked of ports keeps who is reached, and the device has the address still
-held_still : (a : Attempt) (d : Option Damage) (k : Ports) (p : List ℕ) → IsQuiet (payload_out a d) (after_sent (token_out a d) k) p → address_by (device_there (ended_in a d k) p) ≡ Some a.addr
-    → KeptAt a.addr k (ports_in a d k) p
-held_still a d k [] q e = no (ap is_some e)
-held_still a d k (zero ∷ p) q e = no (ap is_some e)
-held_still a d k (suc j ∷ p) q e = λ settled o. addresses_stay a d k j p settled o q e
+held_still : (port : ℕ) (a : Attempt) (d : Option Damage) (k : Ports) (p : List ℕ) → IsQuiet port (payload_out a d) (after_sent (token_out a d) k) p → address_by (device_there (ended_in a d k) p) ≡ Some a.addr
+    → KeptAt a.addr port k (ports_in a d k) p
+held_still port a d k [] q e = no (ap is_some e)
+held_still port a d k (zero ∷ p) q e = no (ap is_some e)
+held_still port a d k (suc j ∷ p) q e = λ settled o. addresses_stay a d k j p settled o port q e
 
 -- the same, of what the code tells: the address that is left there is the attempt's
-pub kept_at : (a : Attempt) (d : Option Damage) (k m n : Ports) (p : List ℕ) (left : Option ℕ) → option_eq nat_eq left (Some a.addr) ≡ true
-    → IsQuiet (payload_out a d) (after_sent (token_out a d) k) p → m ≡ ended_in a d k → n ≡ all_forgotten m → (IsSome left → left ≡ address_by (device_there m p)) → KeptAt a.addr k n p
+pub kept_at : (port : ℕ) (a : Attempt) (d : Option Damage) (k m n : Ports) (p : List ℕ) (left : Option ℕ) → option_eq nat_eq left (Some a.addr) ≡ true
+    → IsQuiet port (payload_out a d) (after_sent (token_out a d) k) p → m ≡ ended_in a d k → n ≡ all_forgotten m → (IsSome left → left ≡ address_by (device_there m p)) → KeptAt a.addr port k n p
 unfolding ports_in
-kept_at a d k m n p None same asks e over at = no same
-kept_at a d k m n p (Some x) same asks e over at =
+kept_at port a d k m n p None same asks e over at = no same
+kept_at port a d k m n p (Some x) same asks e over at =
     let told : address_by (device_there m p) ≡ Some a.addr = sym (at refl) ∙ ap (λ y. Some y) (equal_same x a.addr same) in
-    subst (λ y. KeptAt a.addr k y p) (sym (over ∙ ap all_forgotten e)) (held_still a d k p asks (ap (λ y. address_by (device_there y p)) (sym e) ∙ told))
+    subst (λ y. KeptAt a.addr port k y p) (sym (over ∙ ap all_forgotten e)) (held_still port a d k p asks (ap (λ y. address_by (device_there y p)) (sym e) ∙ told))
 
 -- the index of the tree then
-pub index_kept : (n : ℕ) (h : Holders) (k m : Ports) (p : List ℕ) → IsSettled k → IsWayTo n k p → KeptAt n k m p → IsIndexOf h k → IsIndexOf h m
+pub index_kept : (n : ℕ) (h : Holders) (k m : Ports) (p : List ℕ) → IsSettled k → IsWayTo n k p → KeptAt n 0 k m p → IsIndexOf h k → IsIndexOf h m
 index_kept n h k m [] s w kept is = absurd kept
 index_kept n h k m (zero ∷ p) s w kept is = absurd kept
-index_kept n h k m (suc j ∷ p) s w kept is = same_index h k m (kept s w) is
+index_kept n h k m (suc j ∷ p) s w kept is =
+    same_index h k m (ap all_reached (sym (changed_at-zero (put None) m j p)) ∙ kept s w ∙ ap all_reached (changed_at-zero (put None) k j p)) is
+
+-- the index without what is on a port of the device
+pub index_port : (n port : ℕ) (h : Holders) (k m : Ports) (p l : List ℕ) → l ≡ p ++ port ∷ [] → IsSettled k → IsWayTo n k p → KeptAt n port k m p → IsIndexWithout h k l → IsIndexWithout h m l
+index_port n port h k m [] l e s w kept is = absurd kept
+index_port n port h k m (zero ∷ p) l e s w kept is = absurd kept
+index_port n port h k m (suc j ∷ p) l e s w kept is =
+    subst (λ x. IsIndexWithout h m x) (sym e)
+    (same_index h (without_port port k (suc j ∷ p)) (without_port port m (suc j ∷ p)) (kept s w) (subst (λ x. IsIndexWithout h k x) e is))
 
 -- an attempt changes nothing but the device at its way, with what is below
 pub index_beside : (a : Attempt) (d : Option Damage) (h : Holders) (k m : Ports) (p : List ℕ) → is_whole_tree p ≡ false → IsSettled k → IsWayTo a.addr k p → m ≡ ports_in a d k → IsIndexWithout h k p

@@ -1,13 +1,13 @@
 -- A packet that is for one device of a tree at most, at a path; the empty path is the whole tree's.
-use Rattle.std.specs.Prelude.{◌≡◌, ℕ, zero, suc, ◌&&◌, Bool, true, false, List, [], ◌∷◌, Option, None, Some, ⊤}
+use Rattle.std.specs.Prelude.{◌≡◌, ℕ, zero, suc, ◌&&◌, Bool, true, false, List, [], ◌∷◌, ◌++◌, Option, None, Some, ⊤}
 use Rattle.usb_device.specs.declared.delivery.Sent.{Sent}
 use Rattle.usb_device.specs.declared.transfer.RememberedPacket.TheVariants.{Nothing}
 use Rattle.usb_device.specs.Rows.{State}
-use Rattle.usb_device.specs.Tree.{Ports, Spot, device_there, state_at, reach_at, reach_on}
+use Rattle.usb_device.specs.Tree.{Ports, Spot, changed, put, device_there, state_at, reach_at, reach_on}
 use Rattle.usb_device.specs.Route.{effect_by}
 use Rattle.usb_world.specs.Paths.{same_number, same_path}
 use Rattle.usb_world.specs.AttemptPackets.{deep_at, calls_on, IsSettled, OneHolds}
-use Rattle.usb_device.specs.Holders.{all_reached, keeps_reached}
+use Rattle.usb_device.specs.Holders.{all_reached, keeps_others}
 
 -- no other device remembers anything
 abbrev pub OthersForgot : Ports → Spot → Type 0
@@ -44,13 +44,18 @@ abbrev pub is_whole_tree : List ℕ → Bool
 is_whole_tree [] = true
 is_whole_tree (n ∷ p) = false
 
--- what the device there asks of its ports at what goes out leaves the same devices reached
-abbrev pub IsQuiet : Option Sent → Ports → List ℕ → Type 0
-IsQuiet None k p = ⊤
-IsQuiet (Some q) k p = keeps_reached (effect_by q (is_deep p) (device_there k p)) ≡ true
+-- the tree with nothing on a port of the device at a path
+abbrev pub without_port : ℕ → Ports → List ℕ → Ports
+without_port port k p = changed (put None) k (p ++ port ∷ [])
 
--- the path is a device's, and if that one alone held its address, the same devices are reached, with the same addresses
-abbrev pub KeptAt : ℕ → Ports → Ports → List ℕ → Type 0
-KeptAt n old new [] = ⊥
-KeptAt n old new (zero ∷ p) = ⊥
-KeptAt n old new (suc j ∷ p) = IsSettled old → OneHolds n old (record { row = j; rest = p }) → all_reached new ≡ all_reached old
+-- what the device there asks of its ports at what goes out leaves the same devices reached, but for those on its port of a number and below
+abbrev pub IsQuiet : ℕ → Option Sent → Ports → List ℕ → Type 0
+IsQuiet port None k p = ⊤
+IsQuiet port (Some q) k p = keeps_others port (effect_by q (is_deep p) (device_there k p)) ≡ true
+
+-- the path is a device's, and if that one alone held its address, the same devices are reached, with the same addresses, but for those on its
+-- port of a number and below
+abbrev pub KeptAt : ℕ → ℕ → Ports → Ports → List ℕ → Type 0
+KeptAt n port old new [] = ⊥
+KeptAt n port old new (zero ∷ p) = ⊥
+KeptAt n port old new (suc j ∷ p) = IsSettled old → OneHolds n old (record { row = j; rest = p }) → all_reached (without_port port new (suc j ∷ p)) ≡ all_reached (without_port port old (suc j ∷ p))

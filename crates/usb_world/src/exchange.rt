@@ -89,8 +89,9 @@ impl Exchange {
 }
 
 /// Makes an attempt: the token, then the data, one of them; then what the host says to the answer.
-/// After it no device remembers a packet, also where memory was refused. Tells whether all addresses
-/// are known to be as they were.
+/// After it no device remembers a packet, also where memory was refused. Tells whether the devices
+/// that are reached, and all their addresses, are known to be as they were, but for those on a port
+/// of the device, by its number, and below it.
 ///
 /// It goes straight to the device at a path, where no other reachable device holds the address: the
 /// others have nothing of it, so it costs the same in a large tree as in a small one. The empty path
@@ -103,6 +104,7 @@ impl Exchange {
 pub(crate) fn exchange_along(
     roots: &mut Ports,
     path: &[u8],
+    port: u8,
     attempt: &Attempt,
     damage: Option<Damage>,
     exchange: &mut Exchange,
@@ -114,10 +116,10 @@ pub(crate) fn exchange_along(
     ensures made { OnOk result (Exchanged attempt.now damage roots.old roots.new exchange.new) }
     ensures cut { OnErr result (IsCut attempt.now damage roots.old roots.new) }
     ensures kept { IfOk result (λ kept. kept ≡ true
-        → KeptAt attempt.now.addr roots.old roots.new path.now) }
+        → KeptAt attempt.now.addr port roots.old roots.new path.now) }
 {
     let mut quiet = false;
-    let made = send_packets(roots, path, attempt, damage, &mut quiet, exchange);
+    let made = send_packets(roots, path, port, attempt, damage, &mut quiet, exchange);
     let left = end_attempt(roots, path);
     made?;
     Ok(quiet && left == Some(attempt.addr))
@@ -153,10 +155,12 @@ fn is_deep(path: &[u8]) -> bool
 }
 
 /// Sends the packets of an attempt, and notes what is answered. `quiet` tells whether what the
-/// device at the path asks of its ports is known to leave the same devices reached.
+/// device at the path asks of its ports is known to leave the same devices reached, but for those on
+/// its port of a number.
 fn send_packets(
     roots: &mut Ports,
     path: &[u8],
+    port: u8,
     attempt: &Attempt,
     damage: Option<Damage>,
     quiet: &mut bool,
@@ -165,7 +169,7 @@ fn send_packets(
     requires attempt { IsAttempt attempt.now }
     requires alone { AloneAt (token_out attempt.now damage) roots.old path.now }
     ensures plugged { StaysPlugged roots.old roots.new }
-    ensures quiet { OnOk result (quiet.new ≡ true → IsQuiet (payload_out attempt.now damage)
+    ensures quiet { OnOk result (quiet.new ≡ true → IsQuiet port (payload_out attempt.now damage)
         (after_sent (token_out attempt.now damage) roots.old) path.now) }
     ensures made { OnOk result (PacketsWent attempt.now damage roots.old roots.new exchange.new) }
     ensures alone { AloneAt None roots.new path.now }
@@ -177,7 +181,7 @@ fn send_packets(
     send(roots, path, &goes_out(attempt, &exchange.token), &mut heard)?;
     put_payload(attempt, damage, &mut exchange.payload);
     let data = some_goes_out(attempt, &exchange.payload);
-    exchange.change_cleared = clears_change(roots, path, &data, quiet);
+    exchange.change_cleared = clears_change(roots, path, port, &data, quiet);
     send(roots, path, &data, &mut heard)?;
     put_answer(heard, &mut exchange.answer);
     let place = answer_place(&exchange.payload);
@@ -294,17 +298,18 @@ fn send(
 
 /// Whether a hub will clear a change of connection of one of its ports at what goes out. `quiet`
 /// tells whether what the device at the path asks of its ports is known to leave the same devices
-/// reached.
+/// reached, but for those on its port of a number.
 #[tactic(auto, using(crate::proofs::Routes::route_clears))]
 fn clears_change(
     roots: &Ports,
     path: &[u8],
+    port: u8,
     sent: &Option<LentPacket<'_>>,
     quiet: &mut bool,
 ) -> bool
     requires { AloneAt sent.now roots.now path.now }
     ensures clears { result ≡ clears_at sent.now roots.now }
-    ensures quiet { quiet.new ≡ true → IsQuiet sent.now roots.now path.now }
+    ensures quiet { quiet.new ≡ true → IsQuiet port sent.now roots.now path.now }
 {
     *quiet = false;
     match sent {
@@ -315,7 +320,7 @@ fn clears_change(
         Some(sent) if is_whole(path) => roots.clears_change(sent),
         Some(sent) => {
             let effect = roots.effect_at(path, sent, is_deep(path));
-            *quiet = effect.keeps_reached();
+            *quiet = effect.keeps_others(port);
             effect.clears_change()
         }
     }

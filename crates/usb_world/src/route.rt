@@ -1,22 +1,24 @@
 //! The way of an attempt: straight to the device that holds its address, where one does.
-ghost use Rattle.std.specs.Prelude.{◌≡◌, ◌≤◌, length, false, OnOk, OnErr};
+ghost use Rattle.std.specs.Prelude.{◌≡◌, ◌≤◌, ◌++◌, ◌∷◌, [], length, OnOk, OnErr};
 ghost use Rattle.usb_device.specs.HolderIndex.{IsIndexOf};
 ghost use Rattle.usb_world.specs.World.{IsAttempt};
 ghost use Rattle.usb_world.specs.ExchangeEffects.{StaysPlugged, Exchanged};
 ghost use Rattle.usb_world.specs.AttemptPackets.{IsSettled};
 ghost use Rattle.usb_world.specs.Steps.{IsCut};
 ghost use Rattle.usb_world.specs.Route.{way_in};
-ghost use Rattle.usb_world.specs.LonePackets.{IsWayTo, is_whole_tree};
+ghost use Rattle.usb_world.specs.LonePackets.{IsWayTo};
 
 use crate::Attempt;
 use crate::damage::Damage;
 use crate::exchange::{Exchange, exchange_along, is_whole, make_silence};
 use arrayvec::ArrayVec;
 use std::alloc::AllocError;
-use usb_device::{Holder, Holders, Ports};
+use usb_device::{Holder, Holders, Ports, keeps_enable};
 use usb_packet::TokenKind;
-use usb_request::request_code::SET_CONFIGURATION;
-use usb_request::request_type::DEVICE_OUT;
+use usb_port::PortCall;
+use usb_request::Setup;
+use usb_request::request_code::{CLEAR_FEATURE, SET_CONFIGURATION, SET_FEATURE};
+use usb_request::request_type::{DEVICE_OUT, PORT_OUT};
 
 /// Makes an attempt: the token, then the data, one of them; then what the host says to the answer.
 /// After it no device remembers a packet, also where memory was refused.
@@ -50,12 +52,47 @@ pub fn make_exchange_by(
         make_silence(attempt, damage, exchange);
         return Ok(());
     }
-    let way = way(holders, attempt.addr);
-    if !is_whole(way) && changes_device(attempt) {
-        let path = copied(way);
-        return exchange_at(roots, holders, path.as_slice(), attempt, damage, exchange);
+    match change_of(attempt) {
+        Change::Nothing => exchange_keeping(roots, holders, attempt, damage, exchange),
+        Change::AtDevice => {
+            let path = copied(way(holders, attempt.addr));
+            exchange_at(roots, holders, path.as_slice(), attempt, damage, exchange)
+        }
+        Change::AtPort(port) => {
+            let path = copied(way(holders, attempt.addr));
+            exchange_at_port(
+                roots,
+                holders,
+                path.as_slice(),
+                port,
+                attempt,
+                damage,
+                exchange,
+            )
+        }
     }
-    match exchange_along(roots, way, attempt, damage, exchange) {
+}
+
+/// Makes an attempt of which no change of the index is seen to come; where it may have changed, it is
+/// made anew.
+fn exchange_keeping(
+    roots: &mut Ports,
+    holders: &mut Holders,
+    attempt: &Attempt,
+    damage: Option<Damage>,
+    exchange: &mut Exchange,
+) -> Result<(), AllocError>
+    requires attempt { IsAttempt attempt.now }
+    requires settled { IsSettled roots.old }
+    requires index { IsIndexOf holders.old roots.old }
+    ensures plugged { StaysPlugged roots.old roots.new }
+    ensures settled { IsSettled roots.new }
+    ensures made { OnOk result (Exchanged attempt.now damage roots.old roots.new exchange.new) }
+    ensures cut { OnErr result (IsCut attempt.now damage roots.old roots.new) }
+    ensures index { IsIndexOf holders.new roots.new }
+{
+    let way = way(holders, attempt.addr);
+    match exchange_along(roots, way, 0, attempt, damage, exchange) {
         Ok(true) => Ok(()),
         Ok(false) => {
             holders.renew(roots);
@@ -82,7 +119,6 @@ fn exchange_at(
     requires settled { IsSettled roots.old }
     requires index { IsIndexOf holders.old roots.old }
     requires way { IsWayTo attempt.now.addr roots.old path.now }
-    requires device { is_whole_tree path.now ≡ false }
     ensures plugged { StaysPlugged roots.old roots.new }
     ensures settled { IsSettled roots.new }
     ensures made { OnOk result (Exchanged attempt.now damage roots.old roots.new exchange.new) }
@@ -90,9 +126,9 @@ fn exchange_at(
     ensures index { IsIndexOf holders.new roots.new }
 {
     let forgotten = holders.forget(roots, path);
-    match exchange_along(roots, path, attempt, damage, exchange) {
+    match exchange_along(roots, path, 0, attempt, damage, exchange) {
         Ok(_) => {
-            if forgotten {
+            if forgotten && !is_whole(path) {
                 holders.note(roots, path);
             } else {
                 holders.renew(roots);
@@ -106,20 +142,96 @@ fn exchange_at(
     }
 }
 
-/// Whether the device may take another address at an attempt, or turn all its ports off: at IN of
-/// endpoint 0 at address 0, which may end SET_ADDRESS, and at the data of SET_CONFIGURATION. Nothing
-/// rests on it but the time that the index takes.
-fn changes_device(attempt: &Attempt) -> bool {
-    match (attempt.kind, &attempt.payload) {
-        (TokenKind::InTok, _) => attempt.addr == 0 && attempt.ep == 0,
-        (TokenKind::SetupTok, Some((_, bytes))) => match bytes.as_slice() {
-            [request_type, request, ..] => {
-                *request_type == DEVICE_OUT && *request == SET_CONFIGURATION
+/// Makes an attempt at the device at a path that alone holds the address; who is reached on its port
+/// of a number, and below, may change.
+fn exchange_at_port(
+    roots: &mut Ports,
+    holders: &mut Holders,
+    path: &[u8],
+    port: u8,
+    attempt: &Attempt,
+    damage: Option<Damage>,
+    exchange: &mut Exchange,
+) -> Result<(), AllocError>
+    requires attempt { IsAttempt attempt.now }
+    requires settled { IsSettled roots.old }
+    requires index { IsIndexOf holders.old roots.old }
+    requires way { IsWayTo attempt.now.addr roots.old path.now }
+    requires most { length path.now ≤ 8 }
+    ensures plugged { StaysPlugged roots.old roots.new }
+    ensures settled { IsSettled roots.new }
+    ensures made { OnOk result (Exchanged attempt.now damage roots.old roots.new exchange.new) }
+    ensures cut { OnErr result (IsCut attempt.now damage roots.old roots.new) }
+    ensures index { IsIndexOf holders.new roots.new }
+{
+    let below = below(path, port);
+    let place = below.as_slice();
+    let forgotten = holders.forget(roots, place);
+    match exchange_along(roots, path, port, attempt, damage, exchange) {
+        Ok(kept) => {
+            if forgotten && kept {
+                holders.note(roots, place);
+            } else {
+                holders.renew(roots);
             }
-            _ => false,
-        },
-        _ => false,
+            Ok(())
+        }
+        Err(error) => {
+            holders.renew(roots);
+            Err(error)
+        }
     }
+}
+
+/// What an attempt is seen to change of who is reached, and of their addresses, before it is made.
+/// Nothing rests on it but the time that the index takes.
+enum Change {
+    /// Nothing.
+    Nothing,
+    /// The device may take another address, or turn all its ports off.
+    AtDevice,
+    /// The device may enable or disable its port of this number, or reset the device on it.
+    AtPort(u8),
+}
+
+/// An IN of endpoint 0 at address 0 may end SET_ADDRESS (9.4.6), and SET_CONFIGURATION turns all
+/// ports off (9.4.7).
+fn change_of(attempt: &Attempt) -> Change {
+    match (attempt.kind, &attempt.payload) {
+        (TokenKind::InTok, _) if attempt.addr == 0 && attempt.ep == 0 => Change::AtDevice,
+        (TokenKind::SetupTok, Some((_, bytes))) => match bytes.as_slice().try_into() {
+            Ok(bytes) => change_of_request(&Setup::from_bytes(bytes)),
+            Err(_) => Change::Nothing,
+        },
+        _ => Change::Nothing,
+    }
+}
+
+fn change_of_request(setup: &Setup) -> Change {
+    match (setup.request_type, setup.request) {
+        (DEVICE_OUT, SET_CONFIGURATION) => Change::AtDevice,
+        (PORT_OUT, SET_FEATURE) => change_of_call(PortCall::of_set(setup.value), setup.index),
+        (PORT_OUT, CLEAR_FEATURE) => change_of_call(PortCall::of_clear(setup.value), setup.index),
+        _ => Change::Nothing,
+    }
+}
+
+fn change_of_call(call: Option<PortCall>, port: u16) -> Change {
+    match (call, u8::try_from(port)) {
+        (Some(call), Ok(port)) if !keeps_enable(call) => Change::AtPort(port),
+        _ => Change::Nothing,
+    }
+}
+
+/// The path of a port below another path.
+fn below(path: &[u8], port: u8) -> ArrayVec<u8, 9>
+    requires { length path.now ≤ 8 }
+    ensures { result.items ≡ path.now ++ port ∷ [] }
+{
+    let mut place = ArrayVec::new();
+    place.try_extend_from_slice(path).unwrap();
+    place.push(port);
+    place
 }
 
 /// The same path.

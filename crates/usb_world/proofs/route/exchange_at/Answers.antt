@@ -9,4 +9,4 @@ exchange_along-requires-clause-alone c = alone_token c.args.attempt.now c.args.d
 pub note-requires : goal.note-requires
 note-requires c =
     index_beside c.args.attempt.now c.args.damage c.forget-forgotten.new.self c.args.roots.now c.exchange_along.new.roots c.args.path.now
-    c.requires.device c.requires.settled c.requires.way c.in-Ok.ensures.made.ports (c.if-forgotten.ensures.forgotten refl)
+    (cc (c.is_whole.ensures, c.if-not-is_whole.true)) c.requires.settled c.requires.way c.in-Ok.ensures.made.ports (c.if-forgotten.ensures.forgotten refl)
