@@ -52,6 +52,7 @@ impl Entry {
         Entry { finding, pipes }
     }
 
+    /// What was found at the port.
     pub fn finding(&self) -> &Finding
         ensures value { result.now ≡ self.now.finding }
         ensures sound { IsSoundFinding self.now.finding }
@@ -59,6 +60,7 @@ impl Entry {
         &self.finding
     }
 
+    /// What was found at the port, without the pipes.
     pub fn into_finding(self) -> Finding
         ensures { result ≡ self.finding }
     {
