@@ -6,7 +6,7 @@ use std::alloc::{AllocError, Global};
 use usb_resources::Address;
 
 /// What was found at a port.
-#[derive(Drop)]
+#[derive(Debug, Drop)]
 pub enum Finding {
     /// A device that is configured.
     Device(Accepted),
@@ -15,7 +15,7 @@ pub enum Finding {
 }
 
 /// A device that is configured.
-#[derive(Drop)]
+#[derive(Debug, Drop)]
 pub struct Accepted {
     /// The address that it was given (9.4.6).
     pub address: Address,
