@@ -17,7 +17,7 @@ use usb_enum::Finding;
 use usb_pipe::PipeFault;
 
 /// What was found at a port, with the host's pipes to it.
-#[derive(Drop)]
+#[derive(Debug, Drop)]
 pub(crate) struct Entry {
     finding: Finding,
     pipes: Pipes,
