@@ -34,10 +34,6 @@ less-then one two = record {
 
 -- Ports
 
-charged-or : (x y z : Bool) (n : ℕ) → charged y n ≤ charged z n → charged (x || y) n ≤ charged (x || z) n
-charged-or true y z n h = omega arith
-charged-or false y z n h = h
-
 bit-or : (x y z : Bool) → bit y ≤ bit z → bit (x || y) ≤ bit (x || z)
 bit-or true y z h = omega arith
 bit-or false y z h = h

@@ -1,8 +1,8 @@
 -- How many devices stand at ports, over calls, plugs and unplugs.
-use Rattle.std.proofs.Common.{◌≡◌, ◌≤◌, ℕ, zero, suc, ◌+◌, Bool, true, false, List, [], ◌∷◌, Option, None, Some, refl, ap, arith}
+use Rattle.std.proofs.Common.{◌≡◌, ◌≤◌, ℕ, zero, suc, ◌+◌, Bool, true, false, List, [], ◌∷◌, Option, None, Some, refl, arith}
 use Rattle.usb_device.specs.Rows.{fresh}
 use Rattle.usb_device.specs.Spec.{Spec, Hub}
-use Rattle.usb_device.specs.Tree.{Ports, ended, vacant, taken, all_off, new_ports, first_ports, replaced, changed_at}
+use Rattle.usb_device.specs.Tree.{Ports, ended, vacant, taken, new_ports, first_ports, replaced, changed_at}
 use Rattle.usb_backlog.specs.Marks.{charged, devices_in}
 
 pub charged-less : (x : Bool) (m n : ℕ) → m ≤ n → charged x m ≤ charged x n
@@ -18,12 +18,6 @@ charged-most true n = omega arith
 charged-most false n = omega arith
 
 -- All ports go off
-
-pub devices_in-off : (k : Ports) → devices_in (all_off k) ≡ devices_in k
-unfolding devices_in all_off
-devices_in-off ended = refl
-devices_in-off (vacant b k) = devices_in-off k
-devices_in-off (taken b s a k) = ap (λ n. 1 + devices_in a + n) (devices_in-off k)
 
 -- The ports of a new device
 

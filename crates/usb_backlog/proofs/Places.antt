@@ -126,10 +126,7 @@ strays_by-cleared (taken c t d k) zero (zero ∷ e) b at f h = no (ap is_some at
 strays_by-cleared (taken c t d k) zero (suc j ∷ e) b at f h = omega (arith, strays_by-cleared d j e b at f h)
 strays_by-cleared (taken c t d k) (suc i) e b at f h = omega (arith, strays_by-cleared k i e b at f h)
 
--- a reset that is told is counted, marked or not; one that is cleared is paid; and a mark counts for one at most
-bit-one : (x : Bool) → bit (true || x) ≡ 1
-bit-one x = refl
-
+-- a mark counts for one at most
 bit-most : (x y : Bool) → bit (x || y) ≤ bit y + 1
 bit-most true y = omega arith
 bit-most false y = omega arith
@@ -293,10 +290,6 @@ rest_none f h x i = pick (f (suc i)) refl
 bit-off : (x : Bool) → x ≡ false → bit (x || false) ≡ 0
 bit-off true h = no (sym h)
 bit-off false h = refl
-
-bit-less : (x : Bool) → bit (x || false) ≤ 1
-bit-less true = omega arith
-bit-less false = omega arith
 
 new-none : (v r : PortMark) → ((i : ℕ) → v i [] ≡ false) → ((i : ℕ) → r i [] ≡ false) → (n : ℕ) → strays_by v r (new_ports n) ≡ 0
 unfolding strays_by new_ports

@@ -84,9 +84,6 @@ sent_of T l a w h q o = sent_allowed T l q (subst (IfOut (AllowsOut T)) o (paylo
 pub payload_sets_none : (m r : PortMark) (a : Attempt) (w : World) → PayloadAllows sets_none a.payload → AttemptAllows m r a w
 payload_sets_none m r a w h q o j e t at deep = none_allowed _ _ (effect_of q deep t) (sent_of sets_none refl a w h q o deep t)
 
-pub setup_sets_none : (m r : PortMark) (a : Attempt) (w : World) (bytes : List ℕ) → IsSetup a bytes → Is (setup_of bytes) PORT_OUT SET_FEATURE ≡ false → AttemptAllows m r a w
-setup_sets_none m r a w bytes is h = payload_sets_none m r a w (subst (PayloadAllows sets_none) (sym is.payload) (request_sets_none (setup_of bytes) h))
-
 -- SetPortFeature, where one device holds the address
 
 -- what a device asks at a port of this number, of calls that set a feature: at other ports none that it sets

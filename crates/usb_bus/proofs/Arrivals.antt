@@ -167,13 +167,6 @@ due_goes_on first w v had has now d h is line =
       written = subst (Appends had now) (lines_on first w v e events d.later split t.0) (Appends-trans had has now _ _ d.written line);
     }
 
--- a result's text behind what was written before
-pub writes_after : {A : Type 0} (r : Result A BusFault) (a b c : Option (List ℕ)) (xs ys : List ℕ) → Appends a b xs → WritesText r b c ys → WritesText r a c (xs ++ ys)
-writes_after (Ok x) a b c xs ys h w = Appends-trans a b c xs ys h w
-writes_after (Err LimitReached) a b c xs ys h w = Appends-trans a b c xs ys h w
-writes_after (Err Memory) a b c xs ys h w = Appends-trans a b c xs ys h w
-writes_after (Err TraceFailed) a b c xs ys h w = front_after_first a b c xs ys h w
-
 -- the same fault, told by another call
 pub writes_told : {A B : Type 0} (r : Result A BusFault) (q : Result B BusFault) (a b : Option (List ℕ)) (text : List ℕ) → (f : BusFault) → r ≡ Err f → IsErrAnd q (λ x. x ≡ f) → WritesText r a b text → WritesText q a b text
 writes_told r (Ok x) a b text f e is w = absurd is

@@ -1,15 +1,12 @@
 -- How what went between states of a bus joins.
-use Rattle.std.proofs.Common.{◌≡◌, ℕ, ◌+◌, ◌≤◌, List, Option, Result, sym, subst}
+use Rattle.std.proofs.Common.{◌≡◌, ℕ, ◌+◌, ◌≤◌, List, Option, sym, subst}
 use Rattle.usb_port.specs.declared.call.PortCall.{PortCall}
 use Rattle.usb_port.specs.Calls.{set_call, clear_call, IsSetFeature, IsClearFeature}
 use Rattle.usb_port.proofs.Interface.{call_is}
-use Rattle.usb_world.specs.declared.types.Attempt.{Attempt}
-use Rattle.usb_world.specs.declared.types.BusFault.{BusFault}
-use Rattle.usb_world.specs.declared.types.Outcome.{Outcome}
-use Rattle.usb_world.specs.World.{World, IsAttempt}
+use Rattle.usb_world.specs.World.{World}
 use Rattle.usb_world.specs.Steps.{SetsRoot, ClearsRoot, after, root_call}
 use Rattle.usb_world.proofs.Interface.{spends_none, spends_then, spends_wider}
-use Rattle.usb_bus.specs.Traces.{Attempts, Traced, still, attempted, called, WentOn}
+use Rattle.usb_bus.specs.Traces.{Traced, still, attempted, called, WentOn}
 
 pub traced_then : {a b : World} {t r : Option (List ℕ)} {c : World} {s : Option (List ℕ)} → Traced a t b r → Traced b r c s → Traced a t c s
 traced_then x still = x
@@ -24,10 +21,6 @@ went_then m n {a} {b} {c} p q = record { spends = spends_then m n a b c p.spends
 
 pub went_wider : (m n : ℕ) {a b : World} {t s : Option (List ℕ)} → WentOn m a t b s → m ≤ n → WentOn n a t b s
 went_wider m n {a} {b} p le = record { spends = spends_wider m n a b p.spends le; traced = p.traced }
-
--- one attempt more
-pub traced_attempt : {at : Attempt} {result : Result Outcome BusFault} {a b c : World} {t r s : Option (List ℕ)} → IsAttempt at → Traced a t b r → Attempts at b r result c s → Traced a t c s
-traced_attempt {at} {result} fits before made = attempted at result fits before made
 
 -- one root call more
 called_as : {a b c : World} {t r s : Option (List ℕ)} (call : PortCall) (port : ℕ) → Traced a t b r → c ≡ after (root_call call port) b → s ≡ r → Traced a t c s

@@ -112,10 +112,6 @@ pub matched_ok : {A E : Type 0} (r : Result A E) (P : A → Type 0) (Q : E → T
 matched_ok (Ok x) P Q h = h
 matched_ok (Err why) P Q h = tt
 
-pub matched_err : {A E : Type 0} (r : Result A E) (P : A → Type 0) (Q : E → Type 0) → MatchResult r P Q → IfErr r Q
-matched_err (Ok x) P Q h = tt
-matched_err (Err why) P Q h = h
-
 -- what is so of each error
 pub by_error : {A E : Type 0} (r : Result A E) (P : E → Type 0) → ((why : E) → r ≡ Err why → P why) → IfErr r P
 by_error (Ok x) P f = tt

@@ -19,6 +19,7 @@ pub(crate) struct Addressed {
 }
 
 impl Addressed {
+    /// Whether its class is that of hubs (11.23.1).
     pub fn is_hub(&self) -> bool
         ensures { result ≡ (device_class self.now.bytes == HUB_CLASS) }
     {

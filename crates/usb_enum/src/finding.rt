@@ -6,7 +6,7 @@ use std::alloc::{AllocError, Global};
 use usb_resources::Address;
 
 /// What was found at a port.
-#[derive(Drop)]
+#[derive(Debug, Drop)]
 pub enum Finding {
     /// A device that is configured.
     Device(Accepted),
@@ -15,16 +15,19 @@ pub enum Finding {
 }
 
 /// A device that is configured.
-#[derive(Drop)]
+#[derive(Debug, Drop)]
 pub struct Accepted {
+    /// The address that it was given (9.4.6).
     pub address: Address,
     /// Whether it is a low-speed device.
     pub low: bool,
     /// Its device descriptor (9.6.1).
     pub bytes: [u8; 18],
+    /// Its configurations, each whole (9.6.3).
     pub configs: ConfigTexts,
     /// The index in `configs` of the configuration that it was set to.
     pub chosen: usize,
+    /// The strings that its device descriptor names (9.6.7).
     pub strings: Strings,
     /// What a hub says of its ports; `None` of a function.
     pub hub: Option<HubFacts>,

@@ -24,8 +24,11 @@ use usb_transaction::Target;
 /// the descriptor names by 0, that the device does not give or that is malformed is `None`.
 #[derive(Debug, Drop)]
 pub struct Strings {
+    /// What iManufacturer names.
     pub manufacturer: Option<StringUnits>,
+    /// What iProduct names.
     pub product: Option<StringUnits>,
+    /// What iSerialNumber names.
     pub serial_number: Option<StringUnits>,
 }
 

@@ -12,6 +12,7 @@ use usb_bus::{Attempt, Bus, BusFault, Outcome};
 /// How many attempts were made, and how many of them each answer had. No count goes beyond the greatest `u64`.
 #[derive(Clone, Copy, Debug, PartialEq, Eq)]
 pub struct Counts {
+    /// All of them.
     pub attempts: u64,
     /// The device was not ready.
     pub naks: u64,

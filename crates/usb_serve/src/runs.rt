@@ -135,7 +135,9 @@ fn round_fault(fault: HostFault) -> RunFault
 /// What a whole run made: its items in order, and its counts.
 #[derive(Drop)]
 pub struct Report {
+    /// What the run made, the first one first.
     pub items: Vec<Item>,
+    /// How many attempts were made.
     pub attempts: u64,
     /// How often a device did not see the host's ACK of SET_ADDRESS.
     pub address_losses: u64,

@@ -17,7 +17,7 @@ use usb_enum::Finding;
 use usb_pipe::PipeFault;
 
 /// What was found at a port, with the host's pipes to it.
-#[derive(Drop)]
+#[derive(Debug, Drop)]
 pub(crate) struct Entry {
     finding: Finding,
     pipes: Pipes,
@@ -52,6 +52,7 @@ impl Entry {
         Entry { finding, pipes }
     }
 
+    /// What was found at the port.
     pub fn finding(&self) -> &Finding
         ensures value { result.now ≡ self.now.finding }
         ensures sound { IsSoundFinding self.now.finding }
@@ -59,6 +60,7 @@ impl Entry {
         &self.finding
     }
 
+    /// What was found at the port, without the pipes.
     pub fn into_finding(self) -> Finding
         ensures { result ≡ self.finding }
     {

@@ -11,7 +11,7 @@ use std::collections::BTreeMap;
 use usb_port::PortPath;
 
 /// The keys under which entries are kept.
-#[derive(Drop)]
+#[derive(Debug, Drop)]
 pub(crate) struct Indexes {
     /// Of each entry.
     pub by_path: BTreeMap<PortPath, usize>,

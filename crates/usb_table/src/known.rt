@@ -13,7 +13,9 @@ use usb_resources::supply;
 /// A port, and what it gives to a device, in mA (7.2.1).
 #[derive(Clone, Copy, Debug, PartialEq, Eq)]
 pub struct KnownPort {
+    /// The port, of the root or of a hub.
     pub port: HubPort,
+    /// In mA.
     pub supply: u16,
 }
 

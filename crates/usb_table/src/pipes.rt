@@ -18,7 +18,7 @@ use usb_enum::Accepted;
 use usb_pipe::{BulkPipe, InterruptPipe, PipeFault};
 
 /// The host's pipes to what stands at a port.
-#[derive(Drop)]
+#[derive(Debug, Drop)]
 pub(crate) enum Pipes {
     /// To a hub's status endpoint (11.12.1).
     Hub(InterruptPipe),
@@ -29,7 +29,7 @@ pub(crate) enum Pipes {
 }
 
 /// The pipes to a function's first bulk endpoints; a low-speed device has none (5.8.3).
-#[derive(Drop)]
+#[derive(Debug, Drop)]
 pub(crate) struct BulkPipes {
     pub out: Option<BulkPipe>,
     pub into: Option<BulkPipe>,

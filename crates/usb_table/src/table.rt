@@ -37,7 +37,7 @@ use usb_port::PortPath;
 use usb_resources::Address;
 
 /// What stands at each port, by the port's path, with the host's pipes to it.
-#[derive(Drop)]
+#[derive(Debug, Drop)]
 pub struct DeviceTable {
     entries: Slab<Entry>,
     indexes: Indexes,

@@ -33,11 +33,14 @@ pub enum Answer {
     End,
     /// What is wanted: to send bytes to the bulk endpoint of the device at a port (5.8).
     Send {
+        /// The port.
         path: PortPath,
+        /// 0 to 64 bytes.
         bytes: ArrayVec<u8, 64>,
     },
     /// What is wanted: to receive from the bulk endpoint of the device at a port (5.8).
     Receive {
+        /// The port.
         path: PortPath,
         /// The most packets, 0 to 1,000.
         packets: u16,

@@ -47,19 +47,27 @@ pub enum Question {
     Hello,
     /// An attempt to send setup data, in DATA0 (8.5.3).
     Setup {
+        /// The device's speed.
         speed: Speed,
+        /// The device's address, and the endpoint.
         endpoint: Endpoint,
+        /// The setup data.
         setup: Setup,
     },
     /// An attempt to send data (8.5.1).
     Out {
+        /// The device's speed.
         speed: Speed,
+        /// The device's address, and the endpoint.
         endpoint: Endpoint,
+        /// The data.
         sent: DataPacket,
     },
     /// An attempt to have data sent (8.5.1).
     In {
+        /// The device's speed.
         speed: Speed,
+        /// The device's address, and the endpoint.
         endpoint: Endpoint,
         /// The most bytes of the endpoint's packets, 1 to 64.
         most: u8,
@@ -68,6 +76,7 @@ pub enum Question {
     Port {
         /// The root port's number, 1 to 7.
         number: u8,
+        /// The call.
         call: PortCall,
     },
     /// The host has nothing left to do, and asks what is wanted.

@@ -21,20 +21,6 @@ use Rattle.usb_world.specs.SanePorts.{IsSanePort, IsSane, IsSanePlace, HasItsPor
 use Rattle.usb_world.proofs.Booleans.{both, and_of, no}
 use Rattle.usb_world.proofs.Counts.{acted_long, first_long, off_long, row_long_at}
 
--- the port is powered, something is attached, and it is enabled (11.5)
-abbrev pub is_open : PortState → Bool
-is_open b = (b.power && is_attached b.attached) && b.enable
-
--- whether a device stands at a path and each port on its way, and its own, is so
-unfoldable pub open_at : Ports → ℕ → List ℕ → Bool
-open_at ended i p = false
-open_at (vacant b k) zero p = false
-open_at (vacant b k) (suc i) p = open_at k i p
-open_at (taken b s a k) zero [] = is_open b
-open_at (taken b s a k) zero (zero ∷ p) = false
-open_at (taken b s a k) zero (suc j ∷ p) = is_open b && open_at a j p
-open_at (taken b s a k) (suc i) p = open_at k i p
-
 -- Ports
 
 sane_off : (b : PortState) → IsSanePort (powered_off b)
@@ -179,24 +165,6 @@ unfolding IsSane all_forgotten
 sane_forgotten ended h = h
 sane_forgotten (vacant b k) h = (h.0, h.1, sane_forgotten k h.2)
 sane_forgotten (taken b s a k) h = (h.0, h.1, sane_forgotten a h.2, sane_forgotten k h.3, h.4, ap length (row_of-forgotten a) ∙ h.5)
-
--- a device is reached where its port and each on its way is powered, sees what is attached, and is enabled
-enabled_open : (b : PortState) → IsSanePort b → b.enable ≡ is_open b
-enabled_open b h = lit b.enable refl
-  where
-    lit : (x : Bool) → b.enable ≡ x → x ≡ ((b.power && is_attached b.attached) && x)
-    lit true e = sym (and_of (b.power && is_attached b.attached) true (h.enabled e) refl)
-    lit false e = elim (b.power && is_attached b.attached) as (λ y. false ≡ (y && false)) [ true ↦ refl | false ↦ refl ]
-
-pub reach_open : (k : Ports) (i : ℕ) (p : List ℕ) → IsSane k → reach_at k i p ≡ open_at k i p
-unfolding IsSane reach_at open_at
-reach_open ended i p h = refl
-reach_open (vacant b k) zero p h = refl
-reach_open (vacant b k) (suc i) p h = reach_open k i p h.2
-reach_open (taken b s a k) zero [] h = enabled_open b h.0
-reach_open (taken b s a k) zero (zero ∷ p) h = refl
-reach_open (taken b s a k) zero (suc j ∷ p) h = ap (λ x. x && reach_at a j p) (enabled_open b h.0) ∙ ap (λ x. is_open b && x) (reach_open a j p h.2)
-reach_open (taken b s a k) (suc i) p h = reach_open k i p h.3
 
 pub reach_live : (k : Ports) (i : ℕ) (p : List ℕ) → IsSane k → reach_at k i p ≡ true → live_at k i p ≡ true
 unfolding IsSane reach_at live_at

@@ -12,10 +12,9 @@ use Rattle.usb_world.specs.declared.event.Action.TheVariants.{Plug, Unplug, Show
 use Rattle.usb_world.specs.declared.event.Event.{Event}
 use Rattle.usb_world.specs.Courses.{NoneNames, Undisturbed}
 use Rattle.usb_world.specs.Paths.{is_way, on_way, same_path, same_number}
-use Rattle.usb_world.specs.PortRequests.{is_above}
 use Rattle.usb_world.specs.Steps.{names_path, way_of}
 use Rattle.usb_world.specs.World.{World}
-use Rattle.usb_world.proofs.RootResets.{is_same, same_is}
+use Rattle.usb_world.proofs.RootResets.{is_same}
 use Rattle.usb_world.proofs.Booleans.{no, both, and_of, or_left, or_right, either_of, same_bools}
 use Rattle.usb_world.proofs.Equality.{self_number, self_path}
 
@@ -76,30 +75,9 @@ pub at_or_below_way : (x p : List ℕ) → (pointwise nat_eq x p || is_port_belo
 at_or_below_way x p =
     same_bools (pointwise nat_eq x p || is_port_below x p) (is_way p x) (below_rest x p) (λ h. let rest = way_rest p x h in rest_below x p rest.0 rest.1)
 
-long_rest : (x p : List ℕ) → is_port_below x p ≡ true → (s : Bool) → same_path p x ≡ s → s ≡ false
-long_rest x p h true e =
-    let rest = (below x p).0 h in
-    let long : length x ≡ length p + length rest.0 = ap length rest.1 ∙ length-append p rest.0 in
-    let same : length x ≡ length p = ap length (same_is p x e) in
-    let some = rest.2 in
-    absurd (omega (arith, long, same, some))
-long_rest x p h false e = refl
-
-is_apart : (a b : Bool) → a ≡ true → b ≡ false → (a && not b) ≡ true
-is_apart true true h g = no (sym g)
-is_apart true false h g = refl
-is_apart false b h g = h
-
 further : (x p rest : List ℕ) → x ≡ p ++ rest → not (same_path p x) ≡ true → is_port_below x p ≡ true
 further x p [] e h = no (sym (ap (λ (l : List ℕ). not (same_path p l)) (e ∙ append-nil p) ∙ ap not (self_path p)) ∙ h)
 further x p (n ∷ rest) e h = (below x p).1 (n ∷ rest, e, omega arith)
-
--- a path stands below another that leads to it, and beyond
-pub below_way : (x p : List ℕ) → is_port_below x p ≡ is_above p x
-below_way x p =
-    same_bools (is_port_below x p) (is_above p x)
-    (λ h. is_apart (is_way p x) (same_path p x) (below_rest x p (or_right (pointwise nat_eq x p) (is_port_below x p) h)) (long_rest x p h (same_path p x) refl))
-    (λ h. let parts = both (is_way p x) (not (same_path p x)) h in let rest = way_rest p x parts.0 in further x p rest.0 rest.1 parts.1)
 
 -- Above
 
