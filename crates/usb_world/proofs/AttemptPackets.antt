@@ -1,5 +1,5 @@
 -- What an attempt's packets do to reachable, live and pending.
-use Rattle.std.proofs.Common.{◌≡◌, ℕ, zero, suc, ◌&&◌, ◌||◌, not, if◌then◌else◌, Bool, true, false, List, [], ◌∷◌, Option, None, Some, option_map, refl, ap, sym, ◌∙◌}
+use Rattle.std.proofs.Common.{◌≡◌, ℕ, zero, suc, ◌||◌, not, if◌then◌else◌, Bool, true, false, List, [], ◌∷◌, Option, None, Some, option_map, refl, ap, sym, ◌∙◌}
 use Rattle.usb_packet.specs.declared.Packet.{Packet}
 use Rattle.usb_packet.specs.declared.Packet.TheVariants.{Token, Payload, Ack, Sof, Nak, Stall, Pre}
 use Rattle.usb_port.specs.PortState.{PortState, powered_off}
@@ -13,7 +13,7 @@ use Rattle.usb_device.specs.declared.transfer.RememberedPacket.TheVariants.{Noth
 use Rattle.usb_device.specs.Rows.{State, Reply, forgotten, received, unread, answered}
 use Rattle.usb_device.specs.Attempt.{is_own}
 use Rattle.usb_device.specs.Effect.{asks}
-use Rattle.usb_device.specs.Tree.{Ports, ended, vacant, taken, full, all_off, acted, row_of, reach_at, state_at, port_at, place_at}
+use Rattle.usb_device.specs.Tree.{Ports, ended, vacant, taken, empty, full, all_off, acted, row_of, reach_at, state_at, port_at, place_at}
 use Rattle.usb_device.specs.Delivery.{hears, reply_to, answer_of, asked_by, effect_of, after_packet, all_forgotten}
 use Rattle.usb_world.specs.declared.wire.Mark.{Mark}
 use Rattle.usb_world.specs.declared.wire.Mark.TheVariants as mark
@@ -23,7 +23,9 @@ use Rattle.usb_world.specs.WayEffects.{IsNew, resets_at, packet_spares}
 use Rattle.usb_world.specs.SanePorts.{IsSane}
 use Rattle.usb_world.specs.AttemptPackets.{after_sent, after_attempt, calls_on, IsTokenFor, IsAckOut, IfOut, IsAttemptAt, sent_resets, sent_spares, attempt_resets, attempt_spares, IsSettled}
 use Rattle.usb_world.proofs.Booleans.{no, and_false}
-use Rattle.usb_world.proofs.PacketEffects.{packet_new, packet_reach, packet_pend, packet_live}
+use Rattle.usb_world.proofs.PacketEffects.{packet_new, packet_reach, packet_kept}
+use Rattle.usb_world.proofs.PortCalls.{KeepsPending}
+use Rattle.usb_world.proofs.WayChanges.{SamePorts, same_ports, same_head, passed_ports}
 use Rattle.usb_world.proofs.SanePorts.{sane_packet, sane_forgotten}
 use Rattle.usb_world.proofs.States.{forgets}
 
@@ -121,13 +123,9 @@ sent_new : (o : Option Sent) (k : Ports) (j : ℕ) (p : List ℕ) → sent_reset
 sent_new None k j p h = no h
 sent_new (Some q) k j p h = packet_new q false k j p h
 
-sent_pend : (o : Option Sent) (k : Ports) (j : ℕ) (p : List ℕ) → sent_spares o k j p ≡ true → pend_at k j p ≡ true → pend_at (after_sent o k) j p ≡ true
-sent_pend None k j p f h = h
-sent_pend (Some q) k j p f h = packet_pend q false k j p f h
-
-sent_live : (o : Option Sent) (k : Ports) (j : ℕ) (p : List ℕ) → sent_spares o k j p ≡ true → live_at k j p ≡ true → live_at (after_sent o k) j p ≡ true
-sent_live None k j p f h = h
-sent_live (Some q) k j p f h = packet_live q false k j p f h
+sent_kept : (o : Option Sent) (k : Ports) (j : ℕ) (p : List ℕ) → sent_spares o k j p ≡ true → KeepsPending k (after_sent o k) j p
+sent_kept None k j p f = (λ h. h, λ h. h)
+sent_kept (Some q) k j p f = packet_kept q false k j p f
 
 sent_sane : (o : Option Sent) (k : Ports) → IsSane k → IsSane (after_sent o k)
 sent_sane None k h = h
@@ -135,47 +133,16 @@ sent_sane (Some q) k h = sane_packet q false k h
 
 -- Forgetting
 
-pub forgotten_reach : (k : Ports) (j : ℕ) (p : List ℕ) → reach_at (all_forgotten k) j p ≡ reach_at k j p
-unfolding all_forgotten reach_at
-forgotten_reach ended j p = refl
-forgotten_reach (vacant b k) zero p = refl
-forgotten_reach (vacant b k) (suc j) p = forgotten_reach k j p
-forgotten_reach (taken b s a k) zero [] = refl
-forgotten_reach (taken b s a k) zero (zero ∷ p) = refl
-forgotten_reach (taken b s a k) zero (suc j ∷ p) = ap (λ x. b.enable && x) (forgotten_reach a j p)
-forgotten_reach (taken b s a k) (suc j) p = forgotten_reach k j p
-
-pub forgotten_live : (k : Ports) (j : ℕ) (p : List ℕ) → live_at (all_forgotten k) j p ≡ live_at k j p
-unfolding all_forgotten live_at
-forgotten_live ended j p = refl
-forgotten_live (vacant b k) zero [] = refl
-forgotten_live (vacant b k) zero (n ∷ p) = refl
-forgotten_live (vacant b k) (suc j) p = forgotten_live k j p
-forgotten_live (taken b s a k) zero [] = refl
-forgotten_live (taken b s a k) zero (zero ∷ p) = refl
-forgotten_live (taken b s a k) zero (suc j ∷ p) = ap (λ x. b.power && x) (forgotten_live a j p)
-forgotten_live (taken b s a k) (suc j) p = forgotten_live k j p
-
-pub forgotten_pend : (k : Ports) (j : ℕ) (p : List ℕ) → pend_at (all_forgotten k) j p ≡ pend_at k j p
-unfolding all_forgotten pend_at
-forgotten_pend ended j p = refl
-forgotten_pend (vacant b k) zero p = refl
-forgotten_pend (vacant b k) (suc j) p = forgotten_pend k j p
-forgotten_pend (taken b s a k) zero [] = refl
-forgotten_pend (taken b s a k) zero (zero ∷ p) = refl
-forgotten_pend (taken b s a k) zero (suc j ∷ p) = ap (λ x. b.power && (b.connection_changed || x)) (forgotten_pend a j p)
-forgotten_pend (taken b s a k) (suc j) p = forgotten_pend k j p
-
-pub forgotten_port : (k : Ports) (j : ℕ) (p : List ℕ) → port_at (all_forgotten k) j p ≡ port_at k j p
-unfolding all_forgotten port_at
-forgotten_port ended j p = refl
-forgotten_port (vacant b k) zero [] = refl
-forgotten_port (vacant b k) zero (n ∷ p) = refl
-forgotten_port (vacant b k) (suc j) p = forgotten_port k j p
-forgotten_port (taken b s a k) zero [] = refl
-forgotten_port (taken b s a k) zero (zero ∷ p) = refl
-forgotten_port (taken b s a k) zero (suc j ∷ p) = forgotten_port a j p
-forgotten_port (taken b s a k) (suc j) p = forgotten_port k j p
+pub forgotten_ports : (k : Ports) (j : ℕ) (p : List ℕ) → SamePorts k (all_forgotten k) j p
+unfolding all_forgotten reach_at live_at pend_at port_at
+forgotten_ports ended j p = same_ports ended j p
+forgotten_ports (vacant b k) zero p = (same_head (empty b) k (all_forgotten k) p).0
+forgotten_ports (vacant b k) (suc j) p = forgotten_ports k j p
+forgotten_ports (taken b s a k) zero [] = same_ports (taken b s a k) zero []
+forgotten_ports (taken b s a k) zero (zero ∷ p) = same_ports (taken b s a k) zero (zero ∷ p)
+forgotten_ports (taken b s a k) zero (suc j ∷ p) =
+    passed_ports b s (forgotten s) a (all_forgotten a) k (all_forgotten k) j p (forgotten_ports a j p)
+forgotten_ports (taken b s a k) (suc j) p = forgotten_ports k j p
 
 pub forgotten_state : (k : Ports) (j : ℕ) (p : List ℕ) → state_at (all_forgotten k) j p ≡ option_map forgotten (state_at k j p)
 unfolding all_forgotten state_at
@@ -307,7 +274,7 @@ attempt_reach n t d r is k j p f h =
     sent_reach t k j p (calm_sent t (token_out n t is.token) k j p)
     (sent_reach d (after_sent t k) j p f
     (sent_reach r (after_sent d (after_sent t k)) j p (calm_sent r (ack_out r is.reply) (after_sent d (after_sent t k)) j p)
-    (sym (forgotten_reach (after_sent r (after_sent d (after_sent t k))) j p) ∙ h)))
+    (sym (forgotten_ports (after_sent r (after_sent d (after_sent t k))) j p).0 ∙ h)))
 
 -- a device that an attempt resets is new after it
 pub attempt_new : (n : ℕ) (t d r : Option Sent) → IsAttemptAt n t d r → (k : Ports) (j : ℕ) (p : List ℕ)
@@ -315,19 +282,15 @@ pub attempt_new : (n : ℕ) (t d r : Option Sent) → IsAttemptAt n t d r → (k
 attempt_new n t d r is k j p h =
     forgotten_new (after_sent r (after_sent d (after_sent t k))) j p (ack_sent_new r is.reply (after_sent d (after_sent t k)) j p (sent_new d (after_sent t k) j p h))
 
-pub attempt_pend : (n : ℕ) (t d r : Option Sent) → IsAttemptAt n t d r → (k : Ports) (j : ℕ) (p : List ℕ)
-    → attempt_spares t d k j p ≡ true → pend_at k j p ≡ true → pend_at (after_attempt t d r k) j p ≡ true
-attempt_pend n t d r is k j p f h =
-    forgotten_pend (after_sent r (after_sent d (after_sent t k))) j p
-    ∙ sent_pend r (after_sent d (after_sent t k)) j p (calm_sent_spares r (ack_out r is.reply) (after_sent d (after_sent t k)) j p)
-    (sent_pend d (after_sent t k) j p f (sent_pend t k j p (calm_sent_spares t (token_out n t is.token) k j p) h))
-
-pub attempt_live : (n : ℕ) (t d r : Option Sent) → IsAttemptAt n t d r → (k : Ports) (j : ℕ) (p : List ℕ)
-    → attempt_spares t d k j p ≡ true → live_at k j p ≡ true → live_at (after_attempt t d r k) j p ≡ true
-attempt_live n t d r is k j p f h =
-    forgotten_live (after_sent r (after_sent d (after_sent t k))) j p
-    ∙ sent_live r (after_sent d (after_sent t k)) j p (calm_sent_spares r (ack_out r is.reply) (after_sent d (after_sent t k)) j p)
-    (sent_live d (after_sent t k) j p f (sent_live t k j p (calm_sent_spares t (token_out n t is.token) k j p) h))
+-- what is live or pending, and spared, is so after an attempt
+pub attempt_kept : (n : ℕ) (t d r : Option Sent) → IsAttemptAt n t d r → (k : Ports) (j : ℕ) (p : List ℕ)
+    → attempt_spares t d k j p ≡ true → KeepsPending k (after_attempt t d r k) j p
+attempt_kept n t d r is k j p f =
+    let first : _ = sent_kept t k j p (calm_sent_spares t (token_out n t is.token) k j p) in
+    let second : _ = sent_kept d (after_sent t k) j p f in
+    let third : _ = sent_kept r (after_sent d (after_sent t k)) j p (calm_sent_spares r (ack_out r is.reply) (after_sent d (after_sent t k)) j p) in
+    let same : _ = forgotten_ports (after_sent r (after_sent d (after_sent t k))) j p in
+    (λ h. same.1 ∙ third.0 (second.0 (first.0 h)), λ h. same.2 ∙ third.1 (second.1 (first.1 h)))
 
 pub attempt_sane : (t d r : Option Sent) (k : Ports) → IsSane k → IsSane (after_attempt t d r k)
 attempt_sane t d r k h = sane_forgotten (after_sent r (after_sent d (after_sent t k))) (sent_sane r (after_sent d (after_sent t k)) (sent_sane d (after_sent t k) (sent_sane t k h)))

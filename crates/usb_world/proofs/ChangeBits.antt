@@ -23,11 +23,11 @@ use Rattle.usb_world.specs.Steps.{happened, way_of, names_path, took, ready, dam
 use Rattle.usb_world.specs.Courses.{made_resets, root_resets}
 use Rattle.usb_world.specs.PortRequests.{sent_leaves, made_leaves, root_leaves, leaves_step, LeavesPort, row_reached, StillSet}
 use Rattle.usb_world.proofs.Booleans.{no, both, and_false, or_right, not_true}
-use Rattle.usb_world.proofs.PortCalls.{call_port, call_port_below}
-use Rattle.usb_world.proofs.PacketPlaces.{way_port}
-use Rattle.usb_world.proofs.AttemptPackets.{token_out as token_calm, ack_out as ack_calm, forgotten_port}
+use Rattle.usb_world.proofs.PacketPlaces.{way_ports}
+use Rattle.usb_world.proofs.AttemptPackets.{token_out as token_calm, ack_out as ack_calm, forgotten_ports}
 use Rattle.usb_world.proofs.LiftedSteps.{OverSteps, happened_by, over_course}
 use Rattle.usb_world.proofs.Courses.{happened_reach, made_reach, root_reach, goes}
+use Rattle.usb_world.proofs.WayChanges.{called_apart}
 use Rattle.usb_world.proofs.PacketWays.{calm_leaves}
 
 still_same : (b : PortState) (o : Option PortState) → o ≡ Some b → StillSet b o
@@ -125,12 +125,12 @@ row_happened a d k (m ∷ q) h = happened_reach a d k (m ∷ q) h
 
 sent_port : (o : Option Sent) (k : Ports) (j : ℕ) (p : List ℕ) → sent_leaves o k j p ≡ true → port_at (after_sent o k) j p ≡ port_at k j p
 sent_port None k j p h = refl
-sent_port (Some q) k j p h = way_port q false k j p h
+sent_port (Some q) k j p h = (way_ports q false k j p h).3
 
 attempt_port : (n : ℕ) (t d r : Option Sent) → IsAttemptAt n t d r → (k : Ports) (j : ℕ) (p : List ℕ) → sent_leaves d (after_sent t k) j p ≡ true
     → port_at (after_attempt t d r k) j p ≡ port_at k j p
 attempt_port n t d r is k j p h =
-    forgotten_port (after_sent r (after_sent d (after_sent t k))) j p
+    (forgotten_ports (after_sent r (after_sent d (after_sent t k))) j p).3
     ∙ sent_port r (after_sent d (after_sent t k)) j p (calm_leaves r (ack_calm r is.reply) (after_sent d (after_sent t k)) j p)
     ∙ sent_port d (after_sent t k) j p h
     ∙ sent_port t k j p (calm_leaves t (token_calm n t is.token) k j p)
@@ -184,31 +184,11 @@ left_root c (suc i) k (suc j ∷ x ∷ q) n h = refl
 
 -- Steps
 
-call_apart : (c : PortCall) (k : Ports) (i j : ℕ) (p : List ℕ) → not (same_number i j) ≡ true → port_at (changed_at (called c) k i []) j p ≡ port_at k j p
-unfolding changed_at port_at
-call_apart c ended i j p h = refl
-call_apart c (vacant b k) zero zero p h = no h
-call_apart c (vacant b k) zero (suc j) p h = refl
-call_apart c (vacant b k) (suc i) zero [] h = refl
-call_apart c (vacant b k) (suc i) zero (n ∷ p) h = refl
-call_apart c (vacant b k) (suc i) (suc j) p h = call_apart c k i j p h
-call_apart c (taken b s a k) zero zero p h = no h
-call_apart c (taken b s a k) zero (suc j) [] h = call_port c (taken b s a k) zero (suc j) ∙ unmapped (port_at k j [])
-  where
-    unmapped : (o : Option PortState) → elim o as (λ _. Option PortState) [ None ↦ None | Some x ↦ Some x ] ≡ o
-    unmapped None = refl
-    unmapped (Some x) = refl
-call_apart c (taken b s a k) zero (suc j) (n ∷ p) h = call_port_below c (taken b s a k) zero (suc j) n p (and_false (is_reset c))
-call_apart c (taken b s a k) (suc i) zero [] h = refl
-call_apart c (taken b s a k) (suc i) zero (zero ∷ p) h = refl
-call_apart c (taken b s a k) (suc i) zero (suc n ∷ p) h = refl
-call_apart c (taken b s a k) (suc i) (suc j) p h = call_apart c k i j p h
-
 pub root_port : (c : PortCall) (m : ℕ) (k : Ports) (p : List ℕ) → root_leaves m p ≡ true → port_there (changed (called c) k (m ∷ [])) p ≡ port_there k p
 root_port c m k [] h = refl
 root_port c m k (zero ∷ p) h = refl
 root_port c zero k (suc j ∷ p) h = refl
-root_port c (suc i) k (suc j ∷ p) h = call_apart c k i j p h
+root_port c (suc i) k (suc j ∷ p) h = (called_apart c k i j p h).0.3
 
 made_row : (a : Attempt) (w : World) (q : List ℕ) (n : ℕ) → made_leaves a w (q ++ (n ∷ [])) ≡ true → row_reached (with_attempt a w).roots q ≡ true → row_reached w.roots q ≡ true
 made_row a w [] n g h = refl

@@ -26,8 +26,8 @@ use Rattle.usb_world.specs.Courses.{NoneNames, Undisturbed, is_made, made_resets
 use Rattle.usb_world.proofs.Booleans.{no, both, decided}
 use Rattle.usb_world.proofs.LiftedSteps.{OverEvents, OverSteps, with_limit_told, with_call, happened_by, over_due, over_step, over_course, made_after}
 use Rattle.usb_world.proofs.PlugEvents.{event_reach, event_live, event_pend}
-use Rattle.usb_world.proofs.PortCalls.{call_new, call_reach, call_live, call_pend}
-use Rattle.usb_world.proofs.AttemptPackets.{attempt_reach, attempt_new, attempt_pend, attempt_live, sent_out}
+use Rattle.usb_world.proofs.PortCalls.{call_new, call_reach, call_kept}
+use Rattle.usb_world.proofs.AttemptPackets.{attempt_reach, attempt_new, attempt_kept, sent_out}
 
 -- Undisturbed
 
@@ -154,13 +154,13 @@ pub made_pend : (a : Attempt) (w : World) (p : List ℕ) → made_spares a w p �
 unfolding with_attempt ports_in
 made_pend a w [] f h = no h
 made_pend a w (zero ∷ p) f h = no h
-made_pend a w (suc j ∷ p) f h = attempt_pend a.addr (token_out a (damage_in w)) (payload_out a (damage_in w)) (reply_out a (damage_in w) w.roots) (goes a (damage_in w) w.roots) w.roots j p f h
+made_pend a w (suc j ∷ p) f h = (attempt_kept a.addr (token_out a (damage_in w)) (payload_out a (damage_in w)) (reply_out a (damage_in w) w.roots) (goes a (damage_in w) w.roots) w.roots j p f).1 h
 
 pub made_live : (a : Attempt) (w : World) (p : List ℕ) → made_spares a w p ≡ true → live w.roots p ≡ true → live (with_attempt a w).roots p ≡ true
 unfolding with_attempt ports_in
 made_live a w [] f h = no h
 made_live a w (zero ∷ p) f h = no h
-made_live a w (suc j ∷ p) f h = attempt_live a.addr (token_out a (damage_in w)) (payload_out a (damage_in w)) (reply_out a (damage_in w) w.roots) (goes a (damage_in w) w.roots) w.roots j p f h
+made_live a w (suc j ∷ p) f h = (attempt_kept a.addr (token_out a (damage_in w)) (payload_out a (damage_in w)) (reply_out a (damage_in w) w.roots) (goes a (damage_in w) w.roots) w.roots j p f).0 h
 
 -- A root call
 
@@ -180,13 +180,13 @@ pub root_pend : (c : PortCall) (n : ℕ) (k : Ports) (p : List ℕ) → root_spa
 root_pend c n k [] g h = no h
 root_pend c n k (zero ∷ p) g h = no h
 root_pend c zero k (suc j ∷ p) g h = h
-root_pend c (suc i) k (suc j ∷ p) g h = call_pend c k i j p g h
+root_pend c (suc i) k (suc j ∷ p) g h = (call_kept c k i j p g).1 h
 
 pub root_live : (c : PortCall) (n : ℕ) (k : Ports) (p : List ℕ) → root_spares c n p ≡ true → live k p ≡ true → live (changed (called c) k (n ∷ [])) p ≡ true
 root_live c n k [] g h = no h
 root_live c n k (zero ∷ p) g h = no h
 root_live c zero k (suc j ∷ p) g h = h
-root_live c (suc i) k (suc j ∷ p) g h = call_live c k i j p g h
+root_live c (suc i) k (suc j ∷ p) g h = (call_kept c k i j p g).0 h
 
 -- Steps
 

@@ -4,15 +4,16 @@ use Rattle.usb_port.specs.PortState.{PortState}
 use Rattle.usb_device.specs.declared.effect.Effect.{Effect}
 use Rattle.usb_device.specs.declared.effect.Effect.TheVariants.{Leaves, Calls, PortsOff}
 use Rattle.usb_device.specs.Rows.{State}
-use Rattle.usb_device.specs.Tree.{Ports, ended, vacant, taken, full, reach_at, state_at, port_at, place_at, acted, Place, empty}
+use Rattle.usb_device.specs.Tree.{Ports, ended, vacant, taken, full, reach_at, state_at, place_at, acted, Place, empty}
 use Rattle.usb_device.specs.Delivery.{answer_of, effect_of, after_packet}
 use Rattle.usb_device.specs.declared.delivery.Sent.{Sent}
 use Rattle.usb_world.specs.Paths.{live_at, pend_at}
-use Rattle.usb_world.specs.WayEffects.{IsNew, takes_reset, effect_resets, resets_at, reset_if, effect_spares, packet_spares, port_after}
+use Rattle.usb_world.specs.WayEffects.{IsNew, takes_reset, effect_resets, resets_at, reset_if, effect_spares, packet_spares}
 use Rattle.usb_world.specs.AttemptPackets.{deep_at}
 use Rattle.usb_world.proofs.Booleans.{both, and_kept, or_kept, either_of, neither, no}
-use Rattle.usb_world.proofs.PortCalls.{off_state, off_reach, off_new, off_port, off_port_below, call_new, call_new_below, call_reach, call_pend, call_live, call_state, call_port, call_port_below}
-use Rattle.usb_world.proofs.States.{kept_state, kept_port}
+use Rattle.usb_world.proofs.PortCalls.{off_state, off_reach, off_new, call_new, call_new_below, call_reach, KeepsPending, pending_kept, call_kept, call_state}
+use Rattle.usb_world.proofs.WayChanges.{same_head}
+use Rattle.usb_world.proofs.States.{kept_state}
 
 -- a device's own state after a packet, which reaches it or does not
 abbrev pub heard_state : Sent → Bool → Bool → Option Place → Option State
@@ -41,30 +42,15 @@ acted_reach Leaves x j p h g = g
 acted_reach (Calls c i) x j p h g = call_reach c x i j p h g
 acted_reach PortsOff x j p h g = no (sym (off_reach x j p) ∙ g)
 
-acted_pend : (e : Effect) (x : Ports) (j : ℕ) (p : List ℕ) → effect_spares e j p ≡ true → pend_at x j p ≡ true → pend_at (acted e x) j p ≡ true
-acted_pend Leaves x j p h g = g
-acted_pend (Calls c i) x j p h g = call_pend c x i j p h g
-acted_pend PortsOff x j p h g = no h
-
-acted_live : (e : Effect) (x : Ports) (j : ℕ) (p : List ℕ) → effect_spares e j p ≡ true → live_at x j p ≡ true → live_at (acted e x) j p ≡ true
-acted_live Leaves x j p h g = g
-acted_live (Calls c i) x j p h g = call_live c x i j p h g
-acted_live PortsOff x j p h g = no h
+acted_kept : (e : Effect) (x : Ports) (j : ℕ) (p : List ℕ) → effect_spares e j p ≡ true → KeepsPending x (acted e x) j p
+acted_kept Leaves x j p h = (λ g. g, λ g. g)
+acted_kept (Calls c i) x j p h = call_kept c x i j p h
+acted_kept PortsOff x j p h = no h
 
 acted_state : (e : Effect) (x : Ports) (j : ℕ) (p : List ℕ) → state_at (acted e x) j p ≡ option_map (reset_if (effect_resets e x j p)) (state_at x j p)
 acted_state Leaves x j p = kept_state (state_at x j p)
 acted_state (Calls c i) x j p = call_state c x i j p
 acted_state PortsOff x j p = off_state x j p ∙ kept_state (state_at x j p)
-
-pub acted_port : (e : Effect) (x : Ports) (j : ℕ) → port_at (acted e x) j [] ≡ option_map (port_after e j) (port_at x j [])
-acted_port Leaves x j = kept_port (port_at x j [])
-acted_port (Calls c i) x j = call_port c x i j
-acted_port PortsOff x j = off_port x j
-
-pub acted_port_below : (e : Effect) (x : Ports) (j n : ℕ) (p : List ℕ) → effect_resets e x j [] ≡ false → port_at (acted e x) j (n ∷ p) ≡ port_at x j (n ∷ p)
-acted_port_below Leaves x j n p h = refl
-acted_port_below (Calls c i) x j n p h = call_port_below c x i j n p h
-acted_port_below PortsOff x j n p h = off_port_below x j n p
 
 -- Where a reset falls
 
@@ -146,43 +132,30 @@ spared : (x y z : Bool) → x ≡ true → (not x || (y && z)) ≡ true → (y �
 spared true y z e h = both y z h
 spared false y z e h = no e
 
--- what is pending, and spared, is so after a packet
-pub packet_pend : (q : Sent) (deep : Bool) (k : Ports) (j : ℕ) (p : List ℕ)
-    → packet_spares q deep k j p ≡ true → pend_at k j p ≡ true → pend_at (after_packet q deep k) j p ≡ true
-unfolding after_packet pend_at packet_spares
-packet_pend q deep ended j p h g = g
-packet_pend q deep (vacant b k) zero p h g = g
-packet_pend q deep (vacant b k) (suc j) p h g = packet_pend q deep k j p h g
-packet_pend q deep (taken b s a k) zero [] h g = elim b.enable as (λ x. pend_at (met x q deep b s a (after_packet q deep k)) zero [] ≡ true) [ true ↦ g | false ↦ g ]
-packet_pend q deep (taken b s a k) zero (zero ∷ p) h g = elim b.enable as (λ x. pend_at (met x q deep b s a (after_packet q deep k)) zero (zero ∷ p) ≡ true) [ true ↦ g | false ↦ g ]
-packet_pend q deep (taken b s a k) zero (suc j ∷ p) h g = split b.enable refl (packet_pend q true a j p)
+-- what is live or pending, and spared, is so after a packet
+pub packet_kept : (q : Sent) (deep : Bool) (k : Ports) (j : ℕ) (p : List ℕ)
+    → packet_spares q deep k j p ≡ true → KeepsPending k (after_packet q deep k) j p
+unfolding after_packet live_at pend_at packet_spares
+packet_kept q deep ended j p h = (λ g. g, λ g. g)
+packet_kept q deep (vacant b k) zero p h =
+    pending_kept (vacant b k) (vacant b (after_packet q deep k)) zero p
+    (same_head (empty b) k (after_packet q deep k) p).0
+packet_kept q deep (vacant b k) (suc j) p h = packet_kept q deep k j p h
+packet_kept q deep (taken b s a k) zero [] h =
+    elim b.enable as (λ x. KeepsPending (taken b s a k) (met x q deep b s a (after_packet q deep k)) zero []) [ true ↦ (λ g. g, λ g. g) | false ↦ (λ g. g, λ g. g) ]
+packet_kept q deep (taken b s a k) zero (zero ∷ p) h =
+    elim b.enable as (λ x. KeepsPending (taken b s a k) (met x q deep b s a (after_packet q deep k)) zero (zero ∷ p)) [ true ↦ (λ g. g, λ g. g) | false ↦ (λ g. g, λ g. g) ]
+packet_kept q deep (taken b s a k) zero (suc j ∷ p) h = split b.enable refl (packet_kept q true a j p)
   where
-    split : (x : Bool) → b.enable ≡ x → (packet_spares q true a j p ≡ true → pend_at a j p ≡ true → pend_at (after_packet q true a) j p ≡ true)
-        → pend_at (met x q deep b s a (after_packet q deep k)) zero (suc j ∷ p) ≡ true
+    split : (x : Bool) → b.enable ≡ x → (packet_spares q true a j p ≡ true → KeepsPending a (after_packet q true a) j p)
+        → KeepsPending (taken b s a k) (met x q deep b s a (after_packet q deep k)) zero (suc j ∷ p)
     split true e ih =
         let on : _ = spared b.enable (effect_spares (effect_of q deep s) j p) (packet_spares q true a j p) e h in
-        and_kept b.power _ _ (or_kept b.connection_changed (pend_at a j p) _ (λ c. acted_pend (effect_of q deep s) (after_packet q true a) j p on.0 (ih on.1 c))) g
-    split false e ih = g
-packet_pend q deep (taken b s a k) (suc j) p h g = elim b.enable as (λ x. pend_at (met x q deep b s a (after_packet q deep k)) (suc j) p ≡ true) [ true ↦ packet_pend q deep k j p h g | false ↦ packet_pend q deep k j p h g ]
-
-pub packet_live : (q : Sent) (deep : Bool) (k : Ports) (j : ℕ) (p : List ℕ)
-    → packet_spares q deep k j p ≡ true → live_at k j p ≡ true → live_at (after_packet q deep k) j p ≡ true
-unfolding after_packet live_at packet_spares
-packet_live q deep ended j p h g = g
-packet_live q deep (vacant b k) zero [] h g = g
-packet_live q deep (vacant b k) zero (n ∷ p) h g = g
-packet_live q deep (vacant b k) (suc j) p h g = packet_live q deep k j p h g
-packet_live q deep (taken b s a k) zero [] h g = elim b.enable as (λ x. live_at (met x q deep b s a (after_packet q deep k)) zero [] ≡ true) [ true ↦ g | false ↦ g ]
-packet_live q deep (taken b s a k) zero (zero ∷ p) h g = no g
-packet_live q deep (taken b s a k) zero (suc j ∷ p) h g = split b.enable refl (packet_live q true a j p)
-  where
-    split : (x : Bool) → b.enable ≡ x → (packet_spares q true a j p ≡ true → live_at a j p ≡ true → live_at (after_packet q true a) j p ≡ true)
-        → live_at (met x q deep b s a (after_packet q deep k)) zero (suc j ∷ p) ≡ true
-    split true e ih =
-        let on : _ = spared b.enable (effect_spares (effect_of q deep s) j p) (packet_spares q true a j p) e h in
-        and_kept b.power _ _ (λ c. acted_live (effect_of q deep s) (after_packet q true a) j p on.0 (ih on.1 c)) g
-    split false e ih = g
-packet_live q deep (taken b s a k) (suc j) p h g = elim b.enable as (λ x. live_at (met x q deep b s a (after_packet q deep k)) (suc j) p ≡ true) [ true ↦ packet_live q deep k j p h g | false ↦ packet_live q deep k j p h g ]
+        let asked : _ = acted_kept (effect_of q deep s) (after_packet q true a) j p on.0 in
+        (and_kept b.power _ _ (λ g. asked.0 ((ih on.1).0 g)), and_kept b.power _ _ (or_kept b.connection_changed (pend_at a j p) _ (λ g. asked.1 ((ih on.1).1 g))))
+    split false e ih = (λ g. g, λ g. g)
+packet_kept q deep (taken b s a k) (suc j) p h =
+    elim b.enable as (λ x. KeepsPending (taken b s a k) (met x q deep b s a (after_packet q deep k)) (suc j) p) [ true ↦ packet_kept q deep k j p h | false ↦ packet_kept q deep k j p h ]
 
 pub unheard : (q : Sent) (d : Bool) (k : Ports) (j : ℕ) (p : List ℕ) → state_at k j p ≡ heard_state q d false (place_at k j p)
 unfolding state_at place_at

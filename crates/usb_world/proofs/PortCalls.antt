@@ -3,14 +3,14 @@ use Rattle.std.proofs.Common.{◌≡◌, ℕ, zero, suc, ◌&&◌, ◌||◌, if�
 use Rattle.usb_port.specs.PortState.{PortState, is_attached, powered_off}
 use Rattle.usb_port.specs.declared.call.PortCall.{PortCall}
 use Rattle.usb_port.specs.declared.call.PortCall.TheVariants.{SetPower, SetReset, ClearEnable, ClearPower, ClearConnectionChange, ClearEnableChange, ClearResetChange}
-use Rattle.usb_device.specs.declared.effect.Effect.TheVariants.{Calls}
 use Rattle.usb_device.specs.Rows.{reset_state}
-use Rattle.usb_device.specs.Tree.{Ports, ended, vacant, taken, called, reset_where, before, all_off, changed_at, reach_at, state_at, port_at, place_at}
+use Rattle.usb_device.specs.Tree.{Ports, ended, vacant, taken, empty, full, called, reset_where, before, all_off, changed_at, reach_at, state_at, place_at}
 use Rattle.usb_port.specs.Calls.{called_port, is_reset}
 use Rattle.usb_world.specs.Paths.{live_at, pend_at, same_number}
-use Rattle.usb_world.specs.WayEffects.{IsNew, call_resets, reset_if, spares, call_spares, port_after}
-use Rattle.usb_world.proofs.Booleans.{both, and_of, and_false, or_right, or_wider, no}
-use Rattle.usb_world.proofs.States.{kept_state, kept_port}
+use Rattle.usb_world.specs.WayEffects.{IsNew, call_resets, reset_if, spares, call_spares}
+use Rattle.usb_world.proofs.Booleans.{both, and_of, and_false, and_wider, or_right, or_wider, no}
+use Rattle.usb_world.proofs.WayChanges.{SamePorts, same_after, same_head}
+use Rattle.usb_world.proofs.States.{kept_state}
 
 pub all_off_twice : (k : Ports) → all_off (all_off k) ≡ all_off k
 unfolding all_off
@@ -48,23 +48,6 @@ off_new (taken b s a k) zero [] h = h
 off_new (taken b s a k) zero (zero ∷ p) h = h
 off_new (taken b s a k) zero (suc n ∷ p) h = h
 off_new (taken b s a k) (suc j) p h = off_new k j p h
-
-pub off_port : (k : Ports) (j : ℕ) → port_at (all_off k) j [] ≡ option_map powered_off (port_at k j [])
-unfolding port_at all_off
-off_port ended j = refl
-off_port (vacant b k) zero = refl
-off_port (vacant b k) (suc j) = off_port k j
-off_port (taken b s a k) zero = refl
-off_port (taken b s a k) (suc j) = off_port k j
-
-pub off_port_below : (k : Ports) (j n : ℕ) (p : List ℕ) → port_at (all_off k) j (n ∷ p) ≡ port_at k j (n ∷ p)
-unfolding port_at all_off
-off_port_below ended j n p = refl
-off_port_below (vacant b k) zero n p = refl
-off_port_below (vacant b k) (suc j) n p = off_port_below k j n p
-off_port_below (taken b s a k) zero zero p = refl
-off_port_below (taken b s a k) zero (suc n) p = refl
-off_port_below (taken b s a k) (suc j) n p = off_port_below k j n p
 
 -- a port that is powered and sees what is attached
 abbrev sees : PortState → Bool
@@ -199,59 +182,49 @@ not_below ClearConnectionChange n p x h = refl
 not_below ClearEnableChange n p x h = refl
 not_below ClearResetChange n p x h = refl
 
--- a call that spares what is pending leaves it pending
-pub call_pend : (c : PortCall) (k : Ports) (i j : ℕ) (p : List ℕ)
-    → call_spares c i j p ≡ true → pend_at k j p ≡ true → pend_at (changed_at (called c) k i []) j p ≡ true
-unfolding changed_at pend_at
-call_pend c ended i j p h g = g
-call_pend c (vacant b k) zero zero p h g = called_pend c b p h g
-call_pend c (vacant b k) zero (suc j) p h g = g
-call_pend c (vacant b k) (suc i) zero p h g = g
-call_pend c (vacant b k) (suc i) (suc j) p h g = call_pend c k i j p h g
-call_pend c (taken b s a k) zero zero p h g = split p (is_reset c && sees b) refl h g
-  where
-    split : (p : List ℕ) (x : Bool) → (is_reset c && sees b) ≡ x → spares c p ≡ true → pend_at (taken b s a k) zero p ≡ true → pend_at (before (reset_where x (called_port c b) s a) k) zero p ≡ true
-    split [] true e h g = called_pend c b [] h g
-    split [] false e h g = called_pend c b [] h g
-    split (zero ∷ p) true e h g = called_pend c b (zero ∷ p) h g
-    split (zero ∷ p) false e h g = called_pend c b (zero ∷ p) h g
-    split (suc n ∷ p) true e h g = no (sym (not_below c (suc n) p (sees b) h) ∙ e)
-    split (suc n ∷ p) false e h g =
-        let on : _ = both b.power (b.connection_changed || pend_at a n p) g in
-        and_of (called_port c b).power _ (called_power c b (suc n ∷ p) h on.0) (or_wider b.connection_changed (called_port c b).connection_changed (pend_at a n p) (called_change c b (suc n ∷ p) h) on.1)
-call_pend c (taken b s a k) zero (suc j) p h g =
-    elim (is_reset c && sees b) as (λ x. pend_at (before (reset_where x (called_port c b) s a) k) (suc j) p ≡ true) [ true ↦ g | false ↦ g ]
-call_pend c (taken b s a k) (suc i) zero [] h g = g
-call_pend c (taken b s a k) (suc i) zero (zero ∷ p) h g = g
-call_pend c (taken b s a k) (suc i) zero (suc n ∷ p) h g = g
-call_pend c (taken b s a k) (suc i) (suc j) p h g = call_pend c k i j p h g
+-- what is live stays so, and what is pending
+abbrev pub KeepsPending : Ports → Ports → ℕ → List ℕ → Type 0
+KeepsPending k m j p =
+    (live_at k j p ≡ true → live_at m j p ≡ true) × (pend_at k j p ≡ true → pend_at m j p ≡ true)
 
-pub call_live : (c : PortCall) (k : Ports) (i j : ℕ) (p : List ℕ)
-    → call_spares c i j p ≡ true → live_at k j p ≡ true → live_at (changed_at (called c) k i []) j p ≡ true
-unfolding changed_at live_at
-call_live c ended i j p h g = g
-call_live c (vacant b k) zero zero [] h g = called_power c b [] h g
-call_live c (vacant b k) zero zero (n ∷ p) h g = g
-call_live c (vacant b k) zero (suc j) p h g = g
-call_live c (vacant b k) (suc i) zero p h g = g
-call_live c (vacant b k) (suc i) (suc j) p h g = call_live c k i j p h g
-call_live c (taken b s a k) zero zero p h g = split p (is_reset c && sees b) refl h g
+pub pending_kept : (k m : Ports) (j : ℕ) (p : List ℕ) → SamePorts k m j p → KeepsPending k m j p
+pending_kept k m j p x = (λ g. x.1 ∙ g, λ g. x.2 ∙ g)
+
+-- so at a call that spares what is pending
+pub call_kept : (c : PortCall) (k : Ports) (i j : ℕ) (p : List ℕ)
+    → call_spares c i j p ≡ true → KeepsPending k (changed_at (called c) k i []) j p
+unfolding changed_at live_at pend_at
+call_kept c ended i j p h = (λ g. g, λ g. g)
+call_kept c (vacant b k) zero zero [] h = (called_power c b [] h, called_pend c b [] h)
+call_kept c (vacant b k) zero zero (n ∷ p) h = (λ g. g, called_pend c b (n ∷ p) h)
+call_kept c (vacant b k) zero (suc j) p h = (λ g. g, λ g. g)
+call_kept c (vacant b k) (suc i) zero p h =
+    pending_kept (vacant b k) (vacant b (changed_at (called c) k i [])) zero p
+    (same_head (empty b) k (changed_at (called c) k i []) p).0
+call_kept c (vacant b k) (suc i) (suc j) p h = call_kept c k i j p h
+call_kept c (taken b s a k) zero zero p h = split p (is_reset c && sees b) refl h
   where
-    split : (p : List ℕ) (x : Bool) → (is_reset c && sees b) ≡ x → spares c p ≡ true → live_at (taken b s a k) zero p ≡ true → live_at (before (reset_where x (called_port c b) s a) k) zero p ≡ true
-    split [] true e h g = called_power c b [] h g
-    split [] false e h g = called_power c b [] h g
-    split (zero ∷ p) true e h g = no g
-    split (zero ∷ p) false e h g = no g
-    split (suc n ∷ p) true e h g = no (sym (not_below c (suc n) p (sees b) h) ∙ e)
-    split (suc n ∷ p) false e h g =
-        let on : _ = both b.power (live_at a n p) g in
-        and_of (called_port c b).power _ (called_power c b (suc n ∷ p) h on.0) on.1
-call_live c (taken b s a k) zero (suc j) p h g =
-    elim (is_reset c && sees b) as (λ x. live_at (before (reset_where x (called_port c b) s a) k) (suc j) p ≡ true) [ true ↦ g | false ↦ g ]
-call_live c (taken b s a k) (suc i) zero [] h g = g
-call_live c (taken b s a k) (suc i) zero (zero ∷ p) h g = g
-call_live c (taken b s a k) (suc i) zero (suc n ∷ p) h g = g
-call_live c (taken b s a k) (suc i) (suc j) p h g = call_live c k i j p h g
+    split : (p : List ℕ) (x : Bool) → (is_reset c && sees b) ≡ x → spares c p ≡ true
+        → KeepsPending (taken b s a k) (before (reset_where x (called_port c b) s a) k) zero p
+    split [] true e h = (called_power c b [] h, called_pend c b [] h)
+    split [] false e h = (called_power c b [] h, called_pend c b [] h)
+    split (zero ∷ p) true e h = (λ g. g, called_pend c b (zero ∷ p) h)
+    split (zero ∷ p) false e h = (λ g. g, called_pend c b (zero ∷ p) h)
+    split (suc n ∷ p) true e h = no (sym (not_below c (suc n) p (sees b) h) ∙ e)
+    split (suc n ∷ p) false e h = (
+      and_wider b.power (called_port c b).power (live_at a n p) (live_at a n p)
+          (called_power c b (suc n ∷ p) h) (λ g. g),
+      and_wider b.power (called_port c b).power (b.connection_changed || pend_at a n p) _
+          (called_power c b (suc n ∷ p) h)
+          (or_wider b.connection_changed _ (pend_at a n p) (called_change c b (suc n ∷ p) h)),
+    )
+call_kept c (taken b s a k) zero (suc j) p h =
+    pending_kept (taken b s a k) (changed_at (called c) (taken b s a k) zero []) (suc j) p
+    (same_after (full b s a) (called c (full b s a)) k j p).0
+call_kept c (taken b s a k) (suc i) zero p h =
+    pending_kept (taken b s a k) (taken b s a (changed_at (called c) k i [])) zero p
+    (same_head (full b s a) k (changed_at (called c) k i []) p).0
+call_kept c (taken b s a k) (suc i) (suc j) p h = call_kept c k i j p h
 
 -- a call resets the device that it resets, and leaves every other device's own state
 pub call_state : (c : PortCall) (k : Ports) (i j : ℕ) (p : List ℕ)
@@ -289,42 +262,3 @@ call_state c (taken b s a k) (suc i) zero (zero ∷ p) = refl
 call_state c (taken b s a k) (suc i) zero (suc n ∷ p) = kept_state (state_at a n p)
 call_state c (taken b s a k) (suc i) (suc j) [] = call_state c k i j []
 call_state c (taken b s a k) (suc i) (suc j) (n ∷ p) = call_state c k i j (n ∷ p)
-
--- a call changes its own port by its row, and leaves the others on the same row
-pub call_port : (c : PortCall) (k : Ports) (i j : ℕ)
-    → port_at (changed_at (called c) k i []) j [] ≡ option_map (port_after (Calls c i) j) (port_at k j [])
-unfolding changed_at port_at
-call_port c ended i j = refl
-call_port c (vacant b k) zero zero = refl
-call_port c (vacant b k) zero (suc j) = kept_port (port_at k j [])
-call_port c (vacant b k) (suc i) zero = refl
-call_port c (vacant b k) (suc i) (suc j) = call_port c k i j
-call_port c (taken b s a k) zero zero =
-    elim (is_reset c && sees b) as (λ x. port_at (before (reset_where x (called_port c b) s a) k) zero [] ≡ Some (called_port c b)) [ true ↦ refl | false ↦ refl ]
-call_port c (taken b s a k) zero (suc j) = further (is_reset c && sees b)
-  where
-    further : (x : Bool) → port_at (before (reset_where x (called_port c b) s a) k) (suc j) [] ≡ option_map (λ b. b) (port_at k j [])
-    further true = kept_port (port_at k j [])
-    further false = kept_port (port_at k j [])
-call_port c (taken b s a k) (suc i) zero = refl
-call_port c (taken b s a k) (suc i) (suc j) = call_port c k i j
-
--- and the ports below it, but where it resets the device there
-pub call_port_below : (c : PortCall) (k : Ports) (i j n : ℕ) (p : List ℕ)
-    → call_resets c k i j [] ≡ false → port_at (changed_at (called c) k i []) j (n ∷ p) ≡ port_at k j (n ∷ p)
-unfolding changed_at port_at place_at
-call_port_below c ended i j n p h = refl
-call_port_below c (vacant b k) zero zero n p h = refl
-call_port_below c (vacant b k) zero (suc j) n p h = refl
-call_port_below c (vacant b k) (suc i) zero n p h = refl
-call_port_below c (vacant b k) (suc i) (suc j) n p h = call_port_below c k i j n p h
-call_port_below c (taken b s a k) zero zero n p h = split (is_reset c && sees b) h
-  where
-    split : (x : Bool) → x ≡ false → port_at (before (reset_where x (called_port c b) s a) k) zero (n ∷ p) ≡ port_at (taken b s a k) zero (n ∷ p)
-    split true e = no (sym e)
-    split false e = elim n as (λ n. port_at (taken (called_port c b) s a k) zero (n ∷ p) ≡ port_at (taken b s a k) zero (n ∷ p)) [ zero ↦ refl | suc n ↦ refl ]
-call_port_below c (taken b s a k) zero (suc j) n p h =
-    elim (is_reset c && sees b) as (λ x. port_at (before (reset_where x (called_port c b) s a) k) (suc j) (n ∷ p) ≡ port_at k j (n ∷ p)) [ true ↦ refl | false ↦ refl ]
-call_port_below c (taken b s a k) (suc i) zero zero p h = refl
-call_port_below c (taken b s a k) (suc i) zero (suc n) p h = refl
-call_port_below c (taken b s a k) (suc i) (suc j) n p h = call_port_below c k i j n p h

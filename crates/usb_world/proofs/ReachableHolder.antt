@@ -16,7 +16,7 @@ use Rattle.usb_world.specs.Paths.{address_of}
 use Rattle.usb_world.proofs.AddressesInTransfers.{data_calm}
 use Rattle.usb_world.proofs.AddressesKept.{stood_events}
 use Rattle.usb_world.proofs.LiftedSteps.{over_ready}
-use Rattle.usb_world.proofs.AttemptPackets.{forgotten_reach}
+use Rattle.usb_world.proofs.AttemptPackets.{forgotten_ports}
 use Rattle.usb_world.proofs.Courses.{made_reach}
 use Rattle.usb_world.proofs.Holders.{one_path}
 use Rattle.usb_world.proofs.OneHolder.{acts, Holder}
@@ -26,7 +26,7 @@ use Rattle.usb_world.proofs.OneHolderAttempts.{made_is, holder_in, ready_settled
 pub stays_reachable : (a : Attempt) (d : Option Damage) (k : Ports) (h : Holder a.addr k) → reach_on (ports_in a d k) h.spot ≡ true
 unfolding ports_in
 stays_reachable a d k h =
-    forgotten_reach (after_sent (reply_out a d k) (after_sent (payload_out a d) (after_sent (token_out a d) k))) h.spot.row h.spot.rest ∙ (acts a d k h).on
+    (forgotten_ports (after_sent (reply_out a d k) (after_sent (payload_out a d) (after_sent (token_out a d) k))) h.spot.row h.spot.rest).0 ∙ (acts a d k h).on
 
 pub stays_reachable_in : (a : Attempt) (w : World) (h : HolderIn a w) → reach_on (after (attempt a) w).roots h.spot ≡ true
 unfolding with_attempt

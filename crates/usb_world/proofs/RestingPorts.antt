@@ -1,30 +1,23 @@
 -- A port of which nothing is asked stands as it stood, or a change of connection is pending on its way.
-use Rattle.std.proofs.Common.{◌≡◌, inl, inr, ℕ, zero, suc, ◌&&◌, ◌||◌, not, Bool, true, false, List, [], ◌∷◌, Option, None, Some, option_map, refl, ap, sym, ◌∙◌}
+use Rattle.std.proofs.Common.{◌≡◌, inl, inr, ℕ, zero, suc, true, false, List, [], ◌∷◌, Option, None, Some, option_map, refl, ap, sym, ◌∙◌}
 use Rattle.usb_port.specs.declared.call.PortCall.{PortCall}
 use Rattle.usb_device.specs.declared.delivery.Sent.{Sent}
-use Rattle.usb_device.specs.declared.effect.Effect.{Effect}
-use Rattle.usb_device.specs.declared.effect.Effect.TheVariants.{Leaves, Calls, PortsOff}
-use Rattle.usb_port.specs.PortState.{is_attached}
-use Rattle.usb_port.specs.Calls.{is_reset, called_port}
 use Rattle.usb_device.specs.Spec.{Spec}
-use Rattle.usb_device.specs.Tree.{Ports, ended, vacant, taken, called, replaced, changed, changed_at, reset_where, before, acted, reach, reach_at}
-use Rattle.usb_device.specs.Delivery.{effect_of, after_packet}
+use Rattle.usb_device.specs.Tree.{Ports, called, replaced, changed, reach, reach_at}
 use Rattle.usb_device.specs.View.{state_there}
 use Rattle.usb_world.specs.declared.event.Action.{Action}
 use Rattle.usb_world.specs.declared.types.Attempt.{Attempt}
 use Rattle.usb_world.specs.Exchange.{token_out, payload_out, reply_out, ports_in}
-use Rattle.usb_world.specs.Paths.{is_way, same_number, live}
+use Rattle.usb_world.specs.Paths.{is_way, live}
 use Rattle.usb_world.specs.AttemptPackets.{after_sent, after_attempt, IsAttemptAt}
 use Rattle.usb_world.specs.PlanCourses.{spec_of}
-use Rattle.usb_world.specs.WayEffects.{leaves_port, way_leaves}
 use Rattle.usb_world.specs.World.{World}
 use Rattle.usb_world.specs.Steps.{happened, way_of, names_path, took, ready, damage_in, with_attempt, Course}
 use Rattle.usb_world.specs.Courses.{UndisturbedOrPends, Spares}
 use Rattle.usb_world.specs.PortRequests.{sent_leaves, made_leaves, root_leaves, leaves_step}
 use Rattle.usb_world.specs.RestingPorts.{SameAt, AsksNothingOf, RestsOrPends, StandsOrPends}
-use Rattle.usb_world.proofs.Booleans.{no, both}
-use Rattle.usb_world.proofs.WayChanges.{changed_apart}
-use Rattle.usb_world.proofs.AttemptPackets.{token_out as token_calm, ack_out as ack_calm, forgotten_reach}
+use Rattle.usb_world.proofs.WayChanges.{changed_apart, called_apart}
+use Rattle.usb_world.proofs.AttemptPackets.{token_out as token_calm, ack_out as ack_calm, forgotten_ports}
 use Rattle.usb_world.proofs.PluggedShapes.{spec_there}
 use Rattle.usb_world.proofs.PluggedPorts.{shape, described_there, shape_root, shape_attempt}
 use Rattle.usb_world.proofs.LiftedSteps.{OverSteps, happened_by, over_course}
@@ -32,7 +25,7 @@ use Rattle.usb_world.proofs.Courses.{LiveOrPends, over_live, goes, untouched_or_
 use Rattle.usb_world.proofs.PluggedDevices.{undisturbed_keeps}
 use Rattle.usb_world.proofs.ChangeBits.{made_port, root_port}
 use Rattle.usb_world.proofs.PacketWays.{calm_leaves}
-use Rattle.usb_world.proofs.PacketEffects.{met}
+use Rattle.usb_world.proofs.PacketPlaces.{way_ports}
 
 pub same_self : (k : Ports) (p : List ℕ) → SameAt k k p
 same_self k p = record { port = refl; on = refl; what = refl }
@@ -62,64 +55,22 @@ happened_same a d k p = happened_by (λ v named. named ≡ false → SameAt k v 
 
 -- Calls at ports
 
-call_on : (c : PortCall) (k : Ports) (i j : ℕ) (p : List ℕ) → not (same_number i j) ≡ true → reach_at (changed_at (called c) k i []) j p ≡ reach_at k j p
-unfolding changed_at reach_at
-call_on c ended i j p h = refl
-call_on c (vacant b k) zero zero p h = no h
-call_on c (vacant b k) zero (suc j) p h = refl
-call_on c (vacant b k) (suc i) zero p h = refl
-call_on c (vacant b k) (suc i) (suc j) p h = call_on c k i j p h
-call_on c (taken b s a k) zero zero p h = no h
-call_on c (taken b s a k) zero (suc j) p h = split (is_reset c && (b.power && is_attached b.attached))
-  where
-    split : (y : Bool) → reach_at (before (reset_where y (called_port c b) s a) k) (suc j) p ≡ reach_at k j p
-    split true = refl
-    split false = refl
-call_on c (taken b s a k) (suc i) zero [] h = refl
-call_on c (taken b s a k) (suc i) zero (zero ∷ p) h = refl
-call_on c (taken b s a k) (suc i) zero (suc n ∷ p) h = refl
-call_on c (taken b s a k) (suc i) (suc j) p h = call_on c k i j p h
-
-acted_on : (e : Effect) (k : Ports) (j : ℕ) (p : List ℕ) → leaves_port e j ≡ true → reach_at (acted e k) j p ≡ reach_at k j p
-acted_on Leaves k j p h = refl
-acted_on (Calls c i) k j p h = call_on c k i j p h
-acted_on PortsOff k j p h = no h
-
 root_on : (c : PortCall) (m : ℕ) (k : Ports) (p : List ℕ) → root_leaves m p ≡ true → reach (changed (called c) k (m ∷ [])) p ≡ reach k p
 root_on c m k [] h = refl
 root_on c m k (zero ∷ p) h = refl
 root_on c zero k (suc j ∷ p) h = refl
-root_on c (suc i) k (suc j ∷ p) h = call_on c k i j p h
+root_on c (suc i) k (suc j ∷ p) h = (called_apart c k i j p h).0.0
 
 -- Attempts
 
-packet_on : (q : Sent) (deep : Bool) (k : Ports) (j : ℕ) (p : List ℕ) → way_leaves q deep k j p ≡ true → reach_at (after_packet q deep k) j p ≡ reach_at k j p
-unfolding after_packet reach_at way_leaves
-packet_on q deep ended j p h = refl
-packet_on q deep (vacant b k) zero p h = refl
-packet_on q deep (vacant b k) (suc j) p h = packet_on q deep k j p h
-packet_on q deep (taken b s a k) zero [] h = elim b.enable as (λ x. reach_at (met x q deep b s a (after_packet q deep k)) zero [] ≡ b.enable) [ true ↦ refl | false ↦ refl ]
-packet_on q deep (taken b s a k) zero (zero ∷ p) h = elim b.enable as (λ x. reach_at (met x q deep b s a (after_packet q deep k)) zero (zero ∷ p) ≡ false) [ true ↦ refl | false ↦ refl ]
-packet_on q deep (taken b s a k) zero (suc j ∷ p) h = split b.enable h (packet_on q true a j p)
-  where
-    split : (x : Bool) → (not x || (leaves_port (effect_of q deep s) j && way_leaves q true a j p)) ≡ true
-        → (way_leaves q true a j p ≡ true → reach_at (after_packet q true a) j p ≡ reach_at a j p)
-        → reach_at (met x q deep b s a (after_packet q deep k)) zero (suc j ∷ p) ≡ (b.enable && reach_at a j p)
-    split true h ih =
-        let on : _ = both (leaves_port (effect_of q deep s) j) (way_leaves q true a j p) h in
-        ap (λ x. b.enable && x) (acted_on (effect_of q deep s) (after_packet q true a) j p on.0 ∙ ih on.1)
-    split false h ih = refl
-packet_on q deep (taken b s a k) (suc j) p h =
-    elim b.enable as (λ x. reach_at (met x q deep b s a (after_packet q deep k)) (suc j) p ≡ reach_at k j p) [ true ↦ packet_on q deep k j p h | false ↦ packet_on q deep k j p h ]
-
 sent_on : (o : Option Sent) (k : Ports) (j : ℕ) (p : List ℕ) → sent_leaves o k j p ≡ true → reach_at (after_sent o k) j p ≡ reach_at k j p
 sent_on None k j p h = refl
-sent_on (Some q) k j p h = packet_on q false k j p h
+sent_on (Some q) k j p h = (way_ports q false k j p h).0
 
 attempt_on : (n : ℕ) (t d r : Option Sent) → IsAttemptAt n t d r → (k : Ports) (j : ℕ) (p : List ℕ) → sent_leaves d (after_sent t k) j p ≡ true
     → reach_at (after_attempt t d r k) j p ≡ reach_at k j p
 attempt_on n t d r is k j p h =
-    forgotten_reach (after_sent r (after_sent d (after_sent t k))) j p
+    (forgotten_ports (after_sent r (after_sent d (after_sent t k))) j p).0
     ∙ sent_on r (after_sent d (after_sent t k)) j p (calm_leaves r (ack_calm r is.reply) (after_sent d (after_sent t k)) j p)
     ∙ sent_on d (after_sent t k) j p h
     ∙ sent_on t k j p (calm_leaves t (token_calm n t is.token) k j p)

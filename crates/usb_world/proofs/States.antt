@@ -1,6 +1,5 @@
 -- A device that is reset or not, or forgets what it remembers.
 use Rattle.std.proofs.Common.{◌≡◌, Bool, true, false, Option, None, Some, option_map, refl, sym, ap}
-use Rattle.usb_port.specs.PortState.{PortState}
 use Rattle.usb_device.specs.Rows.{State, forgotten}
 use Rattle.usb_device.specs.declared.transfer.RememberedPacket.TheVariants.{Nothing}
 use Rattle.usb_world.specs.Paths.{address_of}
@@ -27,7 +26,3 @@ kept_address false (Some s) h = refl
 pub forgotten_address : (o : Option State) → option_map address_of (option_map forgotten o) ≡ option_map address_of o
 forgotten_address None = refl
 forgotten_address (Some s) = refl
-
-pub kept_port : (o : Option PortState) → o ≡ option_map (λ b. b) o
-kept_port None = refl
-kept_port (Some b) = refl

@@ -1,10 +1,13 @@
 -- A change at a place: a way that does not lead there stays. One walk answers all that is asked of a way.
-use Rattle.std.proofs.Common.{◌≡◌, ℕ, zero, suc, ◌&&◌, ◌||◌, Bool, false, List, [], ◌∷◌}
-use Rattle.std.proofs.Common.{refl, ap, sym}
+use Rattle.std.proofs.Common.{◌≡◌, ℕ, zero, suc, ◌&&◌, ◌||◌, false, List, [], ◌∷◌}
+use Rattle.std.proofs.Common.{not, true, refl, ap, sym}
+use Rattle.usb_port.specs.PortState.{PortState}
+use Rattle.usb_port.specs.declared.call.PortCall.{PortCall}
+use Rattle.usb_device.specs.Rows.{State}
 use Rattle.usb_device.specs.Tree.{Ports, ended, vacant, taken, Place, empty, full, before, changed_at}
-use Rattle.usb_device.specs.Tree.{reach_at, state_at, port_at}
-use Rattle.usb_world.specs.Paths.{live_at, pend_at, is_way, on_way}
-use Rattle.usb_world.proofs.Booleans.{no}
+use Rattle.usb_device.specs.Tree.{called, reach_at, state_at, port_at}
+use Rattle.usb_world.specs.Paths.{live_at, pend_at, is_way, on_way, same_number}
+use Rattle.usb_world.proofs.Booleans.{no, not_true}
 
 -- the ports on the way to a path are what they were: it is reached, live and pending as it was, and its port is the same
 abbrev pub SamePorts : Ports → Ports → ℕ → List ℕ → Type 0
@@ -23,7 +26,7 @@ same_way : (k : Ports) (j : ℕ) (p : List ℕ) → SameWay k k j p
 same_way k j p = (same_ports k j p, refl)
 
 -- further on in the row
-same_after : (x y : Place) (k : Ports) (j : ℕ) (p : List ℕ)
+pub same_after : (x y : Place) (k : Ports) (j : ℕ) (p : List ℕ)
     → SameWay (before x k) (before y k) (suc j) p
 unfolding reach_at live_at pend_at port_at state_at
 same_after (empty b) (empty c) k j p = same_way k j p
@@ -32,13 +35,24 @@ same_after (full b s a) (empty c) k j p = same_way k j p
 same_after (full b s a) (full c t m) k j p = same_way k j p
 
 -- what stands before a change in its row
-same_head : (x : Place) (k m : Ports) (p : List ℕ) → SameWay (before x k) (before x m) zero p
+pub same_head : (x : Place) (k m : Ports) (p : List ℕ) → SameWay (before x k) (before x m) zero p
 unfolding reach_at live_at pend_at port_at state_at
 same_head (empty b) k m [] = same_way (vacant b k) zero []
 same_head (empty b) k m (n ∷ p) = same_way (vacant b k) zero (n ∷ p)
 same_head (full b s a) k m [] = same_way (taken b s a k) zero []
 same_head (full b s a) k m (zero ∷ p) = same_way (taken b s a k) zero (zero ∷ p)
 same_head (full b s a) k m (suc n ∷ p) = same_way (taken b s a k) zero (suc n ∷ p)
+
+-- past a device
+pub passed_ports : (b : PortState) (s t : State) (a c k m : Ports) (j : ℕ) (p : List ℕ)
+    → SamePorts a c j p → SamePorts (taken b s a k) (taken b t c m) zero (suc j ∷ p)
+unfolding reach_at live_at pend_at port_at
+passed_ports b s t a c k m j p x = (
+  ap (λ y. b.enable && y) x.0,
+  ap (λ y. b.power && y) x.1,
+  ap (λ y. b.power && (b.connection_changed || y)) x.2,
+  x.3,
+)
 
 pub changed_apart : (f : Place → Place) (k : Ports) (i : ℕ) (e : List ℕ) (j : ℕ) (p : List ℕ)
     → on_way i e j p ≡ false → SameWay k (changed_at f k i e) j p
@@ -57,9 +71,12 @@ changed_apart f (taken b s a k) zero (suc i ∷ e) zero (zero ∷ p) h =
     same_way (taken b s a k) zero (zero ∷ p)
 changed_apart f (taken b s a k) zero (suc i ∷ e) zero (suc j ∷ p) h =
     let x : _ = changed_apart f a i e j p h in
-    let at : _ = x.0 in
-    let pends : Bool → Bool = λ c. b.power && (b.connection_changed || c) in
-    ((ap (λ c. b.enable && c) at.0, ap (λ c. b.power && c) at.1, ap pends at.2, at.3), x.1)
+    (passed_ports b s s a (changed_at f a i e) k k j p x.0, x.1)
 changed_apart f (taken b s a k) zero (suc i ∷ e) (suc j) p h = same_way k j p
 changed_apart f (taken b s a k) (suc i) e zero p h = same_head (full b s a) k (changed_at f k i e) p
 changed_apart f (taken b s a k) (suc i) e (suc j) p h = changed_apart f k i e j p h
+
+pub called_apart : (c : PortCall) (k : Ports) (i j : ℕ) (p : List ℕ)
+    → not (same_number i j) ≡ true → SameWay k (changed_at (called c) k i []) j p
+unfolding is_way
+called_apart c k i j p h = changed_apart (called c) k i [] j p (ap (λ x. x && true) (not_true (same_number i j) h))
