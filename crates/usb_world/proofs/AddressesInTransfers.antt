@@ -332,7 +332,8 @@ module _ (a : Attempt) (d : Option Damage) (k : Ports) (settled : IsSettled k) (
 
 pub due_own : (f : List ℕ → Option ℕ) (es : List Event) (w : World) → Own f w → Own f (due_from es w)
 due_own f es w own =
-    subst (λ (k : Ports). (p : List ℕ) → reach k p ≡ true → address_at k p ≡ f p) (ap (λ v. v.roots) (due_alike es w))
+    subst (λ (k : Ports). (p : List ℕ) → reach k p ≡ true → address_at k p ≡ f p)
+    (ap (λ v. v.roots) (due_alike es w))
     (over_due (own_steps f).events es (record w { left = es }) refl own)
 
 made_own : (f : List ℕ → Option ℕ) (a : Attempt) (w : World) → is_setup a.kind ≡ false → NoneTakes a.addr w.roots → IsSettled w.roots → Own f w → Own f (with_attempt a w)
@@ -345,7 +346,8 @@ made_own f a w kind none settled own (suc j ∷ p) h =
 
 pub data_own : (f : List ℕ → Option ℕ) (a : Attempt) (w : World) → is_setup a.kind ≡ false → NoneTakes a.addr (ready w).roots → IsSettled w.roots → Own f w → Own f (after (attempt a) w)
 data_own f a w kind none settled own =
-    over_attempt (Own f) a w (λ _. (own, own)) (λ _. made_own f a (ready w) kind none (ready_settled w settled) (ready_own f w own))
+    over_attempt (Own f) a w (λ _. (own, own))
+    (λ _. made_own f a (ready w) kind none (ready_settled w settled) (ready_own f w own))
 
 pub data_keeps : (f : List ℕ → Option ℕ) → Injective f → (a : Attempt) (w : World) → is_setup a.kind ≡ false → NoneTakes a.addr (ready w).roots → IsSettled w.roots
     → Own f w → w.shared ≡ false → Own f (after (attempt a) w) × ((after (attempt a) w).shared ≡ false)
@@ -367,4 +369,6 @@ given_own f s w (inr m) settled own = moved_own f s w m settled own
 pub course_keeps : (f : List ℕ → Option ℕ) → Injective f → {w v : World} → Course GivesNoAddress w v → IsSettled w.roots → Own f w → w.shared ≡ false
     → Own f v × (v.shared ≡ false) × IsSettled v.roots
 course_keeps f inj c settled own h =
-    kept_course (λ w. Own f w × (w.shared ≡ false) × IsSettled w.roots) (λ s w k x. (given_own f s w k x.2 x.0, step_unshared f inj s w x.0 x.1, settled_after s w x.2)) c (own, h, settled)
+    kept_course (λ w. Own f w × (w.shared ≡ false) × IsSettled w.roots)
+    (λ s w k x. (given_own f s w k x.2 x.0, step_unshared f inj s w x.0 x.1, settled_after s w x.2))
+    c (own, h, settled)

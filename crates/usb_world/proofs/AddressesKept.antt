@@ -134,26 +134,35 @@ replaced_state o k (zero ∷ x) (suc j ∷ p) w = refl
 replaced_state o k (suc i ∷ x) (suc j ∷ p) w = (changed_apart (replaced o) k i x j p w).1
 
 happened_state : (a : Action) (d : List Spec) (k : Ports) (p : List ℕ) → names_path d a p ≡ false → state_there (happened a d k) p ≡ state_there k p
-happened_state a d k p = happened_by (λ v named. named ≡ false → state_there v p ≡ state_there k p) a d k p (λ h. refl) (λ o x. replaced_state o k x p)
+happened_state a d k p =
+    happened_by (λ v named. named ≡ false → state_there v p ≡ state_there k p) a d k p (λ h. refl)
+    (λ o x. replaced_state o k x p)
 
 -- a device that is reached was reached before, and is as it was
 abbrev pub Stood : List ℕ → World → World → Type 0
-Stood p w v = reach v.roots p ≡ true → (reach w.roots p ≡ true) × (state_there v.roots p ≡ state_there w.roots p)
+Stood p w v =
+    reach v.roots p ≡ true
+    → (reach w.roots p ≡ true) × (state_there v.roots p ≡ state_there w.roots p)
 
-pub happened_stood : (a : Action) (d : List Spec) (k : Ports) (p : List ℕ) → reach (happened a d k) p ≡ true → (reach k p ≡ true) × (state_there (happened a d k) p ≡ state_there k p)
-happened_stood a d k p on = let before : _ = happened_reach a d k p on in (before.0, happened_state a d k p before.1)
+pub happened_stood : (a : Action) (d : List Spec) (k : Ports) (p : List ℕ)
+    → reach (happened a d k) p ≡ true
+    → (reach k p ≡ true) × (state_there (happened a d k) p ≡ state_there k p)
+happened_stood a d k p on =
+    let before : _ = happened_reach a d k p on in (before.0, happened_state a d k p before.1)
 
 pub stood_events : (p : List ℕ) → OverEvents (Stood p)
 unfolding took
 stood_events p = record {
   same = λ w on. (on, refl);
-  joined = λ w m v x y on. let late : _ = y on in let early : _ = x late.0 in (early.0, late.1 ∙ early.1);
+  joined = λ w m v x y on.
+      let late : _ = y on in let early : _ = x late.0 in (early.0, late.1 ∙ early.1);
   came = λ e es w l. happened_stood e.action w.devices w.roots p;
 }
 
 pub due_state : (es : List Event) (w : World) (p : List ℕ) → reach (due_from es w).roots p ≡ true → state_there (due_from es w).roots p ≡ state_there w.roots p
 due_state es w p =
-    subst (λ (k : Ports). reach k p ≡ true → state_there k p ≡ state_there w.roots p) (ap (λ v. v.roots) (due_alike es w))
+    subst (λ (k : Ports). reach k p ≡ true → state_there k p ≡ state_there w.roots p)
+    (ap (λ v. v.roots) (due_alike es w))
     (λ on. (over_due (stood_events p) es (record w { left = es }) refl on).1)
 
 pub taken_state : (f : Option BusFault) (w : World) (p : List ℕ) → reach (event_taken f w).roots p ≡ true → state_there (event_taken f w).roots p ≡ state_there w.roots p
@@ -381,11 +390,20 @@ quiet_resets (report l) w p h = refl
 pub own_steps : (f : List ℕ → Option ℕ) → OverSteps QuietStep (Keeps (Own f))
 unfolding resets
 own_steps f = record {
-  events = keeps_events (Own f) (λ e es w l own p h. let x : _ = (stood_events p).came e es w l h in ap (option_map address_of) x.1 ∙ own p x.0);
+  events =
+      keeps_events (Own f)
+      (λ e es w l own p h.
+      let x : _ = (stood_events p).came e es w l h in
+      ap (option_map address_of) x.1 ∙ own p x.0);
   made = λ a w made q own p h.
-      let rest : made_resets a (ready w) p ≡ false = ap (λ x. x && made_resets a (ready w) p) (sym made) ∙ quiet_resets (attempt a) w p q in
-      made_address a (ready w) (quiet_sends a (damage_in (ready w)) q) p ∙ own p (made_reach a (ready w) p rest h);
-  root = λ c n w q own p h. let rest : _ = quiet_resets (root_call c n) w p q in root_address c n w.roots p rest ∙ own p (root_reach c n w.roots p rest h);
+      let rest : made_resets a (ready w) p
+      ≡ false = ap (λ x. x && made_resets a (ready w) p) (sym made)
+      ∙ quiet_resets (attempt a) w p q in
+      made_address a (ready w) (quiet_sends a (damage_in (ready w)) q) p
+      ∙ own p (made_reach a (ready w) p rest h);
+  root = λ c n w q own p h.
+      let rest : _ = quiet_resets (root_call c n) w p q in
+      root_address c n w.roots p rest ∙ own p (root_reach c n w.roots p rest h);
   refused = λ w own. own;
 }
 
@@ -399,11 +417,14 @@ ready_own f = over_ready (own_steps f).events
 
 -- neither a world before an attempt nor the attempt sets the mark
 pub ready_unshared : (f : List ℕ → Option ℕ) → Injective f → (w : World) → Own f w → w.shared ≡ false → ((ready w).shared || is_twice (held (ready w).roots)) ≡ false
-ready_unshared f inj w own h = neither_of (ready w).shared (is_twice (held (ready w).roots)) (ap (λ v. v.shared) (ready_beside w) ∙ h) (own_not_twice f inj (ready w) (ready_own f w own))
+ready_unshared f inj w own h =
+    neither_of (ready w).shared (is_twice (held (ready w).roots))
+    (ap (λ v. v.shared) (ready_beside w) ∙ h) (own_not_twice f inj (ready w) (ready_own f w own))
 
 pub step_unshared : (f : List ℕ → Option ℕ) → Injective f → (s : Step) (w : World) → Own f w → w.shared ≡ false → (after s w).shared ≡ false
 unfolding after with_attempt
-step_unshared f inj (attempt a) w own h = over_attempt (λ v. v.shared ≡ false) a w (λ _. (h, h)) (λ _. ready_unshared f inj w own h)
+step_unshared f inj (attempt a) w own h =
+    over_attempt (λ v. v.shared ≡ false) a w (λ _. (h, h)) (λ _. ready_unshared f inj w own h)
 step_unshared f inj (root_call c n) w own h = h
 step_unshared f inj event w own h = ap (λ v. v.shared) (over_taken beside_events w.fault w) ∙ h
 step_unshared f inj (report l) w own h = h

@@ -59,7 +59,10 @@ clears a w = cleared_in a (damage_in (ready w)) (ready w).roots
 pub losses_as : (a : Attempt) (w : World) (gone cleared : Bool) → IsMade a w → loses a w ≡ gone → clears a w ≡ cleared → (after (attempt a) w).losses ≡ counted gone (after_clearing cleared w.losses)
 unfolding with_attempt ready
 losses_as a w gone cleared m x y =
-    ap (λ v. v.losses) (made_is a w m) ∙ ap (λ l. counted (loses a w) (after_clearing (clears a w) l)) (ap (λ v. v.losses) (ready_beside w)) ∙ ap₂ (λ b c. counted b (after_clearing c w.losses)) x y
+    ap (λ v. v.losses) (made_is a w m)
+    ∙ ap (λ l. counted (loses a w) (after_clearing (clears a w) l))
+    (ap (λ v. v.losses) (ready_beside w))
+    ∙ ap₂ (λ b c. counted b (after_clearing c w.losses)) x y
 
 -- Attempts that count nothing
 

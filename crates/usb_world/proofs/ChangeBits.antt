@@ -109,15 +109,20 @@ replaced_bits o k (suc i ∷ x) (suc j ∷ q) n b w h = deep_event o k i x j q n
 happened_bits : (a : Action) (d : List Spec) (k : Ports) (q : List ℕ) (n : ℕ) (b : PortState) → names_path d a q ≡ false
     → port_there k (q ++ (n ∷ [])) ≡ Some b → StillSet b (port_there (happened a d k) (q ++ (n ∷ [])))
 happened_bits a d k q n b =
-    happened_by (λ v named. named ≡ false → port_there k (q ++ (n ∷ [])) ≡ Some b → StillSet b (port_there v (q ++ (n ∷ [])))) a d k q (λ w h. still_same b _ h) (λ o x. replaced_bits o k x q n b)
+    happened_by
+    (λ v named.
+    named ≡ false → port_there k (q ++ (n ∷ [])) ≡ Some b
+    → StillSet b (port_there v (q ++ (n ∷ [])))) a d k q (λ w h. still_same b _ h)
+    (λ o x. replaced_bits o k x q n b)
 
 no_way : (x : List ℕ) → way_of x [] ≡ false
 unfolding is_way
 no_way [] = refl
 no_way (m ∷ x) = refl
 
--- where a row is reached, it was before, and no event was at it or above it; none is at the host itself
-row_happened : (a : Action) (d : List Spec) (k : Ports) (q : List ℕ) → row_reached (happened a d k) q ≡ true → (row_reached k q ≡ true) × (names_path d a q ≡ false)
+-- where a row is reached, it was before, and no event was at it or above it; none is at the host
+row_happened : (a : Action) (d : List Spec) (k : Ports) (q : List ℕ)
+    → row_reached (happened a d k) q ≡ true → (row_reached k q ≡ true) × (names_path d a q ≡ false)
 row_happened a d k [] h = (refl, happened_by (λ v named. named ≡ false) a d k [] refl (λ o. no_way))
 row_happened a d k (m ∷ q) h = happened_reach a d k (m ∷ q) h
 
@@ -194,24 +199,45 @@ made_row : (a : Attempt) (w : World) (q : List ℕ) (n : ℕ) → made_leaves a 
 made_row a w [] n g h = refl
 made_row a w (m ∷ q) n g h = made_reach a w (m ∷ q) (left_made a w (m ∷ q) n g) h
 
-root_row : (c : PortCall) (m : ℕ) (k : Ports) (q : List ℕ) (n : ℕ) → root_leaves m (q ++ (n ∷ [])) ≡ true → row_reached (changed (called c) k (m ∷ [])) q ≡ true → row_reached k q ≡ true
+root_row : (c : PortCall) (m : ℕ) (k : Ports) (q : List ℕ) (n : ℕ)
+    → root_leaves m (q ++ (n ∷ [])) ≡ true → row_reached (changed (called c) k (m ∷ [])) q ≡ true
+    → row_reached k q ≡ true
 root_row c m k [] n g h = refl
 root_row c m k (x ∷ q) n g h = root_reach c m k (x ∷ q) (left_root c m k (x ∷ q) n g) h
 
 -- where a row is reached, it was before, and what was set at its port still is
 abbrev BitsStay : List ℕ → ℕ → World → World → Type 0
-BitsStay q n w v = row_reached v.roots q ≡ true → (row_reached w.roots q ≡ true) × ((b : PortState) → port_there w.roots (q ++ (n ∷ [])) ≡ Some b → StillSet b (port_there v.roots (q ++ (n ∷ []))))
+BitsStay q n w v =
+    row_reached v.roots q ≡ true
+    → (row_reached w.roots q ≡ true) ×
+    ((b : PortState) → port_there w.roots (q ++ (n ∷ [])) ≡ Some b
+    → StillSet b (port_there v.roots (q ++ (n ∷ []))))
 
 bits_steps : (q : List ℕ) (n : ℕ) → OverSteps (LeavesPort (q ++ (n ∷ []))) (BitsStay q n)
 unfolding took leaves_step
 bits_steps q n = record {
   events = record {
     same = λ w on. (on, λ b h. still_same b _ h);
-    joined = λ w m v x y on. let late : _ = y on in let early : _ = x late.0 in (early.0, λ b h. still_then b (port_there m.roots (q ++ (n ∷ []))) (port_there v.roots (q ++ (n ∷ []))) (early.1 b h) late.1);
-    came = λ e es w l on. let row : _ = row_happened e.action w.devices w.roots q on in (row.0, λ b. happened_bits e.action w.devices w.roots q n b row.1);
+    joined = λ w m v x y on.
+        let late : _ = y on in
+        let early : _ = x late.0 in (
+          early.0,
+          λ b h.
+              still_then b (port_there m.roots (q ++ (n ∷ []))) (port_there v.roots (q ++ (n ∷ [])))
+              (early.1 b h) late.1,
+        );
+    came = λ e es w l on.
+        let row : _ = row_happened e.action w.devices w.roots q on in
+        (row.0, λ b. happened_bits e.action w.devices w.roots q n b row.1);
   };
-  made = λ a w made g on. (made_row a (ready w) q n g on, λ b h. still_same b _ (made_port a (ready w) (q ++ (n ∷ [])) g ∙ h));
-  root = λ c m w g on. (root_row c m w.roots q n g on, λ b h. still_same b _ (root_port c m w.roots (q ++ (n ∷ [])) g ∙ h));
+  made = λ a w made g on. (
+    made_row a (ready w) q n g on,
+    λ b h. still_same b _ (made_port a (ready w) (q ++ (n ∷ [])) g ∙ h),
+  );
+  root = λ c m w g on. (
+    root_row c m w.roots q n g on,
+    λ b h. still_same b _ (root_port c m w.roots (q ++ (n ∷ [])) g ∙ h),
+  );
   refused = λ w on. (on, λ b h. still_same b _ h);
 }
 

@@ -154,7 +154,9 @@ acted_long (effect.Calls c i) k = row_long_at (called c) k i []
 acted_long effect.PortsOff k = off_long k
 
 pub happened_long : (a : Action) (ds : List Spec) (k : Ports) → length (row_of (happened a ds k)) ≡ length (row_of k)
-happened_long a ds k = happened_by (λ v _. length (row_of v) ≡ length (row_of k)) a ds k [] refl (λ o p. row_long (replaced o) k p)
+happened_long a ds k =
+    happened_by (λ v _. length (row_of v) ≡ length (row_of k)) a ds k [] refl
+    (λ o p. row_long (replaced o) k p)
 
 -- what is written at one place sets at most one change bit of a row
 pub change_most : (p : PortState) → change_of p ≤ 1
@@ -183,7 +185,9 @@ changes_path f k (zero ∷ p) = omega arith
 changes_path f k (suc i ∷ p) = changes_at f k i p
 
 pub happened_changes : (a : Action) (ds : List Spec) (k : Ports) → changes (row_of (happened a ds k)) ≤ changes (row_of k) + 1
-happened_changes a ds k = happened_by (λ v _. changes (row_of v) ≤ changes (row_of k) + 1) a ds k [] (omega arith) (λ o p. changes_path (replaced o) k p)
+happened_changes a ds k =
+    happened_by (λ v _. changes (row_of v) ≤ changes (row_of k) + 1) a ds k [] (omega arith)
+    (λ o p. changes_path (replaced o) k p)
 
 -- an event that came
 pub event_spends : (old new : World) → changes (root_row new) ≤ changes (root_row old) + 1 → roots_of new ≡ roots_of old → new.taken ≡ old.taken + 1

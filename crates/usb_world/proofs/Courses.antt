@@ -1,5 +1,5 @@
 -- What a step of the world does to reachable, live and pending, and what whole courses do.
-use Rattle.std.proofs.Common.{◌≡◌, ℕ, zero, suc, ◌+◌, ◌&&◌, nat_le, length, if◌then◌else◌, ◌⊎◌, inl, inr, true, false, List, [], ◌∷◌, ◌++◌, Option, None, Some, refl, ap, sym, subst, ◌∙◌}
+use Rattle.std.proofs.Common.{◌≡◌, ℕ, zero, suc, Bool, ◌+◌, ◌&&◌, nat_le, length, if◌then◌else◌, ◌⊎◌, inl, inr, true, false, List, [], ◌∷◌, ◌++◌, Option, None, Some, refl, ap, sym, subst, ◌∙◌}
 use Rattle.usb_port.specs.declared.call.PortCall.{PortCall}
 use Rattle.usb_device.specs.declared.delivery.Content.TheVariants.{Whole}
 use Rattle.usb_device.specs.Spec.{Spec}
@@ -77,13 +77,24 @@ replaced_live o k (zero ∷ x) (suc j ∷ p) h = inl (h, refl)
 replaced_live o k (suc i ∷ x) (suc j ∷ p) h = event_live o k i x j p h
 
 pub happened_reach : (a : Action) (d : List Spec) (k : Ports) (p : List ℕ) → reach (happened a d k) p ≡ true → (reach k p ≡ true) × (names_path d a p ≡ false)
-happened_reach a d k p = happened_by (λ v named. reach v p ≡ true → (reach k p ≡ true) × (named ≡ false)) a d k p (λ h. (h, refl)) (λ o x. replaced_reach o k x p)
+happened_reach a d k p =
+    happened_by (λ v named. reach v p ≡ true → (reach k p ≡ true) × (named ≡ false)) a d k p
+    (λ h. (h, refl)) (λ o x. replaced_reach o k x p)
 
-happened_pend : (a : Action) (d : List Spec) (k : Ports) (p : List ℕ) → pend k p ≡ true → pend (happened a d k) p ≡ true
-happened_pend a d k p = happened_by (λ v _. pend k p ≡ true → pend v p ≡ true) a d k p (λ h. h) (λ o x. replaced_pend o k x p)
+happened_pend : (a : Action) (d : List Spec) (k : Ports) (p : List ℕ) → pend k p ≡ true
+    → pend (happened a d k) p ≡ true
+happened_pend a d k p =
+    happened_by (λ v _. pend k p ≡ true → pend v p ≡ true) a d k p (λ h. h)
+    (λ o x. replaced_pend o k x p)
 
-happened_live : (a : Action) (d : List Spec) (k : Ports) (p : List ℕ) → live k p ≡ true → ((live (happened a d k) p ≡ true) × (names_path d a p ≡ false)) ⊎ (pend (happened a d k) p ≡ true)
-happened_live a d k p = happened_by (λ v named. live k p ≡ true → ((live v p ≡ true) × (named ≡ false)) ⊎ (pend v p ≡ true)) a d k p (λ h. inl (h, refl)) (λ o x. replaced_live o k x p)
+abbrev LiveOr : Ports → Bool → List ℕ → Type 0
+LiveOr v named p = ((live v p ≡ true) × (named ≡ false)) ⊎ (pend v p ≡ true)
+
+happened_live : (a : Action) (d : List Spec) (k : Ports) (p : List ℕ) → live k p ≡ true
+    → LiveOr (happened a d k) (names_path d a p) p
+happened_live a d k p =
+    happened_by (λ v named. live k p ≡ true → LiveOr v named p) a d k p (λ h. inl (h, refl))
+    (λ o x. replaced_live o k x p)
 
 took_reach : (e : Event) (es : List Event) (w : World) (p : List ℕ) → w.left ≡ e ∷ es → reach (took e es w).roots p ≡ true → (reach w.roots p ≡ true) × Undisturbed w (took e es w) p
 unfolding took
@@ -164,7 +175,8 @@ made_live a w (suc j ∷ p) f h = (attempt_kept a.addr (token_out a (damage_in w
 
 -- A root call
 
-pub root_reach : (c : PortCall) (n : ℕ) (k : Ports) (p : List ℕ) → root_resets c n k p ≡ false → reach (changed (called c) k (n ∷ [])) p ≡ true → reach k p ≡ true
+pub root_reach : (c : PortCall) (n : ℕ) (k : Ports) (p : List ℕ) → root_resets c n k p ≡ false
+    → reach (changed (called c) k (n ∷ [])) p ≡ true → reach k p ≡ true
 root_reach c n k [] f h = no h
 root_reach c n k (zero ∷ p) f h = no h
 root_reach c zero k (suc j ∷ p) f h = h
@@ -207,7 +219,9 @@ StaysReached p w v = reach v.roots p ≡ true → (reach w.roots p ≡ true) × 
 reach_events : (p : List ℕ) → OverEvents (StaysReached p)
 reach_events p = record {
   same = λ w h. (h, undisturbed_here w w p refl refl);
-  joined = λ w m v x y h. let late : _ = y h in let early : _ = x late.0 in (early.0, undisturbed_on w m v p early.1 late.1);
+  joined = λ w m v x y h.
+      let late : _ = y h in
+      let early : _ = x late.0 in (early.0, undisturbed_on w m v p early.1 late.1);
   came = λ e es w l. took_reach e es w p l;
 }
 
@@ -215,8 +229,12 @@ reach_steps : (p : List ℕ) → OverSteps (NoReset p) (StaysReached p)
 unfolding resets with_attempt
 reach_steps p = record {
   events = reach_events p;
-  made = λ a w made k h. (made_reach a (ready w) p (ap (λ x. x && made_resets a (ready w) p) (sym made) ∙ k) h, undisturbed_here (ready w) (with_attempt a (ready w)) p refl refl);
-  root = λ c n w k h. (root_reach c n w.roots p k h, undisturbed_here w (with_call c n w) p refl refl);
+  made = λ a w made k h. (
+    made_reach a (ready w) p (ap (λ x. x && made_resets a (ready w) p) (sym made) ∙ k) h,
+    undisturbed_here (ready w) (with_attempt a (ready w)) p refl refl,
+  );
+  root = λ c n w k h.
+      (root_reach c n w.roots p k h, undisturbed_here w (with_call c n w) p refl refl);
   refused = λ w h. (h, undisturbed_here w (with_limit_told w) p refl refl);
 }
 
@@ -241,10 +259,12 @@ same_device p c = over_course (reach_steps p) c
 -- Powered on its whole way, or pending
 
 -- a relation that holds over steps that spare a path, and over an event that does not name it
-pub record OverUnnamed (K : Step → World → Type 0) (R : World → World → Type 0) (p : List ℕ) : Type 0 where
+pub record OverUnnamed (K : Step → World → Type 0) (R : World → World → Type 0) (p : List ℕ)
+    : Type 0 where
   pub same : (w : World) → R w w
   pub joined : (w m v : World) → R w m → R m v → R w v
-  pub came : (e : Event) (events : List Event) (w : World) → w.left ≡ e ∷ events → names_path w.devices e.action p ≡ false → R w (took e events w)
+  pub came : (e : Event) (events : List Event) (w : World) → w.left ≡ e ∷ events
+      → names_path w.devices e.action p ≡ false → R w (took e events w)
   pub made : (a : Attempt) (w : World) → K (attempt a) w → R (ready w) (with_attempt a (ready w))
   pub root : (c : PortCall) (n : ℕ) (w : World) → K (root_call c n) w → R w (with_call c n w)
   pub refused : (w : World) → R w (with_limit_told w)
@@ -258,9 +278,13 @@ pub record LiveOrPends (R : World → World → Type 0) (p : List ℕ) (w v : Wo
   pub powered : live w.roots p ≡ true → OrPends R p w v
   pub pending : pend w.roots p ≡ true → pend v.roots p ≡ true
 
-module _ {K : Step → World → Type 0} {R : World → World → Type 0} {p : List ℕ} (l : OverUnnamed K R p) where
+module _ {K : Step → World → Type 0} {R : World → World → Type 0} {p : List ℕ}
+    (l : OverUnnamed K R p) where
   live_joined : (w m v : World) → LiveOrPends R p w m → LiveOrPends R p m v → LiveOrPends R p w v
-  live_joined w m v x y = record { powered = λ h. early (x.powered h); pending = λ h. y.pending (x.pending h) }
+  live_joined w m v x y = record {
+    powered = λ h. early (x.powered h);
+    pending = λ h. y.pending (x.pending h);
+  }
     where
       late : R w m → OrPends R p m v → OrPends R p w v
       late a (inl z) = inl (z.0, l.joined w m v a z.1)
@@ -270,20 +294,39 @@ module _ {K : Step → World → Type 0} {R : World → World → Type 0} {p : L
       early (inl z) = late z.1 (y.powered z.0)
       early (inr z) = inr (y.pending z)
 
-  live_came : (e : Event) (events : List Event) (w : World) → w.left ≡ e ∷ events → LiveOrPends R p w (took e events w)
+  live_came : (e : Event) (events : List Event) (w : World) → w.left ≡ e ∷ events
+      → LiveOrPends R p w (took e events w)
   unfolding took
-  live_came e events w left = record { powered = λ h. pick (happened_live e.action w.devices w.roots p h); pending = happened_pend e.action w.devices w.roots p }
+  live_came e events w left = record {
+    powered = λ h. pick (happened_live e.action w.devices w.roots p h);
+    pending = happened_pend e.action w.devices w.roots p;
+  }
     where
-      pick : ((live (happened e.action w.devices w.roots) p ≡ true) × (names_path w.devices e.action p ≡ false)) ⊎ (pend (happened e.action w.devices w.roots) p ≡ true) → OrPends R p w (took e events w)
+      pick : LiveOr (happened e.action w.devices w.roots) (names_path w.devices e.action p) p
+          → OrPends R p w (took e events w)
       pick (inl y) = inl (y.0, l.came e events w left y.1)
       pick (inr y) = inr y
 
   pub over_live : OverSteps K (LiveOrPends R p)
   unfolding spares_step
   over_live = record {
-    events = record { same = λ w. record { powered = λ h. inl (h, l.same w); pending = λ h. h }; joined = live_joined; came = live_came };
-    made = λ a w made k. let spares : _ = l.spares (attempt a) w k in record { powered = λ h. inl (made_live a (ready w) p spares h, l.made a w k); pending = made_pend a (ready w) p spares };
-    root = λ c n w k. let spares : _ = l.spares (root_call c n) w k in record { powered = λ h. inl (root_live c n w.roots p spares h, l.root c n w k); pending = root_pend c n w.roots p spares };
+    events = record {
+      same = λ w. record { powered = λ h. inl (h, l.same w); pending = λ h. h };
+      joined = live_joined;
+      came = live_came;
+    };
+    made = λ a w made k.
+        let spares : _ = l.spares (attempt a) w k in
+        record {
+          powered = λ h. inl (made_live a (ready w) p spares h, l.made a w k);
+          pending = made_pend a (ready w) p spares;
+        };
+    root = λ c n w k.
+        let spares : _ = l.spares (root_call c n) w k in
+        record {
+          powered = λ h. inl (root_live c n w.roots p spares h, l.root c n w k);
+          pending = root_pend c n w.roots p spares;
+        };
     refused = λ w. record { powered = λ h. inl (h, l.refused w); pending = λ h. h };
   }
 
@@ -293,7 +336,8 @@ unfolding took with_attempt
 undisturbed_steps p = over_live (record {
   same = λ w. undisturbed_here w w p refl refl;
   joined = λ w m v. undisturbed_on w m v p;
-  came = λ e es w l silent. record { events = e ∷ []; split = l; silent = (silent, tt); devices = refl };
+  came = λ e es w l silent.
+      record { events = e ∷ []; split = l; silent = (silent, tt); devices = refl };
   made = λ a w k. undisturbed_here (ready w) (with_attempt a (ready w)) p refl refl;
   root = λ c n w k. undisturbed_here w (with_call c n w) p refl refl;
   refused = λ w. undisturbed_here w (with_limit_told w) p refl refl;

@@ -58,11 +58,13 @@ packet_cut : (a : Attempt) (w x : World) (k : Ports) → k ≡ (ready w).roots �
 packet_cut a w x k e is single =
     let both : (ready w).shared || is_twice (held (ready w).roots) ≡ false = sym (ap (λ y. y.shared) is) ∙ single in
     unmade (sym (ready_shared w) ∙ (neither (ready w).shared (is_twice (held (ready w).roots)) both).0)
-    (each_at Same w (ready w) x (sym (ap (λ y. y.roots) is ∙ e)) (each_stood w (ready w) (λ p. over_ready (stood_events p) w)))
+    (each_at Same w (ready w) x (sym (ap (λ y. y.roots) is ∙ e))
+    (each_stood w (ready w) (λ p. over_ready (stood_events p) w)))
 
 module _ (a : Attempt) (w : World) (fits : IsAttempt a) (sound : w.fault ≡ None) (settled : IsSettled w.roots) where
   left_cut : (f : BusFault) (x : World) → w.attempts ≢ w.limit → Left a w f x → x.shared ≡ false → Cut a w x
-  left_cut f x below (at_event c) single = unmade (sym (came_shared c) ∙ single) (each_stood w x (λ p. over_coming (stood_events p) c))
+  left_cut f x below (at_event c) single =
+      unmade (sym (came_shared c) ∙ single) (each_stood w x (λ p. over_coming (stood_events p) c))
   left_cut f x below (at_packet k e c is) single =
       let both : (ready w).shared || is_twice (held (ready w).roots) ≡ false = sym (ap (λ y. y.shared) is) ∙ single in
       packet_cut a w x k

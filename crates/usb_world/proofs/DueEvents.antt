@@ -7,13 +7,24 @@ use Rattle.usb_world.proofs.LiftedSteps.{OverEvents, over_due, over_ready, over_
 
 -- all is as it was but the ports, the events to come, how many came, and when the last one did
 abbrev pub SameBeside : World → World → Type 0
-SameBeside w v = record v { roots = w.roots; left = w.left; taken = w.taken; attempts_then = w.attempts_then } ≡ w
+SameBeside w v =
+    record v { roots = w.roots; left = w.left; taken = w.taken; attempts_then = w.attempts_then }
+    ≡ w
 
 pub beside_events : OverEvents SameBeside
 unfolding took
 beside_events = record {
   same = λ w. refl;
-  joined = λ w m v x y. ap (λ (u : World). record u { roots = w.roots; left = w.left; taken = w.taken; attempts_then = w.attempts_then }) y ∙ x;
+  joined = λ w m v x y.
+      ap
+      (λ (u : World).
+      record u {
+        roots = w.roots;
+        left = w.left;
+        taken = w.taken;
+        attempts_then = w.attempts_then;
+      }) y
+      ∙ x;
   came = λ e events w l. refl;
 }
 
@@ -31,7 +42,9 @@ first_shared [] w = refl
 first_shared (e ∷ es) w = refl
 
 pub due_shared : (es : List Event) (w : World) → (due_from es w).shared ≡ w.shared
-due_shared es w = ap (λ v. v.shared) (sym (due_alike es w)) ∙ ap (λ v. v.shared) (over_due beside_events es (record w { left = es }) refl)
+due_shared es w =
+    ap (λ v. v.shared) (sym (due_alike es w))
+    ∙ ap (λ v. v.shared) (over_due beside_events es (record w { left = es }) refl)
 
 pub came_shared : {w v : World} → Coming w v → v.shared ≡ w.shared
 came_shared c = ap (λ v. v.shared) (over_coming beside_events c)

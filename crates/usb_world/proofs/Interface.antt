@@ -16,7 +16,7 @@ pub use Rattle.usb_world.proofs.Equality.{equal_same, same_equal, self_number, s
 pub use Rattle.usb_world.proofs.HolderOfAttempt.{holder_or_nobody, one_answers}
 pub use Rattle.usb_world.proofs.HolderRequests.{elsewhere, others_asked_nothing, others_leave, self_asked}
 pub use Rattle.usb_world.proofs.HubResets.{hub_reset, hub_rest, register_address}
-pub use Rattle.usb_world.proofs.LiftedSteps.{Keeps, OverEvents, OverSteps, due_alike, happened_by, keeps_events, kept_course, made_after, over_attempt, over_coming, over_course, over_due, over_first, over_ready, over_step, over_taken, with_call, with_limit_told}
+pub use Rattle.usb_world.proofs.LiftedSteps.{Keeps, MadeOrNot, OverEvents, OverSteps, attempt_cases, happened_by, keeps_events, kept_course, made_after, over_attempt, over_coming, over_course, over_due, over_first, over_ready, over_step, over_taken, with_call, with_limit_told}
 pub use Rattle.usb_world.proofs.MadeAttempts.{faulted, limited, made_damages, made_step, made_unshared}
 pub use Rattle.usb_world.proofs.OneDevice.{other_address, rest_state, rested_effect, settled_memory, stands, state_stands, token_calls}
 pub use Rattle.usb_world.proofs.OneHolder.{is_state, remembers, third}

@@ -1,5 +1,5 @@
 -- What holds over each part of a step holds over steps and courses.
-use Rattle.std.proofs.Common.{◌≡◌, ℕ, ◌==◌, ◌&&◌, ◌∙◌, not, if◌then◌else◌, Bool, true, false, List, [], ◌∷◌, Option, None, Some, is_some, slice_get, refl, ap}
+use Rattle.std.proofs.Common.{◌≡◌, ◌⊎◌, inl, inr, ℕ, ◌==◌, ◌&&◌, ◌∙◌, not, if◌then◌else◌, Bool, true, false, List, [], ◌∷◌, Option, None, Some, is_some, slice_get, refl, ap}
 use Rattle.usb_port.specs.declared.call.PortCall.{PortCall}
 use Rattle.usb_port.specs.Calls.{is_clearing}
 use Rattle.usb_device.specs.Spec.{Spec}
@@ -19,7 +19,11 @@ abbrev pub with_limit_told : World → World
 with_limit_told w = record w { fault = Some LimitReached }
 
 abbrev pub with_call : PortCall → ℕ → World → World
-with_call c n w = record w { roots = changed (called c) w.roots (n ∷ []); losses = after_clearing (is_clearing c) w.losses }
+with_call c n w =
+    record w {
+      roots = changed (called c) w.roots (n ∷ []);
+      losses = after_clearing (is_clearing c) w.losses;
+    }
 
 -- Relations
 
@@ -27,12 +31,14 @@ with_call c n w = record w { roots = changed (called c) w.roots (n ∷ []); loss
 pub record OverEvents (R : World → World → Type 0) : Type 0 where
   pub same : (w : World) → R w w
   pub joined : (w m v : World) → R w m → R m v → R w v
-  pub came : (e : Event) (events : List Event) (w : World) → w.left ≡ e ∷ events → R w (took e events w)
+  pub came : (e : Event) (events : List Event) (w : World) → w.left ≡ e ∷ events
+      → R w (took e events w)
 
 -- that holds besides over an attempt's packets, a root call, and a refusal at the limit
 pub record OverSteps (K : Step → World → Type 0) (R : World → World → Type 0) : Type 0 where
   pub events : OverEvents R
-  pub made : (a : Attempt) (w : World) → is_made w.fault w ≡ true → K (attempt a) w → R (ready w) (with_attempt a (ready w))
+  pub made : (a : Attempt) (w : World) → is_made w.fault w ≡ true → K (attempt a) w
+      → R (ready w) (with_attempt a (ready w))
   pub root : (c : PortCall) (n : ℕ) (w : World) → K (root_call c n) w → R w (with_call c n w)
   pub refused : (w : World) → R w (with_limit_told w)
 
@@ -40,13 +46,18 @@ pub record OverSteps (K : Step → World → Type 0) (R : World → World → Ty
 abbrev pub Keeps : (World → Type 0) → World → World → Type 0
 Keeps J w v = J w → J v
 
-pub keeps_events : (J : World → Type 0) → ((e : Event) (events : List Event) (w : World) → w.left ≡ e ∷ events → J w → J (took e events w)) → OverEvents (Keeps J)
+pub keeps_events : (J : World → Type 0)
+    → ((e : Event) (es : List Event) (w : World) → w.left ≡ e ∷ es → Keeps J w (took e es w))
+    → OverEvents (Keeps J)
 keeps_events J came = record { same = λ w h. h; joined = λ w m v x y h. y (x h); came = came }
 
 -- Events
 
 -- an action changes nothing, or what is plugged at a path that it names
-pub happened_by : (P : Ports → Bool → Type 0) (a : Action) (devices : List Spec) (k : Ports) (p : List ℕ) → P k false → ((o : Option Spec) (x : List ℕ) → P (changed (replaced o) k x) (way_of x p)) → P (happened a devices k) (names_path devices a p)
+pub happened_by : (P : Ports → Bool → Type 0) (a : Action) (devices : List Spec) (k : Ports)
+    (p : List ℕ)
+    → P k false → ((o : Option Spec) (x : List ℕ) → P (changed (replaced o) k x) (way_of x p))
+    → P (happened a devices k) (names_path devices a p)
 happened_by P (Plug x device) devices k p same there = plugged (slice_get devices device)
   where
     plugged : (o : Option Spec) → P (with_plugged o x k) (is_some o && way_of x p)
@@ -67,9 +78,13 @@ module _ {R : World → World → Type 0} (l : OverEvents R) where
   pub over_due : (events : List Event) (w : World) → w.left ≡ events → R w (due_from events w)
   unfolding due_from took
   over_due [] w e = l.same w
-  over_due (x ∷ events) w e = split (is_due x w) (l.joined w (took x events w) _ (l.came x events w e) (over_due events (took x events w) refl))
+  over_due (x ∷ events) w e =
+      split (is_due x w)
+      (l.joined w (took x events w) _ (l.came x events w e)
+      (over_due events (took x events w) refl))
     where
-      split : (b : Bool) → R w (due_from events (took x events w)) → R w (if b then due_from events (took x events w) else w)
+      split : (b : Bool) → R w (due_from events (took x events w))
+          → R w (if b then due_from events (took x events w) else w)
       split true h = h
       split false h = l.same w
 
@@ -81,20 +96,31 @@ module _ {R : World → World → Type 0} (l : OverEvents R) where
   over_coming (nothing_yet w) = l.same w
   over_coming (next_came {w} {v} c due) = l.joined w v _ (over_coming c) (over_first v.left v refl)
 
+abbrev without_left : World → World
+without_left w = record w { left = [] }
+
 -- what was left before changes nothing of what comes
-pub due_alike : (events : List Event) (w : World) → record (due_from events (record w { left = events })) { left = [] } ≡ record (due_from events w) { left = [] }
+pub due_alike : (events : List Event) (w : World)
+    → without_left (due_from events (record w { left = events })) ≡ without_left (due_from events w)
 unfolding due_from took
 due_alike [] w = refl
 due_alike (x ∷ events) w = split (is_due x w)
   where
-    split : (b : Bool) → record (if b then due_from events (took x events w) else record w { left = x ∷ events }) { left = [] } ≡ record (if b then due_from events (took x events w) else w) { left = [] }
+    later : World
+    later = due_from events (took x events w)
+
+    split : (b : Bool)
+        → without_left (if b then later else record w { left = x ∷ events })
+        ≡ without_left (if b then later else w)
     split true = refl
     split false = refl
 
 -- Attempts
 
 -- an attempt changes nothing, or only tells of the limit, or is made
-pub over_attempt : (P : World → Type 0) (a : Attempt) (w : World) → (is_made w.fault w ≡ false → P w × P (with_limit_told w)) → (is_made w.fault w ≡ true → P (with_attempt a (ready w))) → P (after (attempt a) w)
+pub over_attempt : (P : World → Type 0) (a : Attempt) (w : World)
+    → (is_made w.fault w ≡ false → P w × P (with_limit_told w))
+    → (is_made w.fault w ≡ true → P (with_attempt a (ready w))) → P (after (attempt a) w)
 unfolding after
 over_attempt P a w rests made = tried w.fault refl
   where
@@ -102,12 +128,33 @@ over_attempt P a w rests made = tried w.fault refl
     tried (Some f) e = (rests (ap (λ f. is_made f w) e)).0
     tried None e = split (w.attempts == w.limit) refl
       where
-        split : (b : Bool) → (w.attempts == w.limit) ≡ b → P (if b then with_limit_told w else with_attempt a (ready w))
+        split : (b : Bool) → (w.attempts == w.limit) ≡ b
+            → P (if b then with_limit_told w else with_attempt a (ready w))
         split true full = (rests (ap (λ f. is_made f w) e ∙ ap not full)).1
         split false room = made (ap (λ f. is_made f w) e ∙ ap not room)
 
-pub made_after : (a : Attempt) (w : World) → is_made w.fault w ≡ true → after (attempt a) w ≡ with_attempt a (ready w)
-made_after a w made = over_attempt (λ v. v ≡ with_attempt a (ready w)) a w (λ none. absurd (cc (made, none))) (λ _. refl)
+pub made_after : (a : Attempt) (w : World) → is_made w.fault w ≡ true
+    → after (attempt a) w ≡ with_attempt a (ready w)
+made_after a w made =
+    over_attempt (λ v. v ≡ with_attempt a (ready w)) a w (λ none. absurd (cc (made, none)))
+    (λ _. refl)
+
+pub made_sound : (w : World) → is_made w.fault w ≡ true → w.fault ≡ None
+made_sound w made = sound w.fault refl
+  where
+    sound : (f : Option BusFault) → w.fault ≡ f → f ≡ None
+    sound None e = refl
+    sound (Some f) e = absurd (cc (made, ap (λ f. is_made f w) e))
+
+-- nothing but the fault changed, or the attempt was made
+abbrev pub MadeOrNot : Attempt → World → World → Type 0
+MadeOrNot a w v =
+    (record v { fault = w.fault } ≡ w) ⊎ ((w.fault ≡ None) × (v ≡ with_attempt a (ready w)))
+
+pub attempt_cases : (a : Attempt) (w : World) → MadeOrNot a w (after (attempt a) w)
+attempt_cases a w =
+    over_attempt (MadeOrNot a w) a w (λ _. (inl refl, inl refl))
+    (λ made. inr (made_sound w made, refl))
 
 -- Steps
 
@@ -115,16 +162,20 @@ module _ {K : Step → World → Type 0} {R : World → World → Type 0} (l : O
   pub over_step : (s : Step) (w : World) → K s w → R w (after s w)
   unfolding after
   over_step (attempt a) w k =
-      over_attempt (R w) a w (λ _. (l.events.same w, l.refused w)) (λ made. l.events.joined w (ready w) _ (over_ready l.events w) (l.made a w made k))
+      over_attempt (R w) a w (λ _. (l.events.same w, l.refused w))
+      (λ made. l.events.joined w (ready w) _ (over_ready l.events w) (l.made a w made k))
   over_step (root_call c n) w k = l.root c n w k
   over_step event w k = over_taken l.events w.fault w
   over_step (report line) w k = l.events.same w
 
   pub over_course : {w v : World} → Course K w v → R w v
   over_course (here w) = l.events.same w
-  over_course (step s {w} {v} k more) = l.events.joined w (after s w) v (over_step s w k) (over_course more)
+  over_course (step s {w} {v} k more) =
+      l.events.joined w (after s w) v (over_step s w k) (over_course more)
 
 -- what each step keeps, a course keeps
-pub kept_course : {K : Step → World → Type 0} (J : World → Type 0) → ((s : Step) (w : World) → K s w → J w → J (after s w)) → {w v : World} → Course K w v → J w → J v
+pub kept_course : {K : Step → World → Type 0} (J : World → Type 0)
+    → ((s : Step) (w : World) → K s w → J w → J (after s w)) → {w v : World} → Course K w v → J w
+    → J v
 kept_course J keeps (here w) h = h
 kept_course J keeps (step s {w} {v} k more) h = kept_course J keeps more (keeps s w k h)

@@ -26,7 +26,8 @@ made_step a w m = rw (m.sound, unequal w.attempts w.limit (λ e. no (ap is_some 
 
 pub made_damages : (a : Attempt) (w : World) → Made w (after (attempt a) w) → (after (attempt a) w).damages ≡ w.damages
 unfolding with_attempt
-made_damages a w made = ap (λ v. v.damages) (made_step a w made) ∙ ap (λ v. v.damages) (ready_beside w)
+made_damages a w made =
+    ap (λ v. v.damages) (made_step a w made) ∙ ap (λ v. v.damages) (ready_beside w)
 
 -- where no two reachable devices are marked as of one address after it, none were before it, nor at it
 pub record IsUnshared (w : World) : Type 0 where

@@ -39,8 +39,22 @@ module _ (J : World → Type 0) (by_event : (e : Event) (events : List Event) (w
   unfolding with_attempt
   plan_steps = record {
     events = keeps_events J by_event;
-    made = λ a w made k. by_rest (ready w) _ (record { left = refl; taken = refl; devices = refl; shape = shape_attempt a (damage_in (ready w)) (ready w).roots });
-    root = λ c n w k. by_rest w _ (record { left = refl; taken = refl; devices = refl; shape = shape_root c w.roots (n ∷ []) });
+    made = λ a w made k.
+        by_rest (ready w) _
+        (record {
+          left = refl;
+          taken = refl;
+          devices = refl;
+          shape = shape_attempt a (damage_in (ready w)) (ready w).roots;
+        });
+    root = λ c n w k.
+        by_rest w _
+        (record {
+          left = refl;
+          taken = refl;
+          devices = refl;
+          shape = shape_root c w.roots (n ∷ []);
+        });
     refused = λ w. by_rest w _ (record { left = refl; taken = refl; devices = refl; shape = refl });
   }
 
@@ -199,7 +213,9 @@ way_away o x (m ∷ e) p h = there_other o x (m ∷ e) p h
 
 happened_away : (a : Action) (ds : List Spec) (k : Ports) (p : List ℕ) → names_path ds a p ≡ false → spec_there (shape (happened a ds k)) p ≡ spec_there (shape k) p
 happened_away a ds k p =
-    happened_by (λ v named. named ≡ false → spec_there (shape v) p ≡ spec_there (shape k) p) a ds k p (λ h. refl) (λ o e h. ap (λ x. spec_there x p) (shape_event o k e) ∙ way_away o (shape k) e p h)
+    happened_by (λ v named. named ≡ false → spec_there (shape v) p ≡ spec_there (shape k) p) a ds k
+    p (λ h. refl)
+    (λ o e h. ap (λ x. spec_there x p) (shape_event o k e) ∙ way_away o (shape k) e p h)
 
 none_parts : (ds : List Spec) (past : List Event) (e : Event) (p : List ℕ) → NoneNames ds (past ++ e ∷ []) p → NoneNames ds past p × (names_path ds e.action p ≡ false)
 none_parts ds [] e p h = (tt, h.0)

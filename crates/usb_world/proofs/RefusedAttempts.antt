@@ -13,7 +13,7 @@ use Rattle.usb_world.specs.AttemptPackets.{IsSettled}
 use Rattle.usb_world.specs.SanePorts.{IsSane}
 use Rattle.usb_world.specs.World.{World, IsAttempt, Attempted}
 use Rattle.usb_world.specs.Courses.{address_at, Own, Injective}
-use Rattle.usb_world.specs.Steps.{AnyStep, after, ready, damage_in, with_attempt, Left, at_event, at_packet, at_line, GaveUp, AttemptFails, attempt, IsCut}
+use Rattle.usb_world.specs.Steps.{AnyStep, IsBetween, after, ready, damage_in, with_attempt, Left, at_event, at_packet, at_line, GaveUp, AttemptFails, attempt, IsCut}
 use Rattle.usb_world.proofs.StepInvariants.{between_ready, between_steps}
 use Rattle.usb_world.proofs.AddressesKept.{own_steps, ready_unshared, ready_own}
 use Rattle.usb_world.proofs.LiftedSteps.{over_coming}
@@ -56,7 +56,9 @@ module _ (a : Attempt) (w : World) (is : IsAttempt a) (sound : w.fault ≡ None)
   left_own f v (at_line e made) own = cc
 
   left_sane : (v : World) → Left a w Memory v → All IsSpec w.devices → IsSane w.roots → IsSane v.roots
-  left_sane v (at_event c) r h = (over_coming (between_steps {K = AnyStep}).events c (record { settled = settled; sane = h; ruled = r })).sane
+  left_sane v (at_event c) r h =
+      let between : IsBetween w = record { settled = settled; sane = h; ruled = r } in
+      (over_coming (between_steps {K = AnyStep}).events c between).sane
   left_sane v (at_packet k e c made) r h =
       subst (λ x. IsSane x.roots) (sym made) ((packet_alike k c).sane (between_ready w (record { settled = settled; sane = h; ruled = r })).sane)
   left_sane v (at_line e made) r h = cc

@@ -51,7 +51,9 @@ event_same o k (suc i ∷ x) (suc j ∷ p) h =
     record { port = same.0.3; on = same.0.0; what = ap (option_map spec_of) same.1 }
 
 happened_same : (a : Action) (d : List Spec) (k : Ports) (p : List ℕ) → names_path d a p ≡ false → SameAt k (happened a d k) p
-happened_same a d k p = happened_by (λ v named. named ≡ false → SameAt k v p) a d k p (λ h. same_self k p) (λ o x. event_same o k x p)
+happened_same a d k p =
+    happened_by (λ v named. named ≡ false → SameAt k v p) a d k p (λ h. same_self k p)
+    (λ o x. event_same o k x p)
 
 -- Calls at ports
 
@@ -93,7 +95,8 @@ made_same a w p h = record { port = made_port a w p h; on = made_on a w p h; wha
 root_same : (c : PortCall) (m : ℕ) (w : World) (p : List ℕ) → root_leaves m p ≡ true → SameAt w.roots (changed (called c) w.roots (m ∷ [])) p
 root_same c m w p h = record { port = root_port c m w.roots p h; on = root_on c m w.roots p h; what = shaped w.roots (changed (called c) w.roots (m ∷ [])) p (shape_root c w.roots (m ∷ [])) }
 
-rests_steps : (p : List ℕ) → OverSteps (AsksNothingOf p) (LiveOrPends (λ w v. SameAt w.roots v.roots p) p)
+rests_steps : (p : List ℕ)
+    → OverSteps (AsksNothingOf p) (LiveOrPends (λ w v. SameAt w.roots v.roots p) p)
 unfolding took leaves_step
 rests_steps p = over_live (record {
   same = λ w. same_self w.roots p;

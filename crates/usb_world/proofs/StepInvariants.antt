@@ -123,7 +123,9 @@ pub settled_new : (n : ℕ) → IsSettled (new_ports n)
 settled_new n = settled (new_ports n) (rests_new n)
 
 pub settled_happened : (a : Action) (ds : List Spec) (k : Ports) → IsSettled k → IsSettled (happened a ds k)
-settled_happened a ds k h = happened_by (λ v _. IsSettled v) a ds k [] h (λ o x. settled_path (replaced o) (rests_replaced o) k x h)
+settled_happened a ds k h =
+    happened_by (λ v _. IsSettled v) a ds k [] h
+    (λ o x. settled_path (replaced o) (rests_replaced o) k x h)
 
 pub settled_called : (c : PortCall) (k : Ports) (p : List ℕ) → IsSettled k → IsSettled (changed (called c) k p)
 settled_called c k p h = settled_path (called c) (rests_called c) k p h
@@ -166,7 +168,9 @@ between_opening p r = record { settled = settled_new p.roots; sane = sane_new_po
 pub settled_steps : {K : Step → World → Type 0} → OverSteps K (Keeps (λ w. IsSettled w.roots))
 unfolding took with_attempt
 settled_steps = record {
-  events = keeps_events (λ w. IsSettled w.roots) (λ e es w l. settled_happened e.action w.devices w.roots);
+  events =
+      keeps_events (λ w. IsSettled w.roots)
+      (λ e es w l. settled_happened e.action w.devices w.roots);
   made = λ a w made k h. settled_ports a (damage_in (ready w)) (ready w).roots;
   root = λ c n w k. settled_called c w.roots (n ∷ []);
   refused = λ w h. h;
@@ -178,9 +182,26 @@ settled_after s w = over_step (settled_steps {K = AnyStep}) s w tt
 pub between_steps : {K : Step → World → Type 0} → OverSteps K (Keeps IsBetween)
 unfolding took with_attempt
 between_steps = record {
-  events = keeps_events IsBetween (λ e es w l h. record { settled = settled_happened e.action w.devices w.roots h.settled; sane = sane_happened e.action w.devices h.ruled w.roots h.sane; ruled = h.ruled });
-  made = λ a w made k h. record { settled = settled_ports a (damage_in (ready w)) (ready w).roots; sane = sane_ports a (damage_in (ready w)) (ready w).roots h.sane; ruled = h.ruled };
-  root = λ c n w k h. record { settled = settled_called c w.roots (n ∷ []) h.settled; sane = sane_called_at c w.roots (n ∷ []) h.sane; ruled = h.ruled };
+  events =
+      keeps_events IsBetween
+      (λ e es w l h.
+      record {
+        settled = settled_happened e.action w.devices w.roots h.settled;
+        sane = sane_happened e.action w.devices h.ruled w.roots h.sane;
+        ruled = h.ruled;
+      });
+  made = λ a w made k h.
+      record {
+        settled = settled_ports a (damage_in (ready w)) (ready w).roots;
+        sane = sane_ports a (damage_in (ready w)) (ready w).roots h.sane;
+        ruled = h.ruled;
+      };
+  root = λ c n w k h.
+      record {
+        settled = settled_called c w.roots (n ∷ []) h.settled;
+        sane = sane_called_at c w.roots (n ∷ []) h.sane;
+        ruled = h.ruled;
+      };
   refused = λ w h. record { settled = h.settled; sane = h.sane; ruled = h.ruled };
 }
 
@@ -198,7 +219,11 @@ between_course c = over_course between_steps c
 counted_steps : {K : Step → World → Type 0} → OverSteps K (λ w v. w.taken ≤ v.taken)
 unfolding took with_attempt
 counted_steps = record {
-  events = record { same = λ w. omega arith; joined = λ w m v x y. omega (arith, x, y); came = λ e es w l. omega arith };
+  events = record {
+    same = λ w. omega arith;
+    joined = λ w m v x y. omega (arith, x, y);
+    came = λ e es w l. omega arith;
+  };
   made = λ a w made k. omega arith;
   root = λ c n w k. omega arith;
   refused = λ w. omega arith;
