@@ -22,3 +22,4 @@ pub mod NumberedPlaces
 pub mod HolderIndexes
 pub mod HolderPaths
 pub mod ReachedPlaces
+pub mod AloneAttempts
