@@ -7,7 +7,7 @@ use Rattle.usb_port.specs.PortState.{PortState}
 use Rattle.usb_device.specs.declared.delivery.Sent.{Sent}
 use Rattle.usb_device.specs.declared.effect.Effect.TheVariants.{Leaves}
 use Rattle.usb_device.specs.Rows.{State, forgotten}
-use Rattle.usb_device.specs.Tree.{Ports, ended, vacant, taken, Place, empty, full, before, acted, changed_at, plugged_at, device_there, reach_at, place_at, Spot}
+use Rattle.usb_device.specs.Tree.{Ports, ended, vacant, taken, Place, empty, full, before, acted, changed_at, plugged_at, device_there, state_at, reach_at, place_at, Spot}
 use Rattle.usb_device.specs.Delivery.{answer_of, all_forgotten}
 use Rattle.usb_device.specs.Holders.{path_below, reached, all_reached, ReachedSame, keeps_reached}
 use Rattle.usb_device.specs.HolderIndex.{IsIndexOf}
@@ -17,7 +17,7 @@ use Rattle.usb_device.proofs.Interface.{changed_at-head, reached-acted, reached-
 use Rattle.usb_world.specs.declared.types.Attempt.{Attempt}
 use Rattle.usb_world.specs.declared.damage.Damage.{Damage}
 use Rattle.usb_world.specs.Paths.{address_of}
-use Rattle.usb_world.specs.AttemptPackets.{after_sent, deep_at, IsSettled, OneHolds}
+use Rattle.usb_world.specs.AttemptPackets.{after_sent, deep_at, IsSettled}
 use Rattle.usb_world.specs.Exchange.{token_out, payload_out, reply_out, ended_in, ports_in}
 use Rattle.usb_world.specs.LonePackets.{Alone, IsWayTo, IsQuiet, KeptAt}
 use Rattle.usb_world.proofs.Booleans.{no, both}
@@ -41,7 +41,7 @@ changed_at-same (taken b s a k) zero (zero ∷ p) = refl
 changed_at-same (taken b s a k) zero (suc j ∷ p) = ap (λ x. taken b s x k) (changed_at-same a j p)
 changed_at-same (taken b s a k) (suc j) p = ap (taken b s a) (changed_at-same k j p)
 
-changed_at-twice : (f g : Place → Place) (k : Ports) (j : ℕ) (p : List ℕ) → changed_at f (changed_at g k j p) j p ≡ changed_at (λ x. f (g x)) k j p
+pub changed_at-twice : (f g : Place → Place) (k : Ports) (j : ℕ) (p : List ℕ) → changed_at f (changed_at g k j p) j p ≡ changed_at (λ x. f (g x)) k j p
 unfolding changed_at
 changed_at-twice f g ended j p = refl
 changed_at-twice f g (vacant b k) zero [] = changed_at-head f (g (empty b)) k []
@@ -57,7 +57,7 @@ unfolding place_at
 place_at-first (empty b) k = refl
 place_at-first (full b s a) k = refl
 
-place_at-changed : (f : Place → Place) (k : Ports) (j : ℕ) (p : List ℕ) → place_at (changed_at f k j p) j p ≡ option_map f (place_at k j p)
+pub place_at-changed : (f : Place → Place) (k : Ports) (j : ℕ) (p : List ℕ) → place_at (changed_at f k j p) j p ≡ option_map f (place_at k j p)
 unfolding place_at changed_at
 place_at-changed f ended j p = refl
 place_at-changed f (vacant b k) zero [] = place_at-first (f (empty b)) k
@@ -75,7 +75,7 @@ same_there b s t a c e h = λ w n. ap₂ (λ m l. if b.enable then (m, path_belo
 
 -- ---- one packet
 
-abbrev step_in : Option Sent → Bool → Place → Place
+abbrev pub step_in : Option Sent → Bool → Place → Place
 step_in None = λ deep x. x
 step_in (Some q) = λ deep x. sent_in q deep x
 
@@ -91,7 +91,7 @@ step_is : (o : Option Sent) (deep : Bool) (b : PortState) (s : State) (a : Ports
 step_is None deep b s a = refl
 step_is (Some q) deep b s a = refl
 
-sent_one : (o : Option Sent) (k : Ports) (j : ℕ) (p : List ℕ) → Alone o k (record { row = j; rest = p }) → after_sent o k ≡ changed_at (step_in o (deep_at false p)) k j p
+pub sent_one : (o : Option Sent) (k : Ports) (j : ℕ) (p : List ℕ) → Alone o k (record { row = j; rest = p }) → after_sent o k ≡ changed_at (step_in o (deep_at false p)) k j p
 sent_one None k j p h = sym (changed_at-same k j p)
 sent_one (Some q) k j p h = others_packet q false k j p h.on (others_rest q k j p h)
 
@@ -118,7 +118,7 @@ reached_stands (taken b s a k) zero (zero ∷ p) h = no h
 reached_stands (taken b s a k) zero (suc j ∷ p) h = let x : _ = reached_stands a j p (both b.enable (reach_at a j p) h).1 in record { port = x.port; own = x.own; below = x.below; at = x.at }
 reached_stands (taken b s a k) (suc j) p h = let x : _ = reached_stands k j p h in record { port = x.port; own = x.own; below = x.below; at = x.at }
 
-module _ (a : Attempt) (d : Option Damage) (k : Ports) (j : ℕ) (p : List ℕ) (settled : IsSettled k) (holds : OneHolds a.addr k (record { row = j; rest = p })) where
+module _ (a : Attempt) (d : Option Damage) (k : Ports) (j : ℕ) (p : List ℕ) (one : Alone (token_out a d) k (record { row = j; rest = p })) where
   abbrev deep : Bool
   deep = deep_at false p
 
@@ -134,36 +134,33 @@ module _ (a : Attempt) (d : Option Damage) (k : Ports) (j : ℕ) (p : List ℕ) 
   abbrev x : Spot
   x = record { row = j; rest = p }
 
-  one : Alone t k x
-  one = alone_token a d k (suc j ∷ p) settled holds
-
-  two : Alone q (after_sent t k) x
+  pub two : Alone q (after_sent t k) x
   two = alone_data q (after_sent t k) (suc j ∷ p) (alone_sent t k (suc j ∷ p) one) (goes a d k).payload
 
-  three : Alone r (after_sent q (after_sent t k)) x
+  pub three : Alone r (after_sent q (after_sent t k)) x
   three = alone_ack r (after_sent q (after_sent t k)) (suc j ∷ p) (alone_sent q (after_sent t k) (suc j ∷ p) two) (goes a d k).reply
 
-  four : Alone None (ended_in a d k) x
+  pub four : Alone None (ended_in a d k) x
   four = alone_sent r (after_sent q (after_sent t k)) (suc j ∷ p) three
 
-  abbrev till_data : Place → Place
+  abbrev pub till_data : Place → Place
   till_data x = step_in q deep (step_in t deep x)
 
-  abbrev till_end : Place → Place
+  abbrev pub till_end : Place → Place
   till_end x = step_in r deep (till_data x)
 
   data_is : after_sent q (after_sent t k) ≡ changed_at till_data k j p
   data_is = sent_one q (after_sent t k) j p two ∙ ap (λ x. changed_at (step_in q deep) x j p) (sent_one t k j p one) ∙ changed_at-twice (step_in q deep) (step_in t deep) k j p
 
-  end_is : ended_in a d k ≡ changed_at till_end k j p
+  pub end_is : ended_in a d k ≡ changed_at till_end k j p
   end_is = sent_one r (after_sent q (after_sent t k)) j p three ∙ ap (λ x. changed_at (step_in r deep) x j p) data_is ∙ changed_at-twice (step_in r deep) till_data k j p
 
-  all_is : ports_in a d k ≡ changed_at (λ x. forgotten_in (till_end x)) k j p
+  pub all_is : ports_in a d k ≡ changed_at (λ x. forgotten_in (till_end x)) k j p
   unfolding ports_in
   all_is = others_forget (ended_in a d k) j p four.on four.forgot ∙ ap (λ x. changed_at forgotten_in x j p) end_is ∙ changed_at-twice forgotten_in till_end k j p
 
-  here : Stands k j p
-  here = reached_stands k j p holds.on
+  pub here : Stands k j p
+  here = reached_stands k j p one.on
 
   abbrev first : State
   first = own_after t deep here.own here.below
@@ -193,31 +190,32 @@ module _ (a : Attempt) (d : Option Damage) (k : Ports) (j : ℕ) (p : List ℕ) 
   end_at : place_at (ended_in a d k) j p ≡ Some (full here.port third below_then)
   end_at = ap (λ x. place_at x j p) end_is ∙ place_at-changed till_end k j p ∙ ap (option_map till_end) here.at ∙ ap (λ x. Some x) end_place
 
-  here_address : here.own.registers.address ≡ a.addr
-  here_address = same_Some here.own.registers.address a.addr (sym (ap (option_map address_of) (sym (state_stands k j p) ∙ ap stands here.at)) ∙ holds.at)
+  module _ (at : option_map address_of (state_at k j p) ≡ Some a.addr) where
+    here_address : here.own.registers.address ≡ a.addr
+    here_address = same_Some here.own.registers.address a.addr (sym (ap (option_map address_of) (sym (state_stands k j p) ∙ ap stands here.at)) ∙ at)
 
-  module _ (quiet : IsQuiet q (after_sent t k) (suc j ∷ p)) where
-    below_same : (w : Option (ArrayVec ℕ)) (n : ℕ) → reached w n below_then ≡ reached w n here.below
-    below_same = reached-acted (asked_of q deep first) here.below (quiet_asks q (after_sent t k) j p here.port first here.below quiet first_at)
+    module _ (quiet : IsQuiet q (after_sent t k) (suc j ∷ p)) where
+      below_same : (w : Option (ArrayVec ℕ)) (n : ℕ) → reached w n below_then ≡ reached w n here.below
+      below_same = reached-acted (asked_of q deep first) here.below (quiet_asks q (after_sent t k) j p here.port first here.below quiet first_at)
 
-    left_same : (x : Place) → x ≡ full here.port here.own here.below → third.registers.address ≡ here.own.registers.address → ReachedSame (forgotten_in (till_end x)) x
-    left_same x is e =
-        subst (λ y. ReachedSame (forgotten_in (till_end y)) y) (sym is)
-        (subst (λ y. ReachedSame (forgotten_in y) (full here.port here.own here.below)) (sym end_place) (same_there here.port here.own (forgotten third) here.below below_then e below_same))
+      left_same : (x : Place) → x ≡ full here.port here.own here.below → third.registers.address ≡ here.own.registers.address → ReachedSame (forgotten_in (till_end x)) x
+      left_same x is e =
+          subst (λ y. ReachedSame (forgotten_in (till_end y)) y) (sym is)
+          (subst (λ y. ReachedSame (forgotten_in y) (full here.port here.own here.below)) (sym end_place) (same_there here.port here.own (forgotten third) here.below below_then e below_same))
 
-    addresses_stay : address_by (plugged_at (ended_in a d k) j p) ≡ Some a.addr → all_reached (ports_in a d k) ≡ all_reached k
-    addresses_stay e =
-        let address : third.registers.address ≡ a.addr =
-        same_Some third.registers.address a.addr (sym (ap (λ x. address_by (plugged_on x)) end_at) ∙ ap address_by (plugged_place (ended_in a d k) j p) ∙ e) in
-        ap all_reached all_is
-        ∙ reached-changed (λ x. forgotten_in (till_end x)) _ 1 k j p (λ x at. left_same x (same_Some x (full here.port here.own here.below) (sym at ∙ here.at)) (address ∙ sym here_address))
+      addresses_stay : address_by (plugged_at (ended_in a d k) j p) ≡ Some a.addr → all_reached (ports_in a d k) ≡ all_reached k
+      addresses_stay e =
+          let address : third.registers.address ≡ a.addr =
+          same_Some third.registers.address a.addr (sym (ap (λ x. address_by (plugged_on x)) end_at) ∙ ap address_by (plugged_place (ended_in a d k) j p) ∙ e) in
+          ap all_reached all_is
+          ∙ reached-changed (λ x. forgotten_in (till_end x)) _ 1 k j p (λ x at. left_same x (same_Some x (full here.port here.own here.below) (sym at ∙ here.at)) (address ∙ sym here_address))
 
 -- where what was asked of ports keeps who is reached, and the device has the address still
 held_still : (a : Attempt) (d : Option Damage) (k : Ports) (p : List ℕ) → IsQuiet (payload_out a d) (after_sent (token_out a d) k) p → address_by (device_there (ended_in a d k) p) ≡ Some a.addr
     → KeptAt a.addr k (ports_in a d k) p
 held_still a d k [] q e = no (ap is_some e)
 held_still a d k (zero ∷ p) q e = no (ap is_some e)
-held_still a d k (suc j ∷ p) q e = λ settled o. addresses_stay a d k j p settled o q e
+held_still a d k (suc j ∷ p) q e = λ settled o. addresses_stay a d k j p (alone_token a d k (suc j ∷ p) settled o) o.at q e
 
 -- the same, of what the code tells: the address that is left there is the attempt's
 pub kept_at : (a : Attempt) (d : Option Damage) (k m n : Ports) (p : List ℕ) (left : Option ℕ) → option_eq nat_eq left (Some a.addr) ≡ true
