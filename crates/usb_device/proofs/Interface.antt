@@ -14,3 +14,4 @@ pub use Rattle.usb_device.proofs.Strays.{or-joined}
 pub use Rattle.usb_device.proofs.HolderIndexes.{addresses, held-reached, same_index}
 pub use Rattle.usb_device.proofs.HolderPaths.{one_is_held}
 pub use Rattle.usb_device.proofs.ReachedPlaces.{index_around, index_called, index_plugged, reached-acted, reached-both}
+pub use Rattle.usb_device.proofs.StoppedPackets.{on_err}

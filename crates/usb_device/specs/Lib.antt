@@ -25,3 +25,4 @@ pub mod StoppedPackets
 pub mod Route
 pub mod Holders
 pub mod HolderIndex
+pub mod AloneAttempts

@@ -21,6 +21,7 @@
 //!   device with usb_transaction.
 #![tactic(auto)]
 
+mod alone;
 mod answer;
 mod between;
 mod bulk;
@@ -43,6 +44,7 @@ mod route;
 mod spec;
 mod transfer;
 
+pub use alone::{DeviceSide, HostSide};
 pub use answer::{Answer, AnswerPid};
 pub use children::Parent;
 pub use delivery::{Content, Heard, Sent};

@@ -9,6 +9,8 @@ ghost use Rattle.usb_device.specs.StrayPackets.{awaits_data, awaits_ack};
 ghost use Rattle.usb_device.specs.Tree.{row_of};
 ghost use Rattle.usb_device.specs.Effect.{effect_of_request};
 ghost use Rattle.usb_device.specs.AnswerPids.{Room, answer_with};
+ghost use Rattle.usb_device.specs.AloneAttempts.{after_ack};
+ghost use Rattle.usb_packet.specs.declared.Packet.TheVariants.{Token as token};
 
 use crate::answer::AnswerPid;
 use crate::bulk::{
@@ -335,6 +337,36 @@ impl Own {
                 self.attempt_over();
                 Ok(None)
             }
+        }
+    }
+
+    /// A token at the device, as `received` takes it: no sink grows.
+    #[tactic(auto, unfolding(crate::specs::Rows::received))]
+    pub fn take_token(
+        &mut self,
+        ports: &Ports,
+        kind: TokenKind,
+        addr: u8,
+        ep: u8,
+        room: &mut ArrayVec<u8, 64>,
+    ) -> Option<AnswerPid>
+        ensures { (answer_with result room.new, self.new)
+            ≡ received self.old (row_of ports.now) (token kind addr ep) }
+    {
+        if self.spec.is_silent() {
+            return None;
+        }
+        self.attempt_over();
+        self.token(ports, kind, addr, ep, room)
+    }
+
+    /// The host's ACK at the device, in the same way.
+    #[tactic(auto, unfolding(crate::specs::Rows::received))]
+    pub fn take_ack(&mut self)
+        ensures { self.new ≡ after_ack self.old }
+    {
+        if !self.spec.is_silent() {
+            self.acknowledged();
         }
     }
 

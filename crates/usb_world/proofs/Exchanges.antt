@@ -16,7 +16,7 @@ use Rattle.usb_world.proofs.AttemptPackets.{attempt_settled}
 use Rattle.usb_world.specs.ExchangeEffects.{StaysPlugged, PacketWent, PacketsWent, Exchanged}
 use Rattle.usb_world.specs.Exchange.{token_of, payload_of, answer_place, answer_mark, reply_of, goes_out, heard_all, token_out, payload_out, heard_in, mark_in, reply_in, answered_in, is_lost, lost_in, clears_at, cleared_in, exchange_in, ended_in, ports_in}
 
-heard_all_of : (xs : List Answer) → heard_above (heard_of xs) ≡ heard_all xs
+pub heard_all_of : (xs : List Answer) → heard_above (heard_of xs) ≡ heard_all xs
 heard_all_of [] = refl
 heard_all_of (x ∷ []) = refl
 heard_all_of (x ∷ y ∷ more) = refl

@@ -62,4 +62,5 @@ pub mod UnsharedRefusals
 pub mod RestingPorts
 pub mod Routes
 pub mod RoutesKept
+pub mod OneWalk
 pub mod Silence

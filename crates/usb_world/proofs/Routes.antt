@@ -84,7 +84,7 @@ heard_one : (o : Option Answer) → heard_of (listed o []) ≡ heard_from o
 heard_one None = refl
 heard_one (Some x) = refl
 
-heard_place_by : (q : Sent) (deep : Bool) (x : Option Place) → heard_of (answer_at q deep x) ≡ heard_from (answer_by q deep (plugged_on x))
+pub heard_place_by : (q : Sent) (deep : Bool) (x : Option Place) → heard_of (answer_at q deep x) ≡ heard_from (answer_by q deep (plugged_on x))
 heard_place_by q deep None = refl
 heard_place_by q deep (Some (empty b)) = refl
 heard_place_by q deep (Some (full b s a)) = heard_one (answer_of q deep s a).0
@@ -92,7 +92,7 @@ heard_place_by q deep (Some (full b s a)) = heard_one (answer_of q deep s a).0
 pub rest_clears : (q : Sent) (deep : Bool) (k : Ports) → ((i : ℕ) (e : List ℕ) (t : State) → state_at k i e ≡ Some t → t.memory ≡ Nothing) → clears_change q deep k ≡ false
 rest_clears q deep k c = clears_if q deep k (λ i e t at dp. ap asks_clearing (rested_effect q dp t (c i e t at)))
 
-others_clear : (q : Sent) (deep : Bool) (k : Ports) (j : ℕ) (p : List ℕ) → reach_at k j p ≡ true → OthersForgot k (record { row = j; rest = p }) → clears_change q deep k ≡ asks_clearing (effect_by q (deep_at deep p) (plugged_at k j p))
+pub others_clear : (q : Sent) (deep : Bool) (k : Ports) (j : ℕ) (p : List ℕ) → reach_at k j p ≡ true → OthersForgot k (record { row = j; rest = p }) → clears_change q deep k ≡ asks_clearing (effect_by q (deep_at deep p) (plugged_at k j p))
 unfolding clears_change state_at reach_at plugged_at
 others_clear q deep ended j p h c = no h
 others_clear q deep (vacant b k) zero p h c = no h
@@ -177,7 +177,7 @@ rested_place q deep b s a c f = split b.enable c f
     split true c f = rw (rested_answer q deep s a (c refl).0 (c refl).1, rested_effect q deep s (c refl).0, f refl) refl
     split false c f = refl
 
-others_stop : (q : Sent) (deep : Bool) (k : Ports) (j : ℕ) (p : List ℕ) → reach_at k j p ≡ true → OthersRest q k j p → RefusedBy q (deep_at deep p) (plugged_at k j p) → Stopped q deep k k
+pub others_stop : (q : Sent) (deep : Bool) (k : Ports) (j : ℕ) (p : List ℕ) → reach_at k j p ≡ true → OthersRest q k j p → RefusedBy q (deep_at deep p) (plugged_at k j p) → Stopped q deep k k
 unfolding state_at reach_at plugged_at
 others_stop q deep ended j p h c r = no h
 others_stop q deep (vacant b k) zero p h c r = no h

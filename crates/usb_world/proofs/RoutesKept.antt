@@ -7,7 +7,7 @@ use Rattle.usb_port.specs.PortState.{PortState}
 use Rattle.usb_device.specs.declared.delivery.Sent.{Sent}
 use Rattle.usb_device.specs.declared.effect.Effect.TheVariants.{Leaves}
 use Rattle.usb_device.specs.Rows.{State, forgotten}
-use Rattle.usb_device.specs.Tree.{Ports, ended, vacant, taken, Place, empty, full, before, acted, put, changed, changed_at, changed_in, plugged_at, device_there, reach_at, place_at, Spot}
+use Rattle.usb_device.specs.Tree.{Ports, ended, vacant, taken, Place, empty, full, before, acted, put, changed, changed_at, changed_in, device_there, reach_at, place_at, Spot, state_at}
 use Rattle.usb_device.specs.Delivery.{answer_of, all_forgotten}
 use Rattle.usb_device.specs.Holders.{path_below, reached, all_reached, ReachedSame, keeps_others}
 use Rattle.usb_device.specs.HolderIndex.{IsIndexOf, IsIndexWithout}
@@ -17,7 +17,7 @@ use Rattle.usb_device.proofs.Interface.{changed_at-port, changed_at-same, change
 use Rattle.usb_world.specs.declared.types.Attempt.{Attempt}
 use Rattle.usb_world.specs.declared.damage.Damage.{Damage}
 use Rattle.usb_world.specs.Paths.{address_of}
-use Rattle.usb_world.specs.AttemptPackets.{after_sent, deep_at, IsSettled, OneHolds}
+use Rattle.usb_world.specs.AttemptPackets.{after_sent, deep_at, IsSettled}
 use Rattle.usb_world.specs.Exchange.{token_out, payload_out, reply_out, ended_in, ports_in}
 use Rattle.usb_world.specs.LonePackets.{Alone, is_whole_tree, IsWayTo, without_port, IsQuiet, KeptAt}
 use Rattle.usb_world.proofs.Booleans.{no, both}
@@ -35,7 +35,7 @@ unfolding place_at
 place_at-first (empty b) k = refl
 place_at-first (full b s a) k = refl
 
-place_at-changed : (f : Place → Place) (k : Ports) (j : ℕ) (p : List ℕ) → place_at (changed_at f k j p) j p ≡ option_map f (place_at k j p)
+pub place_at-changed : (f : Place → Place) (k : Ports) (j : ℕ) (p : List ℕ) → place_at (changed_at f k j p) j p ≡ option_map f (place_at k j p)
 unfolding place_at changed_at
 place_at-changed f ended j p = refl
 place_at-changed f (vacant b k) zero [] = place_at-first (f (empty b)) k
@@ -55,7 +55,7 @@ same_there port b s t a c e h = λ w n. ap₂ (λ m l. if b.enable then (m, path
 
 -- ---- one packet
 
-abbrev step_in : Option Sent → Bool → Place → Place
+abbrev pub step_in : Option Sent → Bool → Place → Place
 step_in None = λ deep x. x
 step_in (Some q) = λ deep x. sent_in q deep x
 
@@ -71,7 +71,7 @@ step_is : (o : Option Sent) (deep : Bool) (b : PortState) (s : State) (a : Ports
 step_is None deep b s a = refl
 step_is (Some q) deep b s a = refl
 
-sent_one : (o : Option Sent) (k : Ports) (j : ℕ) (p : List ℕ) → Alone o k (record { row = j; rest = p }) → after_sent o k ≡ changed_at (step_in o (deep_at false p)) k j p
+pub sent_one : (o : Option Sent) (k : Ports) (j : ℕ) (p : List ℕ) → Alone o k (record { row = j; rest = p }) → after_sent o k ≡ changed_at (step_in o (deep_at false p)) k j p
 sent_one None k j p h = sym (changed_at-same k j p)
 sent_one (Some q) k j p h = others_packet q false k j p h.on (others_rest q k j p h)
 
@@ -98,7 +98,7 @@ reached_stands (taken b s a k) zero (zero ∷ p) h = no h
 reached_stands (taken b s a k) zero (suc j ∷ p) h = let x : _ = reached_stands a j p (both b.enable (reach_at a j p) h).1 in record { port = x.port; own = x.own; below = x.below; at = x.at }
 reached_stands (taken b s a k) (suc j) p h = let x : _ = reached_stands k j p h in record { port = x.port; own = x.own; below = x.below; at = x.at }
 
-module _ (a : Attempt) (d : Option Damage) (k : Ports) (j : ℕ) (p : List ℕ) (settled : IsSettled k) (holds : OneHolds a.addr k (record { row = j; rest = p })) where
+module _ (a : Attempt) (d : Option Damage) (k : Ports) (j : ℕ) (p : List ℕ) (one : Alone (token_out a d) k (record { row = j; rest = p })) where
   abbrev deep : Bool
   deep = deep_at false p
 
@@ -114,36 +114,33 @@ module _ (a : Attempt) (d : Option Damage) (k : Ports) (j : ℕ) (p : List ℕ) 
   abbrev x : Spot
   x = record { row = j; rest = p }
 
-  one : Alone t k x
-  one = alone_token a d k (suc j ∷ p) settled holds
-
-  two : Alone q (after_sent t k) x
+  pub two : Alone q (after_sent t k) x
   two = alone_data q (after_sent t k) (suc j ∷ p) (alone_sent t k (suc j ∷ p) one) (goes a d k).payload
 
-  three : Alone r (after_sent q (after_sent t k)) x
+  pub three : Alone r (after_sent q (after_sent t k)) x
   three = alone_ack r (after_sent q (after_sent t k)) (suc j ∷ p) (alone_sent q (after_sent t k) (suc j ∷ p) two) (goes a d k).reply
 
-  four : Alone None (ended_in a d k) x
+  pub four : Alone None (ended_in a d k) x
   four = alone_sent r (after_sent q (after_sent t k)) (suc j ∷ p) three
 
-  abbrev till_data : Place → Place
+  abbrev pub till_data : Place → Place
   till_data x = step_in q deep (step_in t deep x)
 
-  abbrev till_end : Place → Place
+  abbrev pub till_end : Place → Place
   till_end x = step_in r deep (till_data x)
 
   data_is : after_sent q (after_sent t k) ≡ changed_at till_data k j p
   data_is = sent_one q (after_sent t k) j p two ∙ ap (λ x. changed_at (step_in q deep) x j p) (sent_one t k j p one) ∙ changed_at-twice (step_in q deep) (step_in t deep) k j p
 
-  end_is : ended_in a d k ≡ changed_at till_end k j p
+  pub end_is : ended_in a d k ≡ changed_at till_end k j p
   end_is = sent_one r (after_sent q (after_sent t k)) j p three ∙ ap (λ x. changed_at (step_in r deep) x j p) data_is ∙ changed_at-twice (step_in r deep) till_data k j p
 
-  all_is : ports_in a d k ≡ changed_at (λ x. forgotten_in (till_end x)) k j p
+  pub all_is : ports_in a d k ≡ changed_at (λ x. forgotten_in (till_end x)) k j p
   unfolding ports_in
   all_is = others_forget (ended_in a d k) j p four.on four.forgot ∙ ap (λ x. changed_at forgotten_in x j p) end_is ∙ changed_at-twice forgotten_in till_end k j p
 
-  here : Stands k j p
-  here = reached_stands k j p holds.on
+  pub here : Stands k j p
+  here = reached_stands k j p one.on
 
   abbrev first : State
   first = own_after t deep here.own here.below
@@ -173,36 +170,37 @@ module _ (a : Attempt) (d : Option Damage) (k : Ports) (j : ℕ) (p : List ℕ) 
   end_at : place_at (ended_in a d k) j p ≡ Some (full here.port third below_then)
   end_at = ap (λ x. place_at x j p) end_is ∙ place_at-changed till_end k j p ∙ ap (option_map till_end) here.at ∙ ap (λ x. Some x) end_place
 
-  here_address : here.own.registers.address ≡ a.addr
-  here_address = same_Some here.own.registers.address a.addr (sym (ap (option_map address_of) (sym (state_stands k j p) ∙ ap stands here.at)) ∙ holds.at)
+  module _ (at : option_map address_of (state_at k j p) ≡ Some a.addr) where
+    here_address : here.own.registers.address ≡ a.addr
+    here_address = same_Some here.own.registers.address a.addr (sym (ap (option_map address_of) (sym (state_stands k j p) ∙ ap stands here.at)) ∙ at)
 
-  module _ (port : ℕ) (quiet : IsQuiet port q (after_sent t k) (suc j ∷ p)) where
-    abbrev without : Place → Place
-    without x = changed_in (put None) x (port ∷ [])
+    module _ (port : ℕ) (quiet : IsQuiet port q (after_sent t k) (suc j ∷ p)) where
+      abbrev without : Place → Place
+      without x = changed_in (put None) x (port ∷ [])
 
-    below_same : (w : Option (ArrayVec ℕ)) (n : ℕ) → reached w n (changed (put None) below_then (port ∷ [])) ≡ reached w n (changed (put None) here.below (port ∷ []))
-    below_same = reached-acted (asked_of q deep first) port here.below (quiet_asks port q (after_sent t k) j p here.port first here.below quiet first_at)
+      below_same : (w : Option (ArrayVec ℕ)) (n : ℕ) → reached w n (changed (put None) below_then (port ∷ [])) ≡ reached w n (changed (put None) here.below (port ∷ []))
+      below_same = reached-acted (asked_of q deep first) port here.below (quiet_asks port q (after_sent t k) j p here.port first here.below quiet first_at)
 
-    left_same : (x : Place) → x ≡ full here.port here.own here.below → third.registers.address ≡ here.own.registers.address → ReachedSame (without (forgotten_in (till_end x))) (without x)
-    left_same x is e =
-        subst (λ y. ReachedSame (without (forgotten_in (till_end y))) (without y)) (sym is)
-        (subst (λ y. ReachedSame (without (forgotten_in y)) (without (full here.port here.own here.below))) (sym end_place)
-        (same_there port here.port here.own (forgotten third) here.below below_then e below_same))
+      left_same : (x : Place) → x ≡ full here.port here.own here.below → third.registers.address ≡ here.own.registers.address → ReachedSame (without (forgotten_in (till_end x))) (without x)
+      left_same x is e =
+          subst (λ y. ReachedSame (without (forgotten_in (till_end y))) (without y)) (sym is)
+          (subst (λ y. ReachedSame (without (forgotten_in y)) (without (full here.port here.own here.below))) (sym end_place)
+          (same_there port here.port here.own (forgotten third) here.below below_then e below_same))
 
-    addresses_stay : address_by (plugged_at (ended_in a d k) j p) ≡ Some a.addr → all_reached (without_port port (ports_in a d k) (suc j ∷ p)) ≡ all_reached (without_port port k (suc j ∷ p))
-    addresses_stay e =
-        let address : third.registers.address ≡ a.addr =
-        same_Some third.registers.address a.addr (sym (ap (λ x. address_by (plugged_on x)) end_at) ∙ ap address_by (plugged_place (ended_in a d k) j p) ∙ e) in
-        ap all_reached (changed_at-port (put None) (ports_in a d k) j p port ∙ ap (λ x. changed_at without x j p) all_is ∙ changed_at-twice without (λ x. forgotten_in (till_end x)) k j p)
-        ∙ reached-both (λ x. without (forgotten_in (till_end x))) without _ 1 k j p (λ x at. left_same x (same_Some x (full here.port here.own here.below) (sym at ∙ here.at)) (address ∙ sym here_address))
-        ∙ sym (ap all_reached (changed_at-port (put None) k j p port))
+      addresses_stay : address_by (plugged_at (ended_in a d k) j p) ≡ Some a.addr → all_reached (without_port port (ports_in a d k) (suc j ∷ p)) ≡ all_reached (without_port port k (suc j ∷ p))
+      addresses_stay e =
+          let address : third.registers.address ≡ a.addr =
+          same_Some third.registers.address a.addr (sym (ap (λ x. address_by (plugged_on x)) end_at) ∙ ap address_by (plugged_place (ended_in a d k) j p) ∙ e) in
+          ap all_reached (changed_at-port (put None) (ports_in a d k) j p port ∙ ap (λ x. changed_at without x j p) all_is ∙ changed_at-twice without (λ x. forgotten_in (till_end x)) k j p)
+          ∙ reached-both (λ x. without (forgotten_in (till_end x))) without _ 1 k j p (λ x at. left_same x (same_Some x (full here.port here.own here.below) (sym at ∙ here.at)) (address ∙ sym here_address))
+          ∙ sym (ap all_reached (changed_at-port (put None) k j p port))
 
 -- where what was asked of ports keeps who is reached, and the device has the address still
 held_still : (port : ℕ) (a : Attempt) (d : Option Damage) (k : Ports) (p : List ℕ) → IsQuiet port (payload_out a d) (after_sent (token_out a d) k) p → address_by (device_there (ended_in a d k) p) ≡ Some a.addr
     → KeptAt a.addr port k (ports_in a d k) p
 held_still port a d k [] q e = no (ap is_some e)
 held_still port a d k (zero ∷ p) q e = no (ap is_some e)
-held_still port a d k (suc j ∷ p) q e = λ settled o. addresses_stay a d k j p settled o port q e
+held_still port a d k (suc j ∷ p) q e = λ settled o. addresses_stay a d k j p (alone_token a d k (suc j ∷ p) settled o) o.at port q e
 
 -- the same, of what the code tells: the address that is left there is the attempt's
 pub kept_at : (port : ℕ) (a : Attempt) (d : Option Damage) (k m n : Ports) (p : List ℕ) (left : Option ℕ) → option_eq nat_eq left (Some a.addr) ≡ true

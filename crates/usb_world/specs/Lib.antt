@@ -25,3 +25,4 @@ pub mod PlanCourses
 pub mod RestingPorts
 pub mod LonePackets
 pub mod Silence
+pub mod HostSides

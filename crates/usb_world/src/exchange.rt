@@ -1,5 +1,5 @@
 //! One attempt: the host's packets go to the devices, and their answers come together.
-ghost use Rattle.std.specs.Prelude.{◌≡◌, ◌≤◌, [], true, None, Some, IfOk, IfSome, IsOk, IsSome, OnOk, OnErr};
+ghost use Rattle.std.specs.Prelude.{◌≡◌, ◌≤◌, [], true, false, None, Some, IfOk, IfSome, IsOk, IsSome, OnOk, OnErr};
 ghost use Rattle.usb_packet.specs.Spelling.{HasFields};
 ghost use Rattle.usb_device.specs.LentPackets.{broken};
 ghost use Rattle.usb_device.specs.Tree.{device_there};
@@ -16,13 +16,14 @@ ghost use Rattle.usb_world.specs.Steps.{IsCut};
 ghost use Rattle.usb_world.specs.HeardAnswers.{heard_above};
 ghost use Rattle.usb_world.specs.Silence.{silent_exchange};
 ghost use Rattle.usb_world.specs.LonePackets.{AloneAt, IsQuiet, KeptAt, is_whole_tree, is_deep};
+ghost use Rattle.usb_world.specs.HostSides.{host_side, keeps_address};
 
 use crate::damage::{Damage, Harm};
 use crate::wire::{Mark, Outgoing, flipped, harm_to, mark_of, marked};
 use crate::{Attempt, Outcome};
 use arrayvec::ArrayVec;
 use std::alloc::AllocError;
-use usb_device::{Content, HeardPid, Hearing, LentPacket, Ports};
+use usb_device::{Content, DeviceSide, HeardPid, Hearing, HostSide, LentPacket, Ports};
 use usb_packet::{Packet, encode, one_flipped_bit};
 
 /// What the devices' answers to an attempt are together.
@@ -100,8 +101,90 @@ impl Exchange {
 /// # Errors
 ///
 /// Memory is refused for the host's data: no sink grows at a token or at an ACK.
-#[tactic(auto, using(crate::proofs::Exchanges::over_settled, crate::proofs::Refusals::over_cut))]
 pub(crate) fn exchange_along(
+    roots: &mut Ports,
+    path: &[u8],
+    port: u8,
+    attempt: &Attempt,
+    damage: Option<Damage>,
+    exchange: &mut Exchange,
+) -> Result<bool, AllocError>
+    requires attempt { IsAttempt attempt.now }
+    requires alone { AloneAt (token_out attempt.now damage) roots.old path.now }
+    ensures plugged { StaysPlugged roots.old roots.new }
+    ensures settled { IsSettled roots.new }
+    ensures made { OnOk result (Exchanged attempt.now damage roots.old roots.new exchange.new) }
+    ensures cut { OnErr result (IsCut attempt.now damage roots.old roots.new) }
+    ensures kept { IfOk result (λ kept. kept ≡ true
+        → KeptAt attempt.now.addr port roots.old roots.new path.now) }
+{
+    match damage {
+        None if !is_whole(path) => exchange_whole(roots, path, port, attempt, exchange),
+        _ => exchange_by_packets(roots, path, port, attempt, damage, exchange),
+    }
+}
+
+/// The same of an attempt of which nothing is damaged, at the device at a path: all its packets on
+/// one way down the tree.
+fn exchange_whole(
+    roots: &mut Ports,
+    path: &[u8],
+    port: u8,
+    attempt: &Attempt,
+    exchange: &mut Exchange,
+) -> Result<bool, AllocError>
+    requires attempt { IsAttempt attempt.now }
+    requires way { is_whole_tree path.now ≡ false }
+    requires alone { AloneAt (token_out attempt.now None) roots.old path.now }
+    ensures plugged { StaysPlugged roots.old roots.new }
+    ensures settled { IsSettled roots.new }
+    ensures made { OnOk result (Exchanged attempt.now None roots.old roots.new exchange.new) }
+    ensures cut { OnErr result (IsCut attempt.now None roots.old roots.new) }
+    ensures kept { IfOk result (λ kept. kept ≡ true
+        → KeptAt attempt.now.addr port roots.old roots.new path.now) }
+{
+    put_token(attempt, None, &mut exchange.token);
+    put_payload(attempt, None, &mut exchange.payload);
+    let mut heard = Hearing::nothing();
+    let host = host_side(attempt, &exchange.payload);
+    let side = roots.attempt_at(path, &host, is_deep(path), &mut heard)?;
+    put_answer(heard, &mut exchange.answer);
+    exchange.answer_mark = Mark::Whole;
+    let place = answer_place(&exchange.payload) + 1;
+    put_reply(attempt, None, place, side.acknowledged, &mut exchange.reply);
+    exchange.address_lost = side.address_lost;
+    exchange.change_cleared = side.effect.clears_change();
+    Ok(keeps_address(port, side, attempt.addr))
+}
+
+/// Whether a device that was at an address still is, and asked nothing of its ports that changes who
+/// is reached, but for those on its port of a number.
+fn keeps_address(port: u8, side: DeviceSide, address: u8) -> bool
+    ensures { result ≡ keeps_address port side address }
+{
+    side.effect.keeps_others(port) && side.address == Some(address)
+}
+
+/// What the host has to say in an attempt of which nothing is damaged.
+fn host_side<'a>(attempt: &Attempt, payload: &'a Option<Outgoing>) -> HostSide<'a>
+    requires fields { IfSome payload.now (λ s. HasFields s.packet) }
+    requires bit { IfSome payload.now (λ s. has_its_bit s.mark s.packet ≡ true) }
+    ensures { result ≡ host_side attempt.now payload.now }
+{
+    HostSide {
+        low: attempt.low,
+        pre: attempt.pre,
+        kind: attempt.kind,
+        addr: attempt.addr,
+        ep: attempt.ep,
+        payload: some_goes_out(attempt, payload),
+        max: attempt.max,
+    }
+}
+
+/// The same of any attempt, one packet after the other.
+#[tactic(auto, using(crate::proofs::Exchanges::over_settled, crate::proofs::Refusals::over_cut))]
+fn exchange_by_packets(
     roots: &mut Ports,
     path: &[u8],
     port: u8,

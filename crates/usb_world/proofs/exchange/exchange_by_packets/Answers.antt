@@ -1,7 +1,7 @@
 use Rattle.std.proofs.Common.{sym, ◌∙◌}
 use Rattle.usb_world.proofs.Exchanges.{over_plugged, over_made}
 use Rattle.usb_world.proofs.RoutesKept.{kept_at}
-use Rattle.usb_world.proofs.exchange.exchange_along.Goals as goal
+use Rattle.usb_world.proofs.exchange.exchange_by_packets.Goals as goal
 
 pub returns-in_err-made-clause-plugged : goal.returns-in_err-made-clause-plugged
 returns-in_err-made-clause-plugged c = over_plugged _ _ _ c.end_attempt-left.ensures.over c.in_err-made.ensures.plugged

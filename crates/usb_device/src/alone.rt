@@ -1,0 +1,269 @@
+//! A whole attempt at one device, of which nothing is damaged (8.5).
+ghost use Rattle.std.specs.Prelude.{◌≡◌, Some, OnOk, OnErr, IfOk};
+ghost use Rattle.usb_device.specs.Tree.{changed, changed_in, device_there, plugged_in};
+ghost use Rattle.usb_device.specs.Places.{stood};
+ghost use Rattle.usb_device.specs.Delivery.{is_heard, both, heard_from, taken_sent};
+ghost use Rattle.usb_device.specs.declared.delivery.Heard.TheVariants.{NoAnswer};
+ghost use Rattle.usb_device.specs.AloneAttempts.{no_side, token_sent, ack_sent, is_taken, heard_pid, sent_to, answer_from, asked_from, RefusedFrom, after_token, heard_of_both, after_reply, side_of, forgot, heard_at, side_at, left_in, cut_in, RefusedAt};
+
+use crate::answer::AnswerPid;
+use crate::device::Device;
+use crate::effect::Effect;
+use crate::hearing::{HeardPid, Hearing};
+use crate::lent_packet::LentPacket;
+use crate::ports::{Place, Ports};
+use std::alloc::AllocError;
+use usb_packet::TokenKind;
+
+/// What the host has to say in an attempt, of which nothing is damaged.
+///
+/// `low` says that its token and its ACK are at low speed, `pre` that PRE goes before each of them.
+/// `payload` is its data, for SETUP and OUT. It takes data of at most `max` bytes, and then answers
+/// by its ACK.
+#[derive(Drop)]
+pub struct HostSide<'a> {
+    pub low: bool,
+    pub pre: bool,
+    pub kind: TokenKind,
+    pub addr: u8,
+    pub ep: u8,
+    pub payload: Option<LentPacket<'a>>,
+    pub max: u8,
+}
+
+/// What became of an attempt at a device.
+#[derive(Clone, Copy, Debug)]
+pub struct DeviceSide {
+    /// The host took data, and sent its ACK.
+    pub acknowledged: bool,
+    /// What the device asked of its ports.
+    pub effect: Effect,
+    /// The device awaits the ACK that would end its SET_ADDRESS, though the host sent one (9.4.6).
+    pub address_lost: bool,
+    /// Its address then; None where no device was there.
+    pub address: Option<u8>,
+}
+
+/// What is heard of one answer.
+fn heard_pid(pid: Option<AnswerPid>) -> HeardPid
+    ensures { result ≡ heard_pid pid }
+{
+    match pid {
+        None => HeardPid::Nothing,
+        Some(pid) => HeardPid::One(pid),
+    }
+}
+
+impl Hearing {
+    /// Whether it is data of at most `max` bytes.
+    fn is_taken(&self, max: u8) -> bool
+        ensures { result ≡ is_taken max self.now }
+    {
+        match self.pid {
+            HeardPid::One(AnswerPid::Data(_)) => self.room.len() <= usize::from(max),
+            _ => false,
+        }
+    }
+}
+
+impl HostSide<'_> {
+    /// Whether a device of a speed hears its token and its ACK, where it is `deep` on a port of a hub.
+    fn is_heard(&self, deep: bool, low: bool) -> bool
+        ensures { result ≡ is_heard (token_sent self.now) deep low }
+    {
+        if self.low {
+            low && (!deep || self.pre)
+        } else {
+            !low
+        }
+    }
+}
+
+impl Device {
+    /// The token. Of what was heard before, nothing is left.
+    #[tactic(auto, unfolding(crate::specs::Delivery::answer_of), using(crate::proofs::AloneAttempts::calm))]
+    fn take_token(&mut self, attempt: &HostSide<'_>, deep: bool, heard: &mut Hearing)
+        ensures heard { heard.new
+            ≡ heard_from (taken_sent (token_sent attempt.now) deep self.old).0 }
+        ensures after { self.new ≡ after_token attempt.now deep self.old }
+    {
+        if attempt.is_heard(deep, self.is_low()) {
+            let pid = self.own.take_token(
+                &self.ports,
+                attempt.kind,
+                attempt.addr,
+                attempt.ep,
+                &mut heard.room,
+            );
+            heard.pid = heard_pid(pid);
+        } else {
+            heard.pid = HeardPid::Nothing;
+        }
+    }
+
+    /// The host's data, where it sends some, and what the device asks of its ports.
+    fn take_data(
+        &mut self,
+        payload: &Option<LentPacket<'_>>,
+        deep: bool,
+        heard: &mut Hearing,
+    ) -> Result<Effect, AllocError>
+        ensures heard { OnOk result (heard.new
+            ≡ both heard.old (heard_from (answer_from payload.now deep self.old))) }
+        ensures after { OnOk result (self.new ≡ sent_to payload.now deep self.old) }
+        ensures asked { IfOk result (λ effect. effect ≡ asked_from payload.now deep self.old) }
+        ensures err { OnErr result (self.new ≡ self.old) }
+        ensures refused { OnErr result (RefusedFrom payload.now deep self.old) }
+    {
+        match payload {
+            None => Ok(Effect::Leaves),
+            Some(sent) => {
+                let effect = self.effect(sent, deep);
+                self.take_sent(sent, deep, heard)?;
+                Ok(effect)
+            }
+        }
+    }
+
+    /// The host's ACK.
+    #[tactic(auto, unfolding(crate::specs::Delivery::answer_of, crate::specs::Rows::received), using(crate::proofs::AloneAttempts::calm))]
+    fn take_ack(&mut self, attempt: &HostSide<'_>, deep: bool)
+        ensures { self.new ≡ (taken_sent (ack_sent attempt.now) deep self.old).1 }
+    {
+        if attempt.is_heard(deep, self.is_low()) {
+            self.own.take_ack();
+        }
+    }
+
+    /// The packets of the attempt.
+    #[tactic(auto, unfolding(crate::specs::AloneAttempts::heard_of_both, crate::specs::AloneAttempts::after_reply, crate::specs::AloneAttempts::side_of))]
+    fn exchange(
+        &mut self,
+        attempt: &HostSide<'_>,
+        deep: bool,
+        heard: &mut Hearing,
+    ) -> Result<DeviceSide, AllocError>
+        ensures heard { OnOk result (heard.new ≡ heard_of_both attempt.now deep self.old) }
+        ensures side { IfOk result (λ side. side ≡ side_of attempt.now deep self.old) }
+        ensures after { OnOk result (self.new ≡ after_reply attempt.now deep self.old) }
+        ensures err { OnErr result (self.new ≡ after_token attempt.now deep self.old) }
+        ensures refused { OnErr result
+            (RefusedFrom attempt.now.payload deep (after_token attempt.now deep self.old)) }
+    {
+        self.take_token(attempt, deep, heard);
+        let effect = self.take_data(&attempt.payload, deep, heard)?;
+        let acknowledged = heard.is_taken(attempt.max);
+        if acknowledged {
+            self.take_ack(attempt, deep);
+        }
+        Ok(DeviceSide {
+            acknowledged,
+            effect,
+            address_lost: acknowledged && self.awaits_address(),
+            address: Some(self.address()),
+        })
+    }
+
+    /// The same, and its end.
+    fn attempt(
+        &mut self,
+        attempt: &HostSide<'_>,
+        deep: bool,
+        heard: &mut Hearing,
+    ) -> Result<DeviceSide, AllocError>
+        ensures heard { OnOk result (heard.new ≡ heard_of_both attempt.now deep self.old) }
+        ensures side { IfOk result (λ side. side ≡ side_of attempt.now deep self.old) }
+        ensures after { OnOk result (self.new ≡ forgot (after_reply attempt.now deep self.old)) }
+        ensures err { OnErr result (self.new ≡ forgot (after_token attempt.now deep self.old)) }
+        ensures refused { OnErr result
+            (RefusedFrom attempt.now.payload deep (after_token attempt.now deep self.old)) }
+    {
+        let side = self.exchange(attempt, deep, heard);
+        self.own.attempt_over();
+        side
+    }
+}
+
+/// What becomes of an attempt where no device is.
+fn nobody(heard: &mut Hearing) -> DeviceSide
+    ensures heard { heard.new ≡ NoAnswer }
+    ensures side { result ≡ no_side }
+{
+    heard.pid = HeardPid::Nothing;
+    DeviceSide {
+        acknowledged: false,
+        effect: Effect::Leaves,
+        address_lost: false,
+        address: None,
+    }
+}
+
+impl Ports {
+    /// A whole attempt at the device at a path alone, which is `deep` where it stands on a port of a
+    /// hub; what is heard of its answers. After it the device remembers no packet.
+    ///
+    /// # Errors
+    ///
+    /// Memory was refused for the host's data. The device had the token, and remembers nothing of
+    /// it.
+    #[cycle(attempt_at)]
+    #[tactic(auto, using(crate::proofs::NumberedPlaces::routing))]
+    pub fn attempt_at(
+        &mut self,
+        path: &[u8],
+        attempt: &HostSide<'_>,
+        deep: bool,
+        heard: &mut Hearing,
+    ) -> Result<DeviceSide, AllocError>
+        ensures heard { OnOk result (heard.new
+            ≡ heard_at attempt.now deep (device_there self.old path.now)) }
+        ensures side { IfOk result (λ side. side
+            ≡ side_at attempt.now deep (device_there self.old path.now)) }
+        ensures ok { OnOk result
+            (self.new ≡ changed (left_in attempt.now deep) self.old path.now) }
+        ensures err { OnErr result
+            (self.new ≡ changed (cut_in attempt.now deep) self.old path.now) }
+        ensures refused { OnErr result
+            (RefusedAt attempt.now deep (device_there self.old path.now)) }
+    {
+        let Some((number, rest)) = path.split_first() else {
+            return Ok(nobody(heard));
+        };
+        let i = usize::from(*number);
+        if i == 0 || i > self.places.len() {
+            return Ok(nobody(heard));
+        }
+        self.places[i - 1].attempt_at(rest, attempt, deep, heard)
+    }
+}
+
+impl Place {
+    #[cycle(attempt_at)]
+    #[tactic(auto, using(crate::proofs::FirstPlaces::paths))]
+    fn attempt_at(
+        &mut self,
+        path: &[u8],
+        attempt: &HostSide<'_>,
+        deep: bool,
+        heard: &mut Hearing,
+    ) -> Result<DeviceSide, AllocError>
+        ensures heard { OnOk result (heard.new
+            ≡ heard_at attempt.now deep (plugged_in (stood self.old) path.now)) }
+        ensures side { IfOk result (λ side. side
+            ≡ side_at attempt.now deep (plugged_in (stood self.old) path.now)) }
+        ensures ok { OnOk result (stood self.new
+            ≡ changed_in (left_in attempt.now deep) (stood self.old) path.now) }
+        ensures err { OnErr result (stood self.new
+            ≡ changed_in (cut_in attempt.now deep) (stood self.old) path.now) }
+        ensures refused { OnErr result
+            (RefusedAt attempt.now deep (plugged_in (stood self.old) path.now)) }
+    {
+        match &mut self.device {
+            None => Ok(nobody(heard)),
+            Some(device) => match path {
+                [] => device.attempt(attempt, deep, heard),
+                [_, ..] => device.ports.attempt_at(path, attempt, deep, heard),
+            },
+        }
+    }
+}
