@@ -15,7 +15,7 @@ use Rattle.usb_device.specs.Delivery.{taken_sent, all_forgotten, heard_of, heard
 use Rattle.usb_device.specs.Holders.{keeps_others}
 use Rattle.usb_device.specs.Route.{answer_by, effect_by, RefusedBy, forgotten_in, address_by}
 use Rattle.usb_device.specs.AloneAttempts.{token_sent, ack_sent, sent_to, answer_from, asked_from, RefusedFrom, is_taken, after_token, after_data, heard_of_both, acknowledges, after_reply, side_of, heard_at, side_at, RefusedAt, left_in, cut_in}
-use Rattle.usb_device.proofs.Interface.{heard_of-append, figure-after, row_of-after}
+use Rattle.usb_device.proofs.Interface.{changed_at-twice, heard_of-append, figure-after, row_of-after}
 use Rattle.usb_world.specs.declared.types.Attempt.{Attempt}
 use Rattle.usb_world.specs.declared.exchange.Exchange.{Exchange}
 use Rattle.usb_world.specs.declared.exchange.ExchangeAnswer.{ExchangeAnswer}
