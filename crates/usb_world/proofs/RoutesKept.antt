@@ -7,7 +7,7 @@ use Rattle.usb_port.specs.PortState.{PortState}
 use Rattle.usb_device.specs.declared.delivery.Sent.{Sent}
 use Rattle.usb_device.specs.declared.effect.Effect.TheVariants.{Leaves}
 use Rattle.usb_device.specs.Rows.{State, forgotten}
-use Rattle.usb_device.specs.Tree.{Ports, ended, vacant, taken, Place, empty, full, before, acted, put, changed, changed_at, changed_in, device_there, reach_at, place_at, Spot, state_at}
+use Rattle.usb_device.specs.Tree.{Ports, ended, vacant, taken, Place, empty, full, before, acted, put, changed, changed_at, changed_in, device_there, plugged_at, reach_at, place_at, Spot, state_at}
 use Rattle.usb_device.specs.Delivery.{answer_of, all_forgotten}
 use Rattle.usb_device.specs.Holders.{path_below, reached, all_reached, ReachedSame, keeps_others}
 use Rattle.usb_device.specs.HolderIndex.{IsIndexOf, IsIndexWithout}
@@ -231,4 +231,4 @@ pub index_beside : (a : Attempt) (d : Option Damage) (h : Holders) (k m : Ports)
     → IsIndexWithout h m p
 index_beside a d h k m [] f s w e is = no (sym f)
 index_beside a d h k m (zero ∷ p) f s w e is = absurd w
-index_beside a d h k m (suc j ∷ p) f s w e is = index_around h _ k m (suc j ∷ p) (e ∙ all_is a d k j p s w) is
+index_beside a d h k m (suc j ∷ p) f s w e is = index_around h _ k m (suc j ∷ p) (e ∙ all_is a d k j p (alone_token a d k (suc j ∷ p) s w)) is
