@@ -48,7 +48,8 @@ changed_at-same (taken b s a k) zero (zero ∷ p) = refl
 changed_at-same (taken b s a k) zero (suc j ∷ p) = ap (λ x. taken b s x k) (changed_at-same a j p)
 changed_at-same (taken b s a k) (suc j) p = ap (taken b s a) (changed_at-same k j p)
 
-pub changed_at-twice : (f g : Place → Place) (k : Ports) (j : ℕ) (p : List ℕ) → changed_at f (changed_at g k j p) j p ≡ changed_at (λ x. f (g x)) k j p
+pub changed_at-twice : (f g : Place → Place) (k : Ports) (j : ℕ) (p : List ℕ)
+    → changed_at f (changed_at g k j p) j p ≡ changed_at (λ x. f (g x)) k j p
 unfolding changed_at
 changed_at-twice f g ended j p = refl
 changed_at-twice f g (vacant b k) zero [] = changed_at-head f (g (empty b)) k []
@@ -56,11 +57,13 @@ changed_at-twice f g (vacant b k) zero (n ∷ p) = refl
 changed_at-twice f g (vacant b k) (suc j) p = ap (vacant b) (changed_at-twice f g k j p)
 changed_at-twice f g (taken b s a k) zero [] = changed_at-head f (g (full b s a)) k []
 changed_at-twice f g (taken b s a k) zero (zero ∷ p) = refl
-changed_at-twice f g (taken b s a k) zero (suc j ∷ p) = ap (λ x. taken b s x k) (changed_at-twice f g a j p)
+changed_at-twice f g (taken b s a k) zero (suc j ∷ p) =
+    ap (λ x. taken b s x k) (changed_at-twice f g a j p)
 changed_at-twice f g (taken b s a k) (suc j) p = ap (taken b s a) (changed_at-twice f g k j p)
 
 -- the place of a port of the device at a path
-pub changed_at-port : (f : Place → Place) (k : Ports) (j : ℕ) (p : List ℕ) (n : ℕ) → changed_at f k j (p ++ n ∷ []) ≡ changed_at (λ q. changed_in f q (n ∷ [])) k j p
+pub changed_at-port : (f : Place → Place) (k : Ports) (j : ℕ) (p : List ℕ) (n : ℕ)
+    → changed_at f k j (p ++ n ∷ []) ≡ changed_at (λ q. changed_in f q (n ∷ [])) k j p
 unfolding changed_at
 changed_at-port f ended j p n = refl
 changed_at-port f (vacant b k) zero [] n = refl
@@ -69,11 +72,13 @@ changed_at-port f (vacant b k) (suc j) p n = ap (vacant b) (changed_at-port f k 
 changed_at-port f (taken b s a k) zero [] zero = refl
 changed_at-port f (taken b s a k) zero [] (suc n) = refl
 changed_at-port f (taken b s a k) zero (zero ∷ p) n = refl
-changed_at-port f (taken b s a k) zero (suc j ∷ p) n = ap (λ x. taken b s x k) (changed_at-port f a j p n)
+changed_at-port f (taken b s a k) zero (suc j ∷ p) n =
+    ap (λ x. taken b s x k) (changed_at-port f a j p n)
 changed_at-port f (taken b s a k) (suc j) p n = ap (taken b s a) (changed_at-port f k j p n)
 
 -- no port has the number 0
-pub changed_at-zero : (f : Place → Place) (k : Ports) (j : ℕ) (p : List ℕ) → changed_at f k j (p ++ 0 ∷ []) ≡ k
+pub changed_at-zero : (f : Place → Place) (k : Ports) (j : ℕ) (p : List ℕ)
+    → changed_at f k j (p ++ 0 ∷ []) ≡ k
 unfolding changed_at
 changed_at-zero f ended j p = refl
 changed_at-zero f (vacant b k) zero [] = refl
@@ -81,7 +86,8 @@ changed_at-zero f (vacant b k) zero (m ∷ p) = refl
 changed_at-zero f (vacant b k) (suc j) p = ap (vacant b) (changed_at-zero f k j p)
 changed_at-zero f (taken b s a k) zero [] = refl
 changed_at-zero f (taken b s a k) zero (zero ∷ p) = refl
-changed_at-zero f (taken b s a k) zero (suc j ∷ p) = ap (λ x. taken b s x k) (changed_at-zero f a j p)
+changed_at-zero f (taken b s a k) zero (suc j ∷ p) =
+    ap (λ x. taken b s x k) (changed_at-zero f a j p)
 changed_at-zero f (taken b s a k) (suc j) p = ap (taken b s a) (changed_at-zero f k j p)
 
 pub plugged_at-head : (q : Place) (k : Ports) (p : List ℕ) → plugged_at (before q k) 0 p ≡ plugged_in q p

@@ -81,14 +81,18 @@ pub length-released : (ns : List ℕ) (h : List Holder) → length (released ns 
 length-released [] h = refl
 length-released (n ∷ ns) h = length-released ns (slice_set h n Nobody) ∙ length-put h n Nobody
 
-released-append : (ms ns : List ℕ) (h : List Holder) → released (ms ++ ns) h ≡ released ns (released ms h)
+released-append : (ms ns : List ℕ) (h : List Holder)
+    → released (ms ++ ns) h ≡ released ns (released ms h)
 released-append [] ns h = refl
 released-append (m ∷ ms) ns h = released-append ms ns (slice_set h m Nobody)
 
-pub released-before : (b : PortState) (d : Option Plugged) (k : Ports) (h : List Holder) → released (held (before (standing b d) k)) h ≡ released (held k) (released (held_in b d) h)
-released-before b d k h = ap (λ ns. released ns h) (held-before b d k) ∙ released-append (held_in b d) (held k) h
+pub released-before : (b : PortState) (d : Option Plugged) (k : Ports) (h : List Holder)
+    → released (held (before (standing b d) k)) h ≡ released (held k) (released (held_in b d) h)
+released-before b d k h =
+    ap (λ ns. released ns h) (held-before b d k) ∙ released-append (held_in b d) (held k) h
 
-pub released-none : (ps : List Kept) (h : List Holder) → length ps ≡ 0 → released (held (ports_kept ps)) h ≡ h
+pub released-none : (ps : List Kept) (h : List Holder) → length ps ≡ 0
+    → released (held (ports_kept ps)) h ≡ h
 unfolding held
 released-none [] h e = refl
 released-none (p ∷ ps) h e = absurd (omega (arith, e))
@@ -101,7 +105,8 @@ abbrev pub all_joined : Holder → List Way → Holder
 all_joined x [] = x
 all_joined x (w ∷ ws) = all_joined (joined x w) ws
 
-pub put_there : (h : List Holder) (i n : ℕ) (x : Holder) → n < length h → slice_index_or (slice_set h i x) n Nobody ≡ (if i == n then x else slice_index_or h n Nobody)
+pub put_there : (h : List Holder) (i n : ℕ) (x : Holder) → n < length h
+    → slice_index_or (slice_set h i x) n Nobody ≡ (if i == n then x else slice_index_or h n Nobody)
 put_there [] i n x e = absurd (omega (arith, e))
 put_there (y ∷ h) zero zero x e = refl
 put_there (y ∷ h) zero (suc n) x e = let f : (0 == suc n) ≡ false = grind (arith, nat_tests) in rw f refl
@@ -111,11 +116,14 @@ put_there (y ∷ h) (suc i) (suc n) x e = let f : (suc i == suc n) ≡ (i == n) 
 is_same : (m n : ℕ) → (m == n) ≡ true → m ≡ n
 is_same m n e = grind (arith, nat_tests, e)
 
-pub noted_at : (xs : Reached) (h : List Holder) (n : ℕ) → n < length h → slice_index_or (noted xs h) n Nobody ≡ all_joined (slice_index_or h n Nobody) (paths_at n xs)
+pub noted_at : (xs : Reached) (h : List Holder) (n : ℕ) → n < length h
+    → slice_index_or (noted xs h) n Nobody ≡ all_joined (slice_index_or h n Nobody) (paths_at n xs)
 noted_at [] h n small = refl
 noted_at (x ∷ xs) h n small =
-    noted_at xs (with_one x h) n (subst (λ m. n < m) (sym (length-put h x.0 (joined (slice_index_or h x.0 Nobody) x.1))) small)
-    ∙ ap (λ y. all_joined y (paths_at n xs)) (put_there h x.0 n (joined (slice_index_or h x.0 Nobody) x.1) small)
+    noted_at xs (with_one x h) n
+    (subst (λ m. n < m) (sym (length-put h x.0 (joined (slice_index_or h x.0 Nobody) x.1))) small)
+    ∙ ap (λ y. all_joined y (paths_at n xs))
+    (put_there h x.0 n (joined (slice_index_or h x.0 Nobody) x.1) small)
     ∙ split (x.0 == n) refl
   where
     split : (b : Bool) → (x.0 == n) ≡ b
@@ -164,7 +172,8 @@ held-reached w n (taken b s a k) = split b.enable (held-reached (path_below w n)
 abbrev pub marks_of : List Holder → List Bool
 marks_of h = map is_known h
 
-pub known_at : (h : List Holder) (n : ℕ) → slice_index_or (marks_of h) n false ≡ is_known (slice_index_or h n Nobody)
+pub known_at : (h : List Holder) (n : ℕ)
+    → slice_index_or (marks_of h) n false ≡ is_known (slice_index_or h n Nobody)
 known_at [] n = refl
 known_at (x ∷ h) zero = refl
 known_at (x ∷ h) (suc n) = known_at h n
@@ -180,7 +189,8 @@ joined_known Nobody (Some p) = refl
 joined_known (One p) w = refl
 joined_known Several w = refl
 
-pub met_marks : (xs : Reached) (h : List Holder) → meets_again xs h ≡ meets (addresses xs) (marks_of h)
+pub met_marks : (xs : Reached) (h : List Holder)
+    → meets_again xs h ≡ meets (addresses xs) (marks_of h)
 met_marks [] h = refl
 met_marks (x ∷ xs) h =
     ap (λ b. b || meets_again xs (with_one x h)) (sym (known_at h x.0))

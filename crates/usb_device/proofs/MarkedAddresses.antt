@@ -25,7 +25,8 @@ by_enable : (x : ℕ) (a k : List ℕ) (e : Bool) → (if e then x ∷ (a ++ k) 
 by_enable x a k true = refl
 by_enable x a k false = refl
 
-pub held-before : (b : PortState) (d : Option Plugged) (k : Ports) → held (before (standing b d) k) ≡ held_in b d ++ held k
+pub held-before : (b : PortState) (d : Option Plugged) (k : Ports)
+    → held (before (standing b d) k) ≡ held_in b d ++ held k
 unfolding held
 held-before b None k = refl
 held-before b (Some t) k = by_enable t.own.registers.address (held t.ports) (held k) b.enable
@@ -115,13 +116,15 @@ index-set (b ∷ m) (suc i) (suc n) h = let e : (suc n == suc i) ≡ (n == i) = 
 abbrev pub Marks : List Bool → List ℕ → Type 0
 Marks m ys = (n : ℕ) → n < 256 → slice_index_or m n false ≡ has n ys
 
-pub meets-is : (xs ys : List ℕ) (m : List Bool) → length m ≡ 256 → AreBytes xs → Marks m ys → meets xs m ≡ (share xs ys || is_twice xs)
+pub meets-is : (xs ys : List ℕ) (m : List Bool) → length m ≡ 256 → AreBytes xs → Marks m ys
+    → meets xs m ≡ (share xs ys || is_twice xs)
 unfolding is_twice
 meets-is [] ys m len small marks = refl
 meets-is (x ∷ xs) ys m len small marks =
     let within : x < length m = omega (arith, small.0, len) in
     ap (λ b. slice_index_or m x false || b)
-    (meets-is xs (x ∷ ys) (slice_set m x true) (length-set m x true ∙ len) small.1 (λ n below. index-set m x n within ∙ ap (λ b. (n == x) || b) (marks n below)))
+    (meets-is xs (x ∷ ys) (slice_set m x true) (length-set m x true ∙ len) small.1
+    (λ n below. index-set m x n within ∙ ap (λ b. (n == x) || b) (marks n below)))
     ∙ ap (λ b. b || (share xs (x ∷ ys) || is_twice xs)) (marks x small.0)
     ∙ ap (λ b. has x ys || (b || is_twice xs)) (share-more xs ys x)
     ∙ rest_of_it (has x ys) (share xs ys) (has x xs) (is_twice xs)
@@ -132,37 +135,50 @@ share-none (x ∷ xs) = share-none xs
 
 -- where no mark is set
 pub met_none_of : (xs : List ℕ) (m : List Bool) → length m ≡ 256 → AreBytes xs → ((n : ℕ) → slice_index_or m n false ≡ false) → meets xs m ≡ is_twice xs
-met_none_of xs m len small none = meets-is xs [] m len small (λ n below. none n) ∙ ap (λ b. b || is_twice xs) (share-none xs)
+met_none_of xs m len small none =
+    meets-is xs [] m len small (λ n below. none n) ∙ ap (λ b. b || is_twice xs) (share-none xs)
 
 -- ---- a list with another one in its middle
 
 has-append : (n : ℕ) (xs ys : List ℕ) → has n (xs ++ ys) ≡ (has n xs || has n ys)
 has-append n [] ys = refl
-has-append n (x ∷ xs) ys = ap (λ b. (n == x) || b) (has-append n xs ys) ∙ sym (or_assoc (n == x) (has n xs) (has n ys))
+has-append n (x ∷ xs) ys =
+    ap (λ b. (n == x) || b) (has-append n xs ys) ∙ sym (or_assoc (n == x) (has n xs) (has n ys))
 
-pub has-middle : (n : ℕ) (xs ys zs : List ℕ) → has n (xs ++ (ys ++ zs)) ≡ (has n ys || has n (xs ++ zs))
+pub has-middle : (n : ℕ) (xs ys zs : List ℕ)
+    → has n (xs ++ (ys ++ zs)) ≡ (has n ys || has n (xs ++ zs))
 has-middle n [] ys zs = has-append n ys zs
-has-middle n (x ∷ xs) ys zs = ap (λ b. (n == x) || b) (has-middle n xs ys zs) ∙ second_first (n == x) (has n ys) (has n (xs ++ zs))
+has-middle n (x ∷ xs) ys zs =
+    ap (λ b. (n == x) || b) (has-middle n xs ys zs)
+    ∙ second_first (n == x) (has n ys) (has n (xs ++ zs))
 
-twice-append : (xs ys : List ℕ) → is_twice (xs ++ ys) ≡ (share xs ys || (is_twice xs || is_twice ys))
+twice-append : (xs ys : List ℕ)
+    → is_twice (xs ++ ys) ≡ (share xs ys || (is_twice xs || is_twice ys))
 unfolding is_twice
 twice-append [] ys = refl
 twice-append (x ∷ xs) ys =
-    ap₂ (λ b c. b || c) (has-append x xs ys) (twice-append xs ys) ∙ first_and_rest (has x xs) (has x ys) (share xs ys) (is_twice xs) (is_twice ys)
+    ap₂ (λ b c. b || c) (has-append x xs ys) (twice-append xs ys)
+    ∙ first_and_rest (has x xs) (has x ys) (share xs ys) (is_twice xs) (is_twice ys)
 
-pub twice-middle : (xs ys zs : List ℕ) → is_twice (xs ++ (ys ++ zs)) ≡ (share ys (xs ++ zs) || (is_twice ys || is_twice (xs ++ zs)))
+pub twice-middle : (xs ys zs : List ℕ)
+    → is_twice (xs ++ (ys ++ zs)) ≡ (share ys (xs ++ zs) || (is_twice ys || is_twice (xs ++ zs)))
 unfolding is_twice
 twice-middle [] ys zs = twice-append ys zs
 twice-middle (x ∷ xs) ys zs =
     ap₂ (λ b c. b || c) (has-middle x xs ys zs) (twice-middle xs ys zs)
-    ∙ first_behind (has x ys) (has x (xs ++ zs)) (share ys (xs ++ zs)) (is_twice ys) (is_twice (xs ++ zs))
-    ∙ ap (λ b. b || (is_twice ys || (has x (xs ++ zs) || is_twice (xs ++ zs)))) (sym (share-more ys (xs ++ zs) x))
+    ∙ first_behind (has x ys) (has x (xs ++ zs)) (share ys (xs ++ zs)) (is_twice ys)
+    (is_twice (xs ++ zs))
+    ∙ ap (λ b. b || (is_twice ys || (has x (xs ++ zs) || is_twice (xs ++ zs))))
+    (sym (share-more ys (xs ++ zs) x))
 
 -- a number of a list that shares none with another one is not in that one
 pub unshared : (n : ℕ) (xs ys : List ℕ) → share xs ys ≡ false → has n xs ≡ true → has n ys ≡ false
 unshared n [] ys e h = cc
-unshared n (x ∷ xs) ys e h = split (n == x) refl (unshared n xs ys (neither (has x ys) (share xs ys) e).1) h
+unshared n (x ∷ xs) ys e h =
+    split (n == x) refl (unshared n xs ys (neither (has x ys) (share xs ys) e).1) h
   where
-    split : (b : Bool) → (n == x) ≡ b → (has n xs ≡ true → has n ys ≡ false) → (b || has n xs) ≡ true → has n ys ≡ false
-    split true is behind h = ap (λ m. has m ys) (same_numbers n x is) ∙ (neither (has x ys) (share xs ys) e).0
+    split : (b : Bool) → (n == x) ≡ b → (has n xs ≡ true → has n ys ≡ false)
+        → (b || has n xs) ≡ true → has n ys ≡ false
+    split true is behind h =
+        ap (λ m. has m ys) (same_numbers n x is) ∙ (neither (has x ys) (share xs ys) e).0
     split false is behind h = behind h

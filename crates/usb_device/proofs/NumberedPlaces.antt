@@ -74,15 +74,19 @@ reach_at-head (full b s a) k (zero ∷ p) = no_way b.enable
     no_way false = refl
 reach_at-head (full b s a) k (suc j ∷ p) = refl
 
-pub reach_at-tail : (q : Place) (k : Ports) (i : ℕ) (p : List ℕ) → reach_at (before q k) (suc i) p ≡ reach_at k i p
+pub reach_at-tail : (q : Place) (k : Ports) (i : ℕ) (p : List ℕ)
+    → reach_at (before q k) (suc i) p ≡ reach_at k i p
 unfolding reach_at
 reach_at-tail (empty b) k i p = refl
 reach_at-tail (full b s a) k i p = refl
 
-reach_at-index : (ps : List Kept) (i : ℕ) (p : List ℕ) (x : Kept) → i < length ps → x ≡ slice_index_or ps i x → reach_at (ports_kept ps) i p ≡ reach_in (stood x) p
+reach_at-index : (ps : List Kept) (i : ℕ) (p : List ℕ) (x : Kept) → i < length ps
+    → x ≡ slice_index_or ps i x → reach_at (ports_kept ps) i p ≡ reach_in (stood x) p
 reach_at-index [] i p x h e = absurd (omega (arith, h))
-reach_at-index (q ∷ ps) zero p x h e = reach_at-head (stood q) (ports_kept ps) p ∙ sym (ap (λ (z : Kept). reach_in (stood z) p) e)
-reach_at-index (q ∷ ps) (suc i) p x h e = reach_at-tail (stood q) (ports_kept ps) i p ∙ reach_at-index ps i p x (omega (arith, h)) e
+reach_at-index (q ∷ ps) zero p x h e =
+    reach_at-head (stood q) (ports_kept ps) p ∙ sym (ap (λ (z : Kept). reach_in (stood z) p) e)
+reach_at-index (q ∷ ps) (suc i) p x h e =
+    reach_at-tail (stood q) (ports_kept ps) i p ∙ reach_at-index ps i p x (omega (arith, h)) e
 
 abbrev no_device : Option Plugged
 no_device = None
@@ -91,14 +95,20 @@ none_if : (b : Bool) → (if b then no_device else no_device) ≡ no_device
 none_if true = refl
 none_if false = refl
 
-pub reached-number : (ps : List Kept) (n : ℕ) (p : List ℕ) (x : Kept) → (n ≡ 0 → ⊥) → n ≤ length ps → x ≡ slice_index_or ps (n - 1) x → reached_there (ports_kept ps) (n ∷ p) ≡ reached_below (stood x) p
+pub reached-number : (ps : List Kept) (n : ℕ) (p : List ℕ) (x : Kept) → (n ≡ 0 → ⊥) → n ≤ length ps
+    → x ≡ slice_index_or ps (n - 1) x
+    → reached_there (ports_kept ps) (n ∷ p) ≡ reached_below (stood x) p
 reached-number ps n p x pos h e =
     ap₂ (λ (r : Bool) (t : Option Plugged). if r then t else None)
-    (ap (λ m. reach (ports_kept ps) (m ∷ p)) (one_less n pos) ∙ reach_at-index ps (n - 1) p x (omega (arith, pos, h)) e)
+    (ap (λ m. reach (ports_kept ps) (m ∷ p)) (one_less n pos)
+    ∙ reach_at-index ps (n - 1) p x (omega (arith, pos, h)) e)
     (device-number ps n p x pos h e)
 
-pub reached-beyond : (ps : List Kept) (n : ℕ) (p : List ℕ) → (n ≡ 0 → ⊥) → length ps < n → reached_there (ports_kept ps) (n ∷ p) ≡ None
-reached-beyond ps n p pos h = ap (λ t. if reach (ports_kept ps) (n ∷ p) then t else None) (device-beyond ps n p pos h) ∙ none_if (reach (ports_kept ps) (n ∷ p))
+pub reached-beyond : (ps : List Kept) (n : ℕ) (p : List ℕ) → (n ≡ 0 → ⊥) → length ps < n
+    → reached_there (ports_kept ps) (n ∷ p) ≡ None
+reached-beyond ps n p pos h =
+    ap (λ t. if reach (ports_kept ps) (n ∷ p) then t else None) (device-beyond ps n p pos h)
+    ∙ none_if (reach (ports_kept ps) (n ∷ p))
 
 pub ruleset routing = (both-none, changed-number, changed-beyond, device-number, device-beyond)
 

@@ -32,32 +32,46 @@ parted_as : (xs there other ys : Reached) → there ≡ other → Parted xs ther
 parted_as xs there other ys e h = subst (λ t. Parted xs t ys) e h
 
 parted_none : (xs there : Reached) → there ≡ [] → Parted xs there xs
-parted_none xs there e = parted_as xs [] there xs (sym e) (record { front = []; behind = xs; whole_is = refl; without_is = refl })
+parted_none xs there e =
+    parted_as xs [] there xs (sym e)
+    (record { front = []; behind = xs; whole_is = refl; without_is = refl })
 
 none_from : (r : Bool) (w : Way) → from r w None ≡ []
 none_from true w = refl
 none_from false w = refl
 
-parted_here : (e : Bool) (w : Way) (t : Plugged) (xs : Reached) → Parted (if e then (t.own.registers.address, w) ∷ (reached w 1 t.ports ++ xs) else xs) (from e w (Some t)) xs
+parted_here : (e : Bool) (w : Way) (t : Plugged) (xs : Reached)
+    → Parted (if e then (t.own.registers.address, w) ∷ (reached w 1 t.ports ++ xs) else xs)
+    (from e w (Some t)) xs
 parted_here true w t xs = record { front = []; behind = xs; whole_is = refl; without_is = refl }
 parted_here false w t xs = record { front = []; behind = xs; whole_is = refl; without_is = refl }
 
-parted_below : (e r : Bool) (x : ℕ × Way) (v : Way) (o : Option Plugged) (below left xs : Reached) → Parted below (from r v o) left
-    → Parted (if e then x ∷ (below ++ xs) else xs) (from (e && r) v o) (if e then x ∷ (left ++ xs) else xs)
+parted_below : (e r : Bool) (x : ℕ × Way) (v : Way) (o : Option Plugged) (below left xs : Reached)
+    → Parted below (from r v o) left
+    → Parted (if e then x ∷ (below ++ xs) else xs) (from (e && r) v o)
+    (if e then x ∷ (left ++ xs) else xs)
 parted_below true r x v o below left xs h = record {
   front = x ∷ h.front;
   behind = h.behind ++ xs;
-  whole_is = ap (λ l. x ∷ l) (ap (λ l. l ++ xs) h.whole_is ∙ append_assoc h.front (from r v o ++ h.behind) xs ∙ ap (λ l. h.front ++ l) (append_assoc (from r v o) h.behind xs));
+  whole_is =
+      ap (λ l. x ∷ l)
+      (ap (λ l. l ++ xs) h.whole_is ∙ append_assoc h.front (from r v o ++ h.behind) xs
+      ∙ ap (λ l. h.front ++ l) (append_assoc (from r v o) h.behind xs));
   without_is = ap (λ l. x ∷ l) (ap (λ l. l ++ xs) h.without_is ∙ append_assoc h.front h.behind xs);
 }
 parted_below false r x v o below left xs h = parted_none xs [] refl
 
-parted_later : (e : Bool) (x : ℕ × Way) (below xs there ys : Reached) → Parted xs there ys → Parted (if e then x ∷ (below ++ xs) else xs) there (if e then x ∷ (below ++ ys) else ys)
+parted_later : (e : Bool) (x : ℕ × Way) (below xs there ys : Reached) → Parted xs there ys
+    → Parted (if e then x ∷ (below ++ xs) else xs) there (if e then x ∷ (below ++ ys) else ys)
 parted_later true x below xs there ys h = record {
   front = x ∷ (below ++ h.front);
   behind = h.behind;
-  whole_is = ap (λ l. x ∷ l) (ap (λ l. below ++ l) h.whole_is ∙ sym (append_assoc below h.front (there ++ h.behind)));
-  without_is = ap (λ l. x ∷ l) (ap (λ l. below ++ l) h.without_is ∙ sym (append_assoc below h.front h.behind));
+  whole_is =
+      ap (λ l. x ∷ l)
+      (ap (λ l. below ++ l) h.whole_is ∙ sym (append_assoc below h.front (there ++ h.behind)));
+  without_is =
+      ap (λ l. x ∷ l)
+      (ap (λ l. below ++ l) h.without_is ∙ sym (append_assoc below h.front h.behind));
 }
 parted_later false x below xs there ys h = h
 
@@ -66,26 +80,37 @@ first n m e = omega (arith, e)
 
 -- the number at the head of the path is m
 parted_at : (w : Way) (n : ℕ) (k : Ports) (i : ℕ) (p : List ℕ) (m : ℕ) → m ≡ n + i
-    → Parted (reached w n k) (from (reach_at k i p) (path_further (path_below w m) p) (plugged_at k i p)) (reached w n (changed_at (put None) k i p))
+    → Parted (reached w n k)
+    (from (reach_at k i p) (path_further (path_below w m) p) (plugged_at k i p))
+    (reached w n (changed_at (put None) k i p))
 unfolding reached reach_at plugged_at changed_at
 parted_at w n ended i p m e = parted_none [] [] refl
 parted_at w n (vacant b k) zero [] m e = parted_none (reached w (n + 1) k) [] refl
 parted_at w n (vacant b k) zero (j ∷ p) m e = parted_none (reached w (n + 1) k) [] refl
 parted_at w n (vacant b k) (suc i) p m e = parted_at w (n + 1) k i p m (omega (arith, e))
 parted_at w n (taken b s a k) zero [] m e =
-    parted_as _ _ _ _ (ap (λ x. from b.enable (path_below w x) (Some (record { own = s; ports = a }))) (sym (first n m e)))
+    parted_as _ _ _ _
+    (ap (λ x. from b.enable (path_below w x) (Some (record { own = s; ports = a })))
+    (sym (first n m e)))
     (parted_here b.enable (path_below w n) (record { own = s; ports = a }) (reached w (n + 1) k))
 parted_at w n (taken b s a k) zero (zero ∷ p) m e = parted_none (reached w n (taken b s a k)) _ refl
 parted_at w n (taken b s a k) zero (suc j ∷ p) m e =
-    parted_as _ _ _ _ (ap (λ x. from (b.enable && reach_at a j p) (path_further (path_below (path_below w x) (suc j)) p) (plugged_at a j p)) (sym (first n m e)))
-    (parted_below b.enable (reach_at a j p) (s.registers.address, path_below w n) (path_further (path_below (path_below w n) (suc j)) p) (plugged_at a j p)
-    (reached (path_below w n) 1 a) (reached (path_below w n) 1 (changed_at (put None) a j p)) (reached w (n + 1) k)
+    parted_as _ _ _ _
+    (ap (λ x. from (b.enable && reach_at a j p)
+    (path_further (path_below (path_below w x) (suc j)) p) (plugged_at a j p)) (sym
+    (first n m e)))
+    (parted_below b.enable (reach_at a j p) (s.registers.address, path_below w n)
+    (path_further (path_below (path_below w n) (suc j)) p) (plugged_at a j p)
+    (reached (path_below w n) 1 a) (reached (path_below w n) 1 (changed_at (put None) a j p))
+    (reached w (n + 1) k)
     (parted_at (path_below w n) 1 a j p (suc j) (omega arith)))
 parted_at w n (taken b s a k) (suc i) p m e =
-    parted_later b.enable (s.registers.address, path_below w n) (reached (path_below w n) 1 a) (reached w (n + 1) k) _ (reached w (n + 1) (changed_at (put None) k i p))
+    parted_later b.enable (s.registers.address, path_below w n) (reached (path_below w n) 1 a)
+    (reached w (n + 1) k) _ (reached w (n + 1) (changed_at (put None) k i p))
     (parted_at w (n + 1) k i p m (omega (arith, e)))
 
-parted : (k : Ports) (p : List ℕ) → Parted (all_reached k) (reached_at_path k p) (all_reached (changed (put None) k p))
+parted : (k : Ports) (p : List ℕ)
+    → Parted (all_reached k) (reached_at_path k p) (all_reached (changed (put None) k p))
 parted k [] = parted_none (all_reached k) [] refl
 parted k (zero ∷ p) = parted_none (all_reached k) [] refl
 parted k (suc i ∷ p) = parted_at (Some (record { items = [] })) 1 k i p (suc i) (omega arith)
@@ -98,20 +123,27 @@ joined_twice Nobody (Some p) w = refl
 joined_twice (One p) v w = refl
 joined_twice Several v w = refl
 
-joined-one : (x : Holder) (w : Way) (ws : List Way) → all_joined (joined x w) ws ≡ joined (all_joined x ws) w
+joined-one : (x : Holder) (w : Way) (ws : List Way)
+    → all_joined (joined x w) ws ≡ joined (all_joined x ws) w
 joined-one x w [] = refl
-joined-one x w (v ∷ ws) = ap (λ y. all_joined y ws) (joined_twice x w v ∙ sym (joined_twice x v w)) ∙ joined-one (joined x v) w ws
+joined-one x w (v ∷ ws) =
+    ap (λ y. all_joined y ws) (joined_twice x w v ∙ sym (joined_twice x v w))
+    ∙ joined-one (joined x v) w ws
 
-joined-turned : (x : Holder) (vs ws : List Way) → all_joined (all_joined x vs) ws ≡ all_joined (all_joined x ws) vs
+joined-turned : (x : Holder) (vs ws : List Way)
+    → all_joined (all_joined x vs) ws ≡ all_joined (all_joined x ws) vs
 joined-turned x [] ws = refl
-joined-turned x (v ∷ vs) ws = joined-turned (joined x v) vs ws ∙ ap (λ y. all_joined y vs) (joined-one x v ws)
+joined-turned x (v ∷ vs) ws =
+    joined-turned (joined x v) vs ws ∙ ap (λ y. all_joined y vs) (joined-one x v ws)
 
-joined-append : (x : Holder) (vs ws : List Way) → all_joined x (vs ++ ws) ≡ all_joined (all_joined x vs) ws
+joined-append : (x : Holder) (vs ws : List Way)
+    → all_joined x (vs ++ ws) ≡ all_joined (all_joined x vs) ws
 joined-append x [] ws = refl
 joined-append x (v ∷ vs) ws = joined-append (joined x v) vs ws
 
 -- those in the middle join the others
-among-middle : (us vs ws : List Way) → all_joined (holder_among (us ++ ws)) vs ≡ holder_among (us ++ (vs ++ ws))
+among-middle : (us vs ws : List Way)
+    → all_joined (holder_among (us ++ ws)) vs ≡ holder_among (us ++ (vs ++ ws))
 among-middle us vs ws =
     ap (λ x. all_joined x vs) (sym (all_among (us ++ ws)) ∙ joined-append Nobody us ws)
     ∙ joined-turned (all_joined Nobody us) ws vs
@@ -124,12 +156,15 @@ paths-append n [] ys = refl
 paths-append n (x ∷ xs) ys = split (x.0 == n) (paths-append n xs ys)
   where
     split : (b : Bool) → paths_at n (xs ++ ys) ≡ paths_at n xs ++ paths_at n ys
-        → (if b then x.1 ∷ paths_at n (xs ++ ys) else paths_at n (xs ++ ys)) ≡ (if b then x.1 ∷ paths_at n xs else paths_at n xs) ++ paths_at n ys
+        → (if b then x.1 ∷ paths_at n (xs ++ ys) else paths_at n (xs ++ ys))
+        ≡ (if b then x.1 ∷ paths_at n xs else paths_at n xs) ++ paths_at n ys
     split true e = ap (λ l. x.1 ∷ l) e
     split false e = e
 
-paths-middle : (n : ℕ) (xs ys zs : Reached) → paths_at n (xs ++ (ys ++ zs)) ≡ paths_at n xs ++ (paths_at n ys ++ paths_at n zs)
-paths-middle n xs ys zs = paths-append n xs (ys ++ zs) ∙ ap (λ l. paths_at n xs ++ l) (paths-append n ys zs)
+paths-middle : (n : ℕ) (xs ys zs : Reached)
+    → paths_at n (xs ++ (ys ++ zs)) ≡ paths_at n xs ++ (paths_at n ys ++ paths_at n zs)
+paths-middle n xs ys zs =
+    paths-append n xs (ys ++ zs) ∙ ap (λ l. paths_at n xs ++ l) (paths-append n ys zs)
 
 turned : (m n : ℕ) → (m == n) ≡ (n == m)
 turned m n = grind (arith, nat_tests)
@@ -138,10 +173,13 @@ paths-none : (n : ℕ) (xs : Reached) → has n (addresses xs) ≡ false → pat
 paths-none n [] e = refl
 paths-none n (x ∷ xs) e =
     let f : _ = neither (n == x.0) (has n (addresses xs)) e in
-    ap (λ b. if b then x.1 ∷ paths_at n xs else paths_at n xs) (turned x.0 n ∙ f.0) ∙ paths-none n xs f.1
+    ap (λ b. if b then x.1 ∷ paths_at n xs else paths_at n xs) (turned x.0 n ∙ f.0)
+    ∙ paths-none n xs f.1
 
-addresses-middle : (xs ys zs : Reached) → addresses (xs ++ (ys ++ zs)) ≡ addresses xs ++ (addresses ys ++ addresses zs)
-addresses-middle xs ys zs = addresses-append xs (ys ++ zs) ∙ ap (λ l. addresses xs ++ l) (addresses-append ys zs)
+addresses-middle : (xs ys zs : Reached)
+    → addresses (xs ++ (ys ++ zs)) ≡ addresses xs ++ (addresses ys ++ addresses zs)
+addresses-middle xs ys zs =
+    addresses-append xs (ys ++ zs) ∙ ap (λ l. addresses xs ++ l) (addresses-append ys zs)
 
 -- ---- an index of a list
 
@@ -150,40 +188,54 @@ abbrev IndexesList : List Holder → Reached → Type 0
 IndexesList h xs = (n : ℕ) → n < 256 → slice_index_or h n Nobody ≡ holder_among (paths_at n xs)
 
 -- with those in the middle
-noted_middle : (h : List Holder) (xs ys zs : Reached) → length h ≡ 256 → IndexesList h (xs ++ zs) → IndexesList (noted ys h) (xs ++ (ys ++ zs))
+noted_middle : (h : List Holder) (xs ys zs : Reached) → length h ≡ 256 → IndexesList h (xs ++ zs)
+    → IndexesList (noted ys h) (xs ++ (ys ++ zs))
 noted_middle h xs ys zs all is n small =
     noted_at ys h n (subst (λ m. n < m) (sym all) small)
     ∙ ap (λ x. all_joined x (paths_at n ys)) (is n small ∙ ap holder_among (paths-append n xs zs))
     ∙ among-middle (paths_at n xs) (paths_at n ys) (paths_at n zs)
     ∙ ap holder_among (sym (paths-middle n xs ys zs))
 
-released_at : (ns : List ℕ) (h : List Holder) (n : ℕ) → n < length h → slice_index_or (released ns h) n Nobody ≡ (if has n ns then Nobody else slice_index_or h n Nobody)
+released_at : (ns : List ℕ) (h : List Holder) (n : ℕ) → n < length h
+    → slice_index_or (released ns h) n Nobody
+    ≡ (if has n ns then Nobody else slice_index_or h n Nobody)
 released_at [] h n small = refl
 released_at (m ∷ ns) h n small =
     released_at ns (slice_set h m Nobody) n (subst (λ l. n < l) (sym (length-put h m Nobody)) small)
     ∙ ap (λ x. if has n ns then Nobody else x) (put_there h m n Nobody small)
-    ∙ ap (λ b. if has n ns then Nobody else (if b then Nobody else slice_index_or h n Nobody)) (turned m n)
+    ∙ ap (λ b. if has n ns then Nobody else (if b then Nobody else slice_index_or h n Nobody))
+    (turned m n)
     ∙ split (n == m) (has n ns)
   where
-    split : (b c : Bool) → (if c then Nobody else (if b then Nobody else slice_index_or h n Nobody)) ≡ (if b || c then Nobody else slice_index_or h n Nobody)
+    split : (b c : Bool)
+        → (if c then Nobody else (if b then Nobody else slice_index_or h n Nobody))
+        ≡ (if b || c then Nobody else slice_index_or h n Nobody)
     split true true = refl
     split true false = refl
     split false true = refl
     split false false = refl
 
 -- without those in the middle, where no address stands twice
-released_middle : (h : List Holder) (xs ys zs : Reached) → length h ≡ 256 → share (addresses ys) (addresses xs ++ addresses zs) ≡ false → IndexesList h (xs ++ (ys ++ zs))
+released_middle : (h : List Holder) (xs ys zs : Reached) → length h ≡ 256
+    → share (addresses ys) (addresses xs ++ addresses zs) ≡ false → IndexesList h (xs ++ (ys ++ zs))
     → IndexesList (released (addresses ys) h) (xs ++ zs)
 released_middle h xs ys zs all apart is n small =
     released_at (addresses ys) h n (subst (λ m. n < m) (sym all) small)
     ∙ split (has n (addresses ys)) refl
   where
-    split : (b : Bool) → has n (addresses ys) ≡ b → (if b then Nobody else slice_index_or h n Nobody) ≡ holder_among (paths_at n (xs ++ zs))
+    split : (b : Bool) → has n (addresses ys) ≡ b
+        → (if b then Nobody else slice_index_or h n Nobody) ≡ holder_among (paths_at n (xs ++ zs))
     split true e =
-        ap holder_among (sym (paths-none n (xs ++ zs) (ap (has n) (addresses-append xs zs) ∙ unshared n (addresses ys) (addresses xs ++ addresses zs) apart e)))
+        ap holder_among
+        (sym (paths-none n (xs ++ zs)
+        (ap (has n) (addresses-append xs zs)
+        ∙ unshared n (addresses ys) (addresses xs ++ addresses zs) apart e)))
     split false e =
         is n small
-        ∙ ap holder_among (paths-middle n xs ys zs ∙ ap (λ l. paths_at n xs ++ (l ++ paths_at n zs)) (paths-none n ys e) ∙ sym (paths-append n xs zs))
+        ∙ ap holder_among
+        (paths-middle n xs ys zs
+        ∙ ap (λ l. paths_at n xs ++ (l ++ paths_at n zs)) (paths-none n ys e)
+        ∙ sym (paths-append n xs zs))
 
 abbrev not_empty : List Way → Bool
 not_empty [] = false
@@ -199,14 +251,18 @@ known_among (Some p ∷ w ∷ ws) = refl
 
 has-paths : (n : ℕ) (xs : Reached) → not_empty (paths_at n xs) ≡ has n (addresses xs)
 has-paths n [] = refl
-has-paths n (x ∷ xs) = split (x.0 == n) (has-paths n xs) ∙ ap (λ b. b || has n (addresses xs)) (turned x.0 n)
+has-paths n (x ∷ xs) =
+    split (x.0 == n) (has-paths n xs) ∙ ap (λ b. b || has n (addresses xs)) (turned x.0 n)
   where
-    split : (b : Bool) → not_empty (paths_at n xs) ≡ has n (addresses xs) → not_empty (if b then x.1 ∷ paths_at n xs else paths_at n xs) ≡ (b || has n (addresses xs))
+    split : (b : Bool) → not_empty (paths_at n xs) ≡ has n (addresses xs)
+        → not_empty (if b then x.1 ∷ paths_at n xs else paths_at n xs) ≡ (b || has n (addresses xs))
     split true e = refl
     split false e = e
 
-marks_index : (h : List Holder) (xs : Reached) → IndexesList h xs → Marks (marks_of h) (addresses xs)
-marks_index h xs is n small = known_at h n ∙ ap is_known (is n small) ∙ known_among (paths_at n xs) ∙ has-paths n xs
+marks_index : (h : List Holder) (xs : Reached) → IndexesList h xs
+    → Marks (marks_of h) (addresses xs)
+marks_index h xs is n small =
+    known_at h n ∙ ap is_known (is n small) ∙ known_among (paths_at n xs) ∙ has-paths n xs
 
 last_first : (a b c : Bool) → (a || (b || c)) ≡ (b || (c || a))
 last_first true true c = refl
@@ -216,14 +272,21 @@ last_first false true c = refl
 last_first false false true = refl
 last_first false false false = refl
 
-met_middle : (h : List Holder) (xs ys zs : Reached) → length h ≡ 256 → AreBytes (addresses ys) → IndexesList h (xs ++ zs)
-    → (is_twice (addresses (xs ++ zs)) || meets_again ys h) ≡ is_twice (addresses (xs ++ (ys ++ zs)))
+met_middle : (h : List Holder) (xs ys zs : Reached) → length h ≡ 256 → AreBytes (addresses ys)
+    → IndexesList h (xs ++ zs)
+    → (is_twice (addresses (xs ++ zs)) || meets_again ys h)
+    ≡ is_twice (addresses (xs ++ (ys ++ zs)))
 met_middle h xs ys zs all bytes is =
     ap (λ b. is_twice (addresses (xs ++ zs)) || b)
-    (met_marks ys h ∙ meets-is (addresses ys) (addresses (xs ++ zs)) (marks_of h) (length-marks h ∙ all) bytes (marks_index h (xs ++ zs) is)
+    (met_marks ys h
+    ∙ meets-is (addresses ys) (addresses (xs ++ zs)) (marks_of h) (length-marks h ∙ all) bytes
+    (marks_index h (xs ++ zs) is)
     ∙ ap (λ l. share (addresses ys) l || is_twice (addresses ys)) (addresses-append xs zs))
-    ∙ ap (λ l. is_twice l || (share (addresses ys) (addresses xs ++ addresses zs) || is_twice (addresses ys))) (addresses-append xs zs)
-    ∙ last_first (is_twice (addresses xs ++ addresses zs)) (share (addresses ys) (addresses xs ++ addresses zs)) (is_twice (addresses ys))
+    ∙ ap (λ l. is_twice l
+    || (share (addresses ys) (addresses xs ++ addresses zs)
+    || is_twice (addresses ys))) (addresses-append xs zs)
+    ∙ last_first (is_twice (addresses xs ++ addresses zs))
+    (share (addresses ys) (addresses xs ++ addresses zs)) (is_twice (addresses ys))
     ∙ sym (twice-middle (addresses xs) (addresses ys) (addresses zs))
     ∙ ap is_twice (sym (addresses-middle xs ys zs))
 
@@ -233,20 +296,30 @@ addresses_from : (w : Way) (o : Option Plugged) → addresses (reached_from w o)
 addresses_from w None = refl
 addresses_from w (Some t) = ap (λ l. t.own.registers.address ∷ l) (held-reached w 1 t.ports)
 
-addresses_path : (k : Ports) (p : List ℕ) → addresses (reached_at_path k p) ≡ held_from (reached_there k p)
-addresses_path k p = addresses_from (path_further (Some (record { items = [] })) p) (reached_there k p)
+addresses_path : (k : Ports) (p : List ℕ)
+    → addresses (reached_at_path k p) ≡ held_from (reached_there k p)
+addresses_path k p =
+    addresses_from (path_further (Some (record { items = [] })) p) (reached_there k p)
 
 held_all : (k : Ports) → held k ≡ addresses (all_reached k)
 held_all k = sym (held-reached _ 1 k)
 
-held_without : (k : Ports) (p : List ℕ) (x : Parted (all_reached k) (reached_at_path k p) (all_reached (changed (put None) k p)))
+held_without : (k : Ports) (p : List ℕ)
+    (x : Parted (all_reached k) (reached_at_path k p) (all_reached (changed (put None) k p)))
     → held (changed (put None) k p) ≡ addresses x.front ++ addresses x.behind
-held_without k p x = held_all (changed (put None) k p) ∙ ap addresses x.without_is ∙ addresses-append x.front x.behind
+held_without k p x =
+    held_all (changed (put None) k p) ∙ ap addresses x.without_is
+    ∙ addresses-append x.front x.behind
 
-twice-parted : (k : Ports) (p : List ℕ) (x : Parted (all_reached k) (reached_at_path k p) (all_reached (changed (put None) k p)))
-    → is_twice (held k) ≡ (share (addresses (reached_at_path k p)) (addresses x.front ++ addresses x.behind) || (is_twice (addresses (reached_at_path k p)) || is_twice (addresses x.front ++ addresses x.behind)))
+twice-parted : (k : Ports) (p : List ℕ)
+    (x : Parted (all_reached k) (reached_at_path k p) (all_reached (changed (put None) k p)))
+    → is_twice (held k)
+    ≡ (share (addresses (reached_at_path k p)) (addresses x.front ++ addresses x.behind)
+    || (is_twice (addresses (reached_at_path k p))
+    || is_twice (addresses x.front ++ addresses x.behind)))
 twice-parted k p x =
-    ap is_twice (held_all k ∙ ap addresses x.whole_is ∙ addresses-middle x.front (reached_at_path k p) x.behind)
+    ap is_twice (held_all k ∙ ap addresses x.whole_is
+    ∙ addresses-middle x.front (reached_at_path k p) x.behind)
     ∙ twice-middle (addresses x.front) (addresses (reached_at_path k p)) (addresses x.behind)
 
 module _ (k : Ports) (p : List ℕ) (single : is_twice (held k) ≡ false) where
@@ -256,20 +329,30 @@ module _ (k : Ports) (p : List ℕ) (single : is_twice (held k) ≡ false) where
   abbrev there : Reached
   there = reached_at_path k p
 
-  apart : (share (addresses there) (addresses part.front ++ addresses part.behind) ≡ false) × ((is_twice (addresses there) || is_twice (addresses part.front ++ addresses part.behind)) ≡ false)
+  apart : (share (addresses there) (addresses part.front ++ addresses part.behind) ≡ false) ×
+      ((is_twice (addresses there) || is_twice (addresses part.front ++ addresses part.behind))
+      ≡ false)
   apart = neither _ _ (sym (twice-parted k p part) ∙ single)
 
   pub single_without : is_twice (held (changed (put None) k p)) ≡ false
-  single_without = ap is_twice (held_without k p part) ∙ (neither (is_twice (addresses there)) (is_twice (addresses part.front ++ addresses part.behind)) apart.1).1
+  single_without =
+      ap is_twice (held_without k p part)
+      ∙ (neither (is_twice (addresses there))
+      (is_twice (addresses part.front ++ addresses part.behind)) apart.1).1
 
-  pub released_index : (h m : List Holder) → length h ≡ 256 → IsIndex h k → m ≡ released (held_from (reached_there k p)) h → IsIndex m (changed (put None) k p)
+  pub released_index : (h m : List Holder) → length h ≡ 256 → IsIndex h k
+      → m ≡ released (held_from (reached_there k p)) h → IsIndex m (changed (put None) k p)
   released_index h m all is e =
-      subst (λ l. IndexesList l (all_reached (changed (put None) k p))) (ap (λ l. released l h) (addresses_path k p) ∙ sym e)
+      subst (λ l. IndexesList l (all_reached (changed (put None) k p)))
+      (ap (λ l. released l h) (addresses_path k p) ∙ sym e)
       (subst (λ l. IndexesList (released (addresses there) h) l) (sym part.without_is)
-      (released_middle h part.front there part.behind all apart.0 (subst (λ l. IndexesList h l) part.whole_is is)))
+      (released_middle h part.front there part.behind all apart.0
+      (subst (λ l. IndexesList h l) part.whole_is is)))
 
-module _ (k : Ports) (p : List ℕ) (h : List Holder) (all : length h ≡ 256) (is : IsIndex h (changed (put None) k p)) where
-  abbrev with_part : Parted (all_reached k) (reached_at_path k p) (all_reached (changed (put None) k p))
+module _ (k : Ports) (p : List ℕ) (h : List Holder) (all : length h ≡ 256)
+    (is : IsIndex h (changed (put None) k p)) where
+  abbrev with_part : Parted (all_reached k) (reached_at_path k p)
+      (all_reached (changed (put None) k p))
   with_part = parted k p
 
   abbrev noted_there : Reached
@@ -281,12 +364,16 @@ module _ (k : Ports) (p : List ℕ) (h : List Holder) (all : length h ≡ 256) (
   pub noted_index : (m : List Holder) → m ≡ noted noted_there h → IsIndex m k
   noted_index m e =
       subst (λ l. IndexesList l (all_reached k)) (sym e)
-      (subst (λ l. IndexesList (noted noted_there h) l) (sym with_part.whole_is) (noted_middle h with_part.front noted_there with_part.behind all others))
+      (subst (λ l. IndexesList (noted noted_there h) l) (sym with_part.whole_is)
+      (noted_middle h with_part.front noted_there with_part.behind all others))
 
-  pub noted_shared : AreBytes (held_from (reached_there k p)) → (is_twice (held (changed (put None) k p)) || meets_again noted_there h) ≡ is_twice (held k)
+  pub noted_shared : AreBytes (held_from (reached_there k p))
+      → (is_twice (held (changed (put None) k p)) || meets_again noted_there h) ≡ is_twice (held k)
   noted_shared bytes =
-      ap (λ l. is_twice l || meets_again noted_there h) (held_all (changed (put None) k p) ∙ ap addresses with_part.without_is)
-      ∙ met_middle h with_part.front noted_there with_part.behind all (subst AreBytes (sym (addresses_path k p)) bytes) others
+      ap (λ l. is_twice l || meets_again noted_there h)
+      (held_all (changed (put None) k p) ∙ ap addresses with_part.without_is)
+      ∙ met_middle h with_part.front noted_there with_part.behind all
+      (subst AreBytes (sym (addresses_path k p)) bytes) others
       ∙ ap is_twice (ap addresses (sym with_part.whole_is) ∙ sym (held_all k))
 
 pub ruleset parting = (length-released, length-noted, single_without, released_index, noted_index, noted_shared)

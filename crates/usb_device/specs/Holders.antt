@@ -62,7 +62,8 @@ reached_from path None = []
 reached_from path (Some t) = reached_whole path t
 
 abbrev pub reached_at_path : Ports → List ℕ → List (ℕ × Option (ArrayVec ℕ))
-reached_at_path k p = reached_from (path_further (Some (record { items = [] })) p) (reached_there k p)
+reached_at_path k p =
+    reached_from (path_further (Some (record { items = [] })) p) (reached_there k p)
 
 -- the paths of those that hold an address
 abbrev pub paths_at : ℕ → List (ℕ × Option (ArrayVec ℕ)) → List (Option (ArrayVec ℕ))
@@ -96,7 +97,8 @@ keeps_enable ClearConnectionChange = true
 keeps_enable ClearEnableChange = true
 keeps_enable ClearResetChange = true
 
--- what is asked of ports and leaves the same devices reached, but for those on the port of a number, counted from 1, and below it
+-- what is asked of ports and leaves the same devices reached, but for those on the port of a
+-- number, counted from 1, and below it
 abbrev pub keeps_others : ℕ → Effect → Bool
 keeps_others port Leaves = true
 keeps_others port (Calls c i) = keeps_enable c || (not (port == 0) && port - 1 == i)
@@ -129,7 +131,8 @@ abbrev pub meets_again : List (ℕ × Option (ArrayVec ℕ)) → List Holder →
 meets_again [] holders = false
 meets_again (x ∷ xs) holders = is_known (slice_index_or holders x.0 Nobody) || meets_again xs (slice_set holders x.0 (joined (slice_index_or holders x.0 Nobody) x.1))
 
--- How those at a path and below it are taken out of an index: nobody holds their addresses any more.
+-- How those at a path and below it are taken out of an index: nobody holds their addresses any
+-- more.
 
 abbrev pub held_whole : Plugged → List ℕ
 held_whole t = t.own.registers.address ∷ held t.ports

@@ -59,7 +59,9 @@ fn path_copy(path: &ArrayVec<u8, 8>) -> ArrayVec<u8, 8>
     copy
 }
 
-/// Which device holds which address, of all that packets reach.
+/// Which device holds which address, of all that packets reach: an index of a tree of devices.
+/// `forget` before a change at one path and `note` after it keep it the index, and cost what stands
+/// there; `renew` makes it anew after any change.
 #[derive(Debug, Drop)]
 pub struct Holders {
     holders: Vec<Holder>,

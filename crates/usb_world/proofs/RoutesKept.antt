@@ -46,12 +46,18 @@ place_at-changed f (taken b s a k) zero (zero ∷ p) = refl
 place_at-changed f (taken b s a k) zero (suc j ∷ p) = place_at-changed f a j p
 place_at-changed f (taken b s a k) (suc j) p = place_at-changed f k j p
 
--- a device with another state of the same address, and ports below which the same devices are reached, without what is on one of them
-same_there : (port : ℕ) (b : PortState) (s t : State) (a c : Ports) → t.registers.address ≡ s.registers.address
-    → ((w : Option (ArrayVec ℕ)) (n : ℕ) → reached w n (changed (put None) c (port ∷ [])) ≡ reached w n (changed (put None) a (port ∷ [])))
-    → ReachedSame (changed_in (put None) (full b t c) (port ∷ [])) (changed_in (put None) (full b s a) (port ∷ []))
+-- a device with another state of the same address, and ports below which the same devices are
+-- reached, without what is on one of them
+same_there : (port : ℕ) (b : PortState) (s t : State) (a c : Ports)
+    → t.registers.address ≡ s.registers.address
+    → ((w : Option (ArrayVec ℕ)) (n : ℕ) → reached w n (changed (put None) c (port ∷ []))
+    ≡ reached w n (changed (put None) a (port ∷ [])))
+    → ReachedSame (changed_in (put None) (full b t c) (port ∷ []))
+    (changed_in (put None) (full b s a) (port ∷ []))
 unfolding reached
-same_there port b s t a c e h = λ w n. ap₂ (λ m l. if b.enable then (m, path_below w n) ∷ (l ++ []) else []) e (h (path_below w n) 1)
+same_there port b s t a c e h =
+    λ w n. ap₂ (λ m l. if b.enable then (m, path_below w n) ∷ (l ++ []) else []) e
+    (h (path_below w n) 1)
 
 -- ---- one packet
 
@@ -75,10 +81,14 @@ pub sent_one : (o : Option Sent) (k : Ports) (j : ℕ) (p : List ℕ) → Alone 
 sent_one None k j p h = sym (changed_at-same k j p)
 sent_one (Some q) k j p h = others_packet q false k j p h.on (others_rest q k j p h)
 
-quiet_asks : (port : ℕ) (o : Option Sent) (k : Ports) (j : ℕ) (p : List ℕ) (b : PortState) (s : State) (a : Ports) → IsQuiet port o k (suc j ∷ p) → place_at k j p ≡ Some (full b s a) → keeps_others port (asked_of o (deep_at false p) s) ≡ true
+quiet_asks : (port : ℕ) (o : Option Sent) (k : Ports) (j : ℕ) (p : List ℕ) (b : PortState)
+    (s : State) (a : Ports)
+    → IsQuiet port o k (suc j ∷ p) → place_at k j p ≡ Some (full b s a)
+    → keeps_others port (asked_of o (deep_at false p) s) ≡ true
 quiet_asks port None k j p b s a h e = refl
 quiet_asks port (Some q) k j p b s a h e =
-    sym (ap (λ x. keeps_others port (effect_by q (deep_at false p) (plugged_on x))) e) ∙ ap (λ x. keeps_others port (effect_by q (deep_at false p) x)) (plugged_place k j p) ∙ h
+    sym (ap (λ x. keeps_others port (effect_by q (deep_at false p) (plugged_on x))) e)
+    ∙ ap (λ x. keeps_others port (effect_by q (deep_at false p) x)) (plugged_place k j p) ∙ h
 
 -- ---- an attempt
 
@@ -178,57 +188,87 @@ module _ (a : Attempt) (d : Option Damage) (k : Ports) (j : ℕ) (p : List ℕ) 
       abbrev without : Place → Place
       without x = changed_in (put None) x (port ∷ [])
 
-      below_same : (w : Option (ArrayVec ℕ)) (n : ℕ) → reached w n (changed (put None) below_then (port ∷ [])) ≡ reached w n (changed (put None) here.below (port ∷ []))
-      below_same = reached-acted (asked_of q deep first) port here.below (quiet_asks port q (after_sent t k) j p here.port first here.below quiet first_at)
+      below_same : (w : Option (ArrayVec ℕ)) (n : ℕ)
+          → reached w n (changed (put None) below_then (port ∷ []))
+          ≡ reached w n (changed (put None) here.below (port ∷ []))
+      below_same =
+          reached-acted (asked_of q deep first) port here.below
+          (quiet_asks port q (after_sent t k) j p here.port first here.below quiet first_at)
 
-      left_same : (x : Place) → x ≡ full here.port here.own here.below → third.registers.address ≡ here.own.registers.address → ReachedSame (without (forgotten_in (till_end x))) (without x)
+      left_same : (x : Place) → x ≡ full here.port here.own here.below
+          → third.registers.address ≡ here.own.registers.address
+          → ReachedSame (without (forgotten_in (till_end x))) (without x)
       left_same x is e =
           subst (λ y. ReachedSame (without (forgotten_in (till_end y))) (without y)) (sym is)
-          (subst (λ y. ReachedSame (without (forgotten_in y)) (without (full here.port here.own here.below))) (sym end_place)
+          (subst (λ y. ReachedSame (without (forgotten_in y))
+          (without (full here.port here.own here.below))) (sym end_place)
           (same_there port here.port here.own (forgotten third) here.below below_then e below_same))
 
-      addresses_stay : address_by (plugged_at (ended_in a d k) j p) ≡ Some a.addr → all_reached (without_port port (ports_in a d k) (suc j ∷ p)) ≡ all_reached (without_port port k (suc j ∷ p))
+      addresses_stay : address_by (plugged_at (ended_in a d k) j p) ≡ Some a.addr
+          → all_reached (without_port port (ports_in a d k) (suc j ∷ p))
+          ≡ all_reached (without_port port k (suc j ∷ p))
       addresses_stay e =
           let address : third.registers.address ≡ a.addr =
           same_Some third.registers.address a.addr (sym (ap (λ x. address_by (plugged_on x)) end_at) ∙ ap address_by (plugged_place (ended_in a d k) j p) ∙ e) in
-          ap all_reached (changed_at-port (put None) (ports_in a d k) j p port ∙ ap (λ x. changed_at without x j p) all_is ∙ changed_at-twice without (λ x. forgotten_in (till_end x)) k j p)
-          ∙ reached-both (λ x. without (forgotten_in (till_end x))) without _ 1 k j p (λ x at. left_same x (same_Some x (full here.port here.own here.below) (sym at ∙ here.at)) (address ∙ sym here_address))
+          ap all_reached
+          (changed_at-port (put None) (ports_in a d k) j p port
+          ∙ ap (λ x. changed_at without x j p) all_is
+          ∙ changed_at-twice without (λ x. forgotten_in (till_end x)) k j p)
+          ∙ reached-both (λ x. without (forgotten_in (till_end x))) without _ 1 k j p
+          (λ x at. left_same x (same_Some x (full here.port here.own here.below) (sym at ∙ here.at))
+          (address ∙ sym here_address))
           ∙ sym (ap all_reached (changed_at-port (put None) k j p port))
 
 -- where what was asked of ports keeps who is reached, and the device has the address still
-held_still : (port : ℕ) (a : Attempt) (d : Option Damage) (k : Ports) (p : List ℕ) → IsQuiet port (payload_out a d) (after_sent (token_out a d) k) p → address_by (device_there (ended_in a d k) p) ≡ Some a.addr
+held_still : (port : ℕ) (a : Attempt) (d : Option Damage) (k : Ports) (p : List ℕ)
+    → IsQuiet port (payload_out a d) (after_sent (token_out a d) k) p
+    → address_by (device_there (ended_in a d k) p) ≡ Some a.addr
     → KeptAt a.addr port k (ports_in a d k) p
 held_still port a d k [] q e = no (ap is_some e)
 held_still port a d k (zero ∷ p) q e = no (ap is_some e)
 held_still port a d k (suc j ∷ p) q e = λ settled o. addresses_stay a d k j p (alone_token a d k (suc j ∷ p) settled o) o.at port q e
 
 -- the same, of what the code tells: the address that is left there is the attempt's
-pub kept_at : (port : ℕ) (a : Attempt) (d : Option Damage) (k m n : Ports) (p : List ℕ) (left : Option ℕ) → option_eq nat_eq left (Some a.addr) ≡ true
-    → IsQuiet port (payload_out a d) (after_sent (token_out a d) k) p → m ≡ ended_in a d k → n ≡ all_forgotten m → (IsSome left → left ≡ address_by (device_there m p)) → KeptAt a.addr port k n p
+pub kept_at : (port : ℕ) (a : Attempt) (d : Option Damage) (k m n : Ports) (p : List ℕ)
+    (left : Option ℕ)
+    → option_eq nat_eq left (Some a.addr) ≡ true
+    → IsQuiet port (payload_out a d) (after_sent (token_out a d) k) p → m ≡ ended_in a d k
+    → n ≡ all_forgotten m → (IsSome left → left ≡ address_by (device_there m p))
+    → KeptAt a.addr port k n p
 unfolding ports_in
 kept_at port a d k m n p None same asks e over at = no same
 kept_at port a d k m n p (Some x) same asks e over at =
     let told : address_by (device_there m p) ≡ Some a.addr = sym (at refl) ∙ ap (λ y. Some y) (equal_same x a.addr same) in
-    subst (λ y. KeptAt a.addr port k y p) (sym (over ∙ ap all_forgotten e)) (held_still port a d k p asks (ap (λ y. address_by (device_there y p)) (sym e) ∙ told))
+    subst (λ y. KeptAt a.addr port k y p) (sym (over ∙ ap all_forgotten e))
+    (held_still port a d k p asks (ap (λ y. address_by (device_there y p)) (sym e) ∙ told))
 
 -- the index of the tree then
-pub index_kept : (n : ℕ) (h : Holders) (k m : Ports) (p : List ℕ) → IsSettled k → IsWayTo n k p → KeptAt n 0 k m p → IsIndexOf h k → IsIndexOf h m
+pub index_kept : (n : ℕ) (h : Holders) (k m : Ports) (p : List ℕ) → IsSettled k → IsWayTo n k p
+    → KeptAt n 0 k m p → IsIndexOf h k → IsIndexOf h m
 index_kept n h k m [] s w kept is = absurd kept
 index_kept n h k m (zero ∷ p) s w kept is = absurd kept
 index_kept n h k m (suc j ∷ p) s w kept is =
-    same_index h k m (ap all_reached (sym (changed_at-zero (put None) m j p)) ∙ kept s w ∙ ap all_reached (changed_at-zero (put None) k j p)) is
+    same_index h k m
+    (ap all_reached (sym (changed_at-zero (put None) m j p)) ∙ kept s w
+    ∙ ap all_reached (changed_at-zero (put None) k j p)) is
 
 -- the index without what is on a port of the device
-pub index_port : (n port : ℕ) (h : Holders) (k m : Ports) (p l : List ℕ) → l ≡ p ++ port ∷ [] → IsSettled k → IsWayTo n k p → KeptAt n port k m p → IsIndexWithout h k l → IsIndexWithout h m l
+pub index_port : (n port : ℕ) (h : Holders) (k m : Ports) (p l : List ℕ) → l ≡ p ++ port ∷ []
+    → IsSettled k → IsWayTo n k p → KeptAt n port k m p → IsIndexWithout h k l
+    → IsIndexWithout h m l
 index_port n port h k m [] l e s w kept is = absurd kept
 index_port n port h k m (zero ∷ p) l e s w kept is = absurd kept
 index_port n port h k m (suc j ∷ p) l e s w kept is =
     subst (λ x. IsIndexWithout h m x) (sym e)
-    (same_index h (without_port port k (suc j ∷ p)) (without_port port m (suc j ∷ p)) (kept s w) (subst (λ x. IsIndexWithout h k x) e is))
+    (same_index h (without_port port k (suc j ∷ p)) (without_port port m (suc j ∷ p)) (kept s w)
+    (subst (λ x. IsIndexWithout h k x) e is))
 
 -- an attempt changes nothing but the device at its way, with what is below
-pub index_beside : (a : Attempt) (d : Option Damage) (h : Holders) (k m : Ports) (p : List ℕ) → is_whole_tree p ≡ false → IsSettled k → IsWayTo a.addr k p → m ≡ ports_in a d k → IsIndexWithout h k p
+pub index_beside : (a : Attempt) (d : Option Damage) (h : Holders) (k m : Ports) (p : List ℕ)
+    → is_whole_tree p ≡ false → IsSettled k → IsWayTo a.addr k p → m ≡ ports_in a d k
+    → IsIndexWithout h k p
     → IsIndexWithout h m p
 index_beside a d h k m [] f s w e is = no (sym f)
 index_beside a d h k m (zero ∷ p) f s w e is = absurd w
-index_beside a d h k m (suc j ∷ p) f s w e is = index_around h _ k m (suc j ∷ p) (e ∙ all_is a d k j p (alone_token a d k (suc j ∷ p) s w)) is
+index_beside a d h k m (suc j ∷ p) f s w e is =
+    index_around h _ k m (suc j ∷ p) (e ∙ all_is a d k j p (alone_token a d k (suc j ∷ p) s w)) is

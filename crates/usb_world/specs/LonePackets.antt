@@ -48,14 +48,18 @@ is_whole_tree (n ∷ p) = false
 abbrev pub without_port : ℕ → Ports → List ℕ → Ports
 without_port port k p = changed (put None) k (p ++ port ∷ [])
 
--- what the device there asks of its ports at what goes out leaves the same devices reached, but for those on its port of a number and below
+-- what the device there asks of its ports at what goes out leaves the same devices reached, but for
+-- those on its port of a number and below
 abbrev pub IsQuiet : ℕ → Option Sent → Ports → List ℕ → Type 0
 IsQuiet port None k p = ⊤
 IsQuiet port (Some q) k p = keeps_others port (effect_by q (is_deep p) (device_there k p)) ≡ true
 
--- the path is a device's, and if that one alone held its address, the same devices are reached, with the same addresses, but for those on its
--- port of a number and below
+-- the path is a device's, and if that one alone held its address, the same devices are reached,
+-- with the same addresses, but for those on its port of a number and below
 abbrev pub KeptAt : ℕ → ℕ → Ports → Ports → List ℕ → Type 0
 KeptAt n port old new [] = ⊥
 KeptAt n port old new (zero ∷ p) = ⊥
-KeptAt n port old new (suc j ∷ p) = IsSettled old → OneHolds n old (record { row = j; rest = p }) → all_reached (without_port port new (suc j ∷ p)) ≡ all_reached (without_port port old (suc j ∷ p))
+KeptAt n port old new (suc j ∷ p) =
+    IsSettled old → OneHolds n old (record { row = j; rest = p })
+    → all_reached (without_port port new (suc j ∷ p))
+    ≡ all_reached (without_port port old (suc j ∷ p))

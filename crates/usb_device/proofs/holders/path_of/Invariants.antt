@@ -3,4 +3,5 @@ use Rattle.usb_device.specs.Holders.{path_further}
 use Rattle.usb_device.proofs.holders.path_of.Given as goal
 
 abbrev pub invariant-numbers : goal.invariant-numbers
-invariant-numbers l = l.path ≡ path_further (Some (record { items = [] })) (take l.number-index l.numbers)
+invariant-numbers l =
+    l.path ≡ path_further (Some (record { items = [] })) (take l.number-index l.numbers)

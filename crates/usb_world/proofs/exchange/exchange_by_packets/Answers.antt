@@ -14,7 +14,8 @@ returns-then-quiet-clause-made c = over_made _ _ _ _ _ _ c.end_attempt-left.ensu
 
 pub returns-then-quiet-clause-kept : goal.returns-then-quiet-clause-kept
 returns-then-quiet-clause-kept c = λ same.
-    kept_at c.args.port c.args.attempt.now c.args.damage c.args.roots.now c.send_packets-made.new.roots _ _ c.end_attempt-left.result (sym c.eq.ensures ∙ same)
+    kept_at c.args.port c.args.attempt.now c.args.damage c.args.roots.now
+    c.send_packets-made.new.roots _ _ c.end_attempt-left.result (sym c.eq.ensures ∙ same)
     (c.in_ok-made.ensures.quiet c.if-quiet.true) c.in_ok-made.ensures.made.ports c.end_attempt-left.ensures.over c.end_attempt-left.ensures.address
 
 pub returns-else-quiet-clause-plugged : goal.returns-else-quiet-clause-plugged

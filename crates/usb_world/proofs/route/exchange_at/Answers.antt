@@ -4,9 +4,13 @@ use Rattle.usb_world.proofs.RoutesKept.{index_beside}
 use Rattle.usb_world.proofs.route.exchange_at.Goals as goal
 
 pub exchange_along-requires-clause-alone : goal.exchange_along-requires-clause-alone
-exchange_along-requires-clause-alone c = alone_token c.args.attempt.now c.args.damage c.args.roots.now c.args.path.now c.requires.settled c.requires.way
+exchange_along-requires-clause-alone c =
+    alone_token c.args.attempt.now c.args.damage c.args.roots.now c.args.path.now c.requires.settled
+    c.requires.way
 
 pub note-requires : goal.note-requires
 note-requires c =
-    index_beside c.args.attempt.now c.args.damage c.forget-forgotten.new.self c.args.roots.now c.exchange_along.new.roots c.args.path.now
-    (cc (c.is_whole.ensures, c.if-not-is_whole.true)) c.requires.settled c.requires.way c.in-Ok.ensures.made.ports (c.if-forgotten.ensures.forgotten refl)
+    index_beside c.args.attempt.now c.args.damage c.forget-forgotten.new.self c.args.roots.now
+    c.exchange_along.new.roots c.args.path.now
+    (cc (c.is_whole.ensures, c.if-not-is_whole.true)) c.requires.settled c.requires.way
+    c.in-Ok.ensures.made.ports (c.if-forgotten.ensures.forgotten refl)

@@ -4,9 +4,13 @@ use Rattle.usb_world.proofs.RoutesKept.{index_port}
 use Rattle.usb_world.proofs.route.exchange_at_port.Goals as goal
 
 pub exchange_along-requires-clause-alone : goal.exchange_along-requires-clause-alone
-exchange_along-requires-clause-alone c = alone_token c.args.attempt.now c.args.damage c.args.roots.now c.args.path.now c.requires.settled c.requires.way
+exchange_along-requires-clause-alone c =
+    alone_token c.args.attempt.now c.args.damage c.args.roots.now c.args.path.now c.requires.settled
+    c.requires.way
 
 pub note-requires : goal.note-requires
 note-requires c =
-    index_port c.args.attempt.now.addr c.args.port c.forget-forgotten.new.self c.args.roots.now c.exchange_along.new.roots c.args.path.now c.as_slice-place.result.now
-    (c.as_slice-place.ensures.value ∙ c.below-below.ensures) c.requires.settled c.requires.way (c.in-Ok.ensures.kept c.if-kept.true) (c.if-forgotten.ensures.forgotten refl)
+    index_port c.args.attempt.now.addr c.args.port c.forget-forgotten.new.self c.args.roots.now
+    c.exchange_along.new.roots c.args.path.now c.as_slice-place.result.now
+    (c.as_slice-place.ensures.value ∙ c.below-below.ensures) c.requires.settled c.requires.way
+    (c.in-Ok.ensures.kept c.if-kept.true) (c.if-forgotten.ensures.forgotten refl)

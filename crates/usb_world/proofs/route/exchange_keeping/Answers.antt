@@ -8,13 +8,18 @@ exchange_along-requires c =
     let n = c.args.attempt.now.addr in
     record {
       attempt = c.requires.attempt;
-      alone = alone_token c.args.attempt.now c.args.damage c.args.roots.now c.way-way.result.now c.requires.settled
-          (way_by_index n c.args.roots.now c.args.holders.now c.way-way.result.now (omega (arith, c.requires.attempt.addr_fits)) c.requires.index c.way-way.ensures.value);
+      alone =
+          alone_token c.args.attempt.now c.args.damage c.args.roots.now c.way-way.result.now
+          c.requires.settled
+          (way_by_index n c.args.roots.now c.args.holders.now c.way-way.result.now
+          (omega (arith, c.requires.attempt.addr_fits)) c.requires.index c.way-way.ensures.value);
     }
 
 pub returns-in-Ok-true-clause-index : goal.returns-in-Ok-true-clause-index
 returns-in-Ok-true-clause-index c =
     let n = c.args.attempt.now.addr in
-    index_kept n c.args.holders.now c.args.roots.now c.exchange_along.new.roots c.way-way.result.now c.requires.settled
-    (way_by_index n c.args.roots.now c.args.holders.now c.way-way.result.now (omega (arith, c.requires.attempt.addr_fits)) c.requires.index c.way-way.ensures.value)
+    index_kept n c.args.holders.now c.args.roots.now c.exchange_along.new.roots c.way-way.result.now
+    c.requires.settled
+    (way_by_index n c.args.roots.now c.args.holders.now c.way-way.result.now
+    (omega (arith, c.requires.attempt.addr_fits)) c.requires.index c.way-way.ensures.value)
     (c.in-Ok-true.ensures.kept c.in-Ok-true.field-0-test) c.requires.index

@@ -16,7 +16,9 @@ exchange_at-requires c =
       attempt = c.requires.attempt;
       settled = c.requires.settled;
       index = c.requires.index;
-      way = way_by_index n c.args.roots.now c.args.holders.now c.as_slice.result.now (omega (arith, c.requires.attempt.addr_fits)) c.requires.index
+      way =
+          way_by_index n c.args.roots.now c.args.holders.now c.as_slice.result.now
+          (omega (arith, c.requires.attempt.addr_fits)) c.requires.index
           (c.as_slice.ensures.value ∙ c.copied-path.ensures ∙ c.way.ensures.value);
     }
 
@@ -27,7 +29,13 @@ exchange_at_port-requires c =
       attempt = c.requires.attempt;
       settled = c.requires.settled;
       index = c.requires.index;
-      way = way_by_index n c.args.roots.now c.args.holders.now c.as_slice-in-AtPort.result.now (omega (arith, c.requires.attempt.addr_fits)) c.requires.index
-          (c.as_slice-in-AtPort.ensures.value ∙ c.copied-path-in-AtPort.ensures ∙ c.way-in-AtPort.ensures.value);
-      most = let same : _ = ap length (c.as_slice-in-AtPort.ensures.value ∙ c.copied-path-in-AtPort.ensures) in omega (arith, same, c.way-in-AtPort.ensures.most);
+      way =
+          way_by_index n c.args.roots.now c.args.holders.now c.as_slice-in-AtPort.result.now
+          (omega (arith, c.requires.attempt.addr_fits)) c.requires.index
+          (c.as_slice-in-AtPort.ensures.value ∙ c.copied-path-in-AtPort.ensures
+          ∙ c.way-in-AtPort.ensures.value);
+      most =
+          let path = c.as_slice-in-AtPort.ensures.value ∙ c.copied-path-in-AtPort.ensures in
+          let same : _ = ap length path in
+          omega (arith, same, c.way-in-AtPort.ensures.most);
     }

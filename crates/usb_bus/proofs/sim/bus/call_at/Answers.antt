@@ -8,4 +8,5 @@ returns-then-keeps_enable-clause-index c = index_called c.args.holders.now c.arg
 
 pub note-requires : goal.note-requires
 note-requires c =
-    index_around c.forget-forgotten.new.self (called c.args.call) c.args.roots.now c.call-2.new.self (c.args.port ∷ []) c.call-2.ensures (c.if-forgotten.ensures.forgotten refl)
+    index_around c.forget-forgotten.new.self (called c.args.call) c.args.roots.now c.call-2.new.self
+    (c.args.port ∷ []) c.call-2.ensures (c.if-forgotten.ensures.forgotten refl)
