@@ -1,5 +1,5 @@
 -- A whole attempt at one device, of which nothing is damaged: the token, the host's data and its ACK (8.5).
-use Rattle.std.specs.Prelude.{ℕ, nat_le, length, if◌then◌else◌, ◌&&◌, Bool, false, [], Option, None, Some}
+use Rattle.std.specs.Prelude.{ℕ, nat_le, length, if◌then◌else◌, ◌&&◌, Bool, true, false, [], Option, None, Some}
 use Rattle.usb_packet.specs.declared.Packet.TheVariants as packet
 use Rattle.usb_device.specs.declared.answer.Answer.{Answer}
 use Rattle.usb_device.specs.declared.answer.Answer.TheVariants.{Ack, Nak, Stall, Data}
@@ -16,7 +16,8 @@ use Rattle.usb_device.specs.declared.hearing.HeardPid.{HeardPid}
 use Rattle.usb_device.specs.declared.hearing.HeardPid.TheVariants as heard
 use Rattle.usb_device.specs.Rows.{State, received, forgotten, awaits_address}
 use Rattle.usb_device.specs.Tree.{Plugged, Place, empty, full}
-use Rattle.usb_device.specs.Delivery.{heard_from, both, effect_of, taken_sent}
+use Rattle.usb_device.specs.Delivery.{heard_from, both, effect_of, taken_sent, asks_clearing}
+use Rattle.usb_device.specs.Holders.{keeps_reached}
 use Rattle.usb_device.specs.StoppedPackets.{IsRefused}
 
 -- the packets that the host sends beside its data
@@ -42,6 +43,10 @@ asked_from (Some q) deep t = effect_of q deep t.own
 abbrev pub RefusedFrom : Option Sent → Bool → Plugged → Type 0
 RefusedFrom None deep t = ⊥
 RefusedFrom (Some q) deep t = IsRefused q deep t.own
+
+-- what is asked of ports, as it is told
+abbrev pub with_asked : Effect → DeviceSide → DeviceSide
+with_asked e side = record side { change_cleared = asks_clearing e; reached_kept = keeps_reached e }
 
 -- a device that hears the host's ACK
 abbrev pub after_ack : State → State
@@ -82,7 +87,8 @@ after_reply x deep t = if acknowledges x deep t then (taken_sent (ack_sent x) de
 unfoldable pub side_of : HostSide → Bool → Plugged → DeviceSide
 side_of x deep t = record {
   acknowledged = acknowledges x deep t;
-  effect = asked_from x.payload deep (after_token x deep t);
+  change_cleared = asks_clearing (asked_from x.payload deep (after_token x deep t));
+  reached_kept = keeps_reached (asked_from x.payload deep (after_token x deep t));
   address_lost = acknowledges x deep t && awaits_address (after_reply x deep t).own;
   address = Some (after_reply x deep t).own.registers.address;
 }
@@ -94,7 +100,7 @@ forgot t = record t { own = forgotten t.own }
 -- The same at a path, where a device is or is not.
 
 abbrev pub no_side : DeviceSide
-no_side = record { acknowledged = false; effect = Leaves; address_lost = false; address = None }
+no_side = record { acknowledged = false; change_cleared = false; reached_kept = true; address_lost = false; address = None }
 
 abbrev pub heard_at : HostSide → Bool → Option Plugged → Heard
 heard_at x deep None = NoAnswer

@@ -205,7 +205,7 @@ module _ (a : Attempt) (k : Ports) (j : ℕ) (p : List ℕ) (one : Alone (token_
   pub end_there : plugged_at (ended_in a None k) j p ≡ Some (after_reply y deep_there device)
   end_there = plugged_there None (ended_in a None k) j p b (after_reply y deep_there device) (four a None k j p one) end_at
 
-  pub cleared_is : cleared_in a None k ≡ asks_clearing (side_of y deep_there device).effect
+  pub cleared_is : cleared_in a None k ≡ (side_of y deep_there device).change_cleared
   unfolding side_of
   cleared_is = clears_one q (after_sent t k) j p b (after_token y deep_there device) (two a None k j p one) first_at
 
@@ -216,7 +216,7 @@ module _ (a : Attempt) (k : Ports) (j : ℕ) (p : List ℕ) (one : Alone (token_
       ∙ ap (λ o. w && has_loss (after_sent o (answered_in a None k))) (sym reply_out_is)
       ∙ ap (λ x. w && x) (others_loss (ended_in a None k) j p (four a None k j p one).on (four a None k j p one).forgot ∙ ap loss_by end_there)
 
-  pub quiet_is : keeps_reached (side_of y deep_there device).effect ≡ true → IsQuiet q (after_sent t k) (suc j ∷ p)
+  pub quiet_is : (side_of y deep_there device).reached_kept ≡ true → IsQuiet q (after_sent t k) (suc j ∷ p)
   unfolding side_of
   quiet_is h = quiet_one q (after_sent t k) j p b (after_token y deep_there device) (two a None k j p one) first_at h
 
@@ -265,7 +265,7 @@ pub record Walked (a : Attempt) (k m : Ports) (p : List ℕ) (x : Exchange) (g :
   pub mark : x.answer_mark ≡ Whole
   pub reply : x.reply ≡ marked_some None (answer_place x.payload + 1) a.pre (ack_if side.acknowledged)
   pub lost : x.address_lost ≡ side.address_lost
-  pub cleared : x.change_cleared ≡ asks_clearing side.effect
+  pub cleared : x.change_cleared ≡ side.change_cleared
 
 over_attempt : (a : Attempt) (k : Ports) → ports_in a None k ≡ all_forgotten (ended_in a None k)
 unfolding ports_in
@@ -314,13 +314,13 @@ module _ (a : Attempt) (k m : Ports) (j : ℕ) (p : List ℕ) (x : Exchange) (g 
     answer_mark = (walked.mark ∙ sym (mark_is a k j p one)) i;
     reply = reply_then i;
     address_lost = (walked.lost ∙ ap (λ s. s.address_lost) side_is ∙ sym (lost_is a k j p one)) i;
-    change_cleared = (walked.cleared ∙ ap (λ s. asks_clearing s.effect) side_is ∙ sym (cleared_is a k j p one)) i;
+    change_cleared = (walked.cleared ∙ ap (λ s. s.change_cleared) side_is ∙ sym (cleared_is a k j p one)) i;
   }
 
-  pub kept_there : keeps_reached side.effect ≡ true → option_eq nat_eq side.address (Some a.addr) ≡ true → KeptAt a.addr k m (suc j ∷ p)
+  pub kept_there : side.reached_kept ≡ true → option_eq nat_eq side.address (Some a.addr) ≡ true → KeptAt a.addr k m (suc j ∷ p)
   kept_there quiet same =
       kept_at a None k (ended_in a None k) m (suc j ∷ p) side.address same
-      (quiet_is a k j p one (ap (λ s. keeps_reached s.effect) (sym side_is) ∙ quiet)) refl (ports_there ∙ over_attempt a k) (λ h. address_is)
+      (quiet_is a k j p one (ap (λ s. s.reached_kept) (sym side_is) ∙ quiet)) refl (ports_there ∙ over_attempt a k) (λ h. address_is)
 
 pub walked_made : (a : Attempt) (k m : Ports) (p : List ℕ) (x : Exchange) (g : Heard) (side : DeviceSide) → is_whole_tree p ≡ false → AloneAt (token_out a None) k p → Walked a k m p x g side → Exchanged a None k m x
 walked_made a k m [] x g side f h w = no (sym f)
@@ -332,7 +332,7 @@ pub walked_kept : (a : Attempt) (k m : Ports) (p : List ℕ) (x : Exchange) (g :
 walked_kept a k m [] x g side f h w kept = no (sym f)
 walked_kept a k m (zero ∷ p) x g side f h w kept = absurd h
 walked_kept a k m (suc j ∷ p) x g side f h w kept =
-    let is : _ = both_true (keeps_reached side.effect) (option_eq nat_eq side.address (Some a.addr)) kept in
+    let is : _ = both_true side.reached_kept (option_eq nat_eq side.address (Some a.addr)) kept in
     kept_there a k m j p x g side h w is.0 is.1
 
 -- ---- memory that was refused

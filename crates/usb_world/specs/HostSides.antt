@@ -3,7 +3,6 @@ use Rattle.std.specs.Prelude.{ℕ, nat_eq, ◌&&◌, Bool, Option, Some}
 use Rattle.std.specs.Option.{option_eq}
 use Rattle.usb_device.specs.declared.alone.HostSide.{HostSide}
 use Rattle.usb_device.specs.declared.alone.DeviceSide.{DeviceSide}
-use Rattle.usb_device.specs.Holders.{keeps_reached}
 use Rattle.usb_world.specs.declared.types.Attempt.{Attempt}
 use Rattle.usb_world.specs.declared.wire.Outgoing.{Outgoing}
 use Rattle.usb_world.specs.Exchange.{goes_out}
@@ -13,4 +12,4 @@ host_side a payload = record { low = a.low; pre = a.pre; kind = a.kind; addr = a
 
 -- the device is at that address still, and what it asked of its ports leaves the same devices reached
 abbrev pub keeps_address : DeviceSide → ℕ → Bool
-keeps_address side n = keeps_reached side.effect && option_eq nat_eq side.address (Some n)
+keeps_address side n = side.reached_kept && option_eq nat_eq side.address (Some n)
