@@ -8,6 +8,8 @@
 //!   that change of the *tree*. `deliver` takes a packet down it exactly, or, where memory was refused, to just those
 //!   devices that come before the one whose sink was to grow (*stopped*). Where `find` answers true, the path that it
 //!   put behind the one it was given leads to a device that packets reach and that holds the address (`HolderBehind`).
+//! - `attempt_at` makes a whole attempt, of which nothing is damaged, at the device at a path: it is the row of its
+//!   packets there, and what became of them is told; all others are as they were.
 //! - `child_mut` lends the device on a port. `DeviceSpec` keeps the rules of a device's keys, and `Devices` tells them
 //!   of each of its devices (`IsSpec`).
 //! - Laws (`src/laws.rt`): whole attempts with the device that is spoken to (`attempt_laws`), packets that are for none
