@@ -1,5 +1,5 @@
 -- A whole attempt at one device, of which nothing is damaged: the token, the host's data and its ACK (8.5).
-use Rattle.std.specs.Prelude.{ℕ, nat_le, length, if◌then◌else◌, ◌&&◌, Bool, false, [], Option, None, Some}
+use Rattle.std.specs.Prelude.{ℕ, nat_le, length, if◌then◌else◌, ◌&&◌, Bool, true, false, [], Option, None, Some}
 use Rattle.usb_packet.specs.declared.Packet.TheVariants as packet
 use Rattle.usb_device.specs.declared.answer.Answer.{Answer}
 use Rattle.usb_device.specs.declared.answer.Answer.TheVariants.{Ack, Nak, Stall, Data}
@@ -42,6 +42,10 @@ asked_from (Some q) deep t = effect_of q deep t.own
 abbrev pub RefusedFrom : Option Sent → Bool → Plugged → Type 0
 RefusedFrom None deep t = ⊥
 RefusedFrom (Some q) deep t = IsRefused q deep t.own
+
+-- what is asked of ports, as it is told
+abbrev pub with_asked : Effect → DeviceSide → DeviceSide
+with_asked e side = record side { effect = e }
 
 -- a device that hears the host's ACK
 abbrev pub after_ack : State → State

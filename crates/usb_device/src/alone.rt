@@ -1,10 +1,10 @@
 //! A whole attempt at one device, of which nothing is damaged (8.5).
-ghost use Rattle.std.specs.Prelude.{◌≡◌, Some, OnOk, OnErr, IfOk};
+ghost use Rattle.std.specs.Prelude.{◌≡◌, Some, OnOk, OnErr};
 ghost use Rattle.usb_device.specs.Tree.{changed, changed_in, device_there, plugged_in};
 ghost use Rattle.usb_device.specs.Places.{stood};
 ghost use Rattle.usb_device.specs.Delivery.{is_heard, both, heard_from, taken_sent};
 ghost use Rattle.usb_device.specs.declared.delivery.Heard.TheVariants.{NoAnswer};
-ghost use Rattle.usb_device.specs.AloneAttempts.{no_side, token_sent, ack_sent, is_taken, heard_pid, sent_to, answer_from, asked_from, RefusedFrom, after_token, heard_of_both, after_reply, side_of, forgot, heard_at, side_at, left_in, cut_in, RefusedAt};
+ghost use Rattle.usb_device.specs.AloneAttempts.{no_side, token_sent, ack_sent, is_taken, heard_pid, sent_to, answer_from, asked_from, with_asked, RefusedFrom, after_token, heard_of_both, after_reply, side_of, forgot, heard_at, side_at, left_in, cut_in, RefusedAt};
 
 use crate::answer::AnswerPid;
 use crate::device::Device;
@@ -42,6 +42,20 @@ pub struct DeviceSide {
     pub address_lost: bool,
     /// Its address then; None where no device was there.
     pub address: Option<u8>,
+}
+
+impl DeviceSide {
+    /// Of no device.
+    pub fn nobody() -> Self
+        ensures { result ≡ no_side }
+    {
+        DeviceSide {
+            acknowledged: false,
+            effect: Effect::Leaves,
+            address_lost: false,
+            address: None,
+        }
+    }
 }
 
 /// What is heard of one answer.
@@ -101,26 +115,29 @@ impl Device {
         }
     }
 
-    /// The host's data, where it sends some, and what the device asks of its ports.
+    /// The host's data, where it sends some; what the device asks of its ports is told.
     fn take_data(
         &mut self,
         payload: &Option<LentPacket<'_>>,
         deep: bool,
         heard: &mut Hearing,
-    ) -> Result<Effect, AllocError>
+        side: &mut DeviceSide,
+    ) -> Result<(), AllocError>
         ensures heard { OnOk result (heard.new
             ≡ both heard.old (heard_from (answer_from payload.now deep self.old))) }
         ensures after { OnOk result (self.new ≡ sent_to payload.now deep self.old) }
-        ensures asked { IfOk result (λ effect. effect ≡ asked_from payload.now deep self.old) }
+        ensures asked { side.new ≡ with_asked (asked_from payload.now deep self.old) side.old }
         ensures err { OnErr result (self.new ≡ self.old) }
         ensures refused { OnErr result (RefusedFrom payload.now deep self.old) }
     {
         match payload {
-            None => Ok(Effect::Leaves),
+            None => {
+                side.effect = Effect::Leaves;
+                Ok(())
+            }
             Some(sent) => {
-                let effect = self.effect(sent, deep);
-                self.take_sent(sent, deep, heard)?;
-                Ok(effect)
+                side.effect = self.effect(sent, deep);
+                self.take_sent(sent, deep, heard)
             }
         }
     }
@@ -142,26 +159,25 @@ impl Device {
         attempt: &HostSide<'_>,
         deep: bool,
         heard: &mut Hearing,
-    ) -> Result<DeviceSide, AllocError>
+        side: &mut DeviceSide,
+    ) -> Result<(), AllocError>
         ensures heard { OnOk result (heard.new ≡ heard_of_both attempt.now deep self.old) }
-        ensures side { IfOk result (λ side. side ≡ side_of attempt.now deep self.old) }
+        ensures side { OnOk result (side.new ≡ side_of attempt.now deep self.old) }
         ensures after { OnOk result (self.new ≡ after_reply attempt.now deep self.old) }
         ensures err { OnErr result (self.new ≡ after_token attempt.now deep self.old) }
         ensures refused { OnErr result
             (RefusedFrom attempt.now.payload deep (after_token attempt.now deep self.old)) }
     {
         self.take_token(attempt, deep, heard);
-        let effect = self.take_data(&attempt.payload, deep, heard)?;
+        self.take_data(&attempt.payload, deep, heard, side)?;
         let acknowledged = heard.is_taken(attempt.max);
         if acknowledged {
             self.take_ack(attempt, deep);
         }
-        Ok(DeviceSide {
-            acknowledged,
-            effect,
-            address_lost: acknowledged && self.awaits_address(),
-            address: Some(self.address()),
-        })
+        side.acknowledged = acknowledged;
+        side.address_lost = acknowledged && self.awaits_address();
+        side.address = Some(self.address());
+        Ok(())
     }
 
     /// The same, and its end.
@@ -170,32 +186,28 @@ impl Device {
         attempt: &HostSide<'_>,
         deep: bool,
         heard: &mut Hearing,
-    ) -> Result<DeviceSide, AllocError>
+        side: &mut DeviceSide,
+    ) -> Result<(), AllocError>
         ensures heard { OnOk result (heard.new ≡ heard_of_both attempt.now deep self.old) }
-        ensures side { IfOk result (λ side. side ≡ side_of attempt.now deep self.old) }
+        ensures side { OnOk result (side.new ≡ side_of attempt.now deep self.old) }
         ensures after { OnOk result (self.new ≡ forgot (after_reply attempt.now deep self.old)) }
         ensures err { OnErr result (self.new ≡ forgot (after_token attempt.now deep self.old)) }
         ensures refused { OnErr result
             (RefusedFrom attempt.now.payload deep (after_token attempt.now deep self.old)) }
     {
-        let side = self.exchange(attempt, deep, heard);
+        let made = self.exchange(attempt, deep, heard, side);
         self.own.attempt_over();
-        side
+        made
     }
 }
 
 /// What becomes of an attempt where no device is.
-fn nobody(heard: &mut Hearing) -> DeviceSide
+fn unheard(heard: &mut Hearing, side: &mut DeviceSide)
     ensures heard { heard.new ≡ NoAnswer }
-    ensures side { result ≡ no_side }
+    ensures side { side.new ≡ no_side }
 {
     heard.pid = HeardPid::Nothing;
-    DeviceSide {
-        acknowledged: false,
-        effect: Effect::Leaves,
-        address_lost: false,
-        address: None,
-    }
+    *side = DeviceSide::nobody();
 }
 
 impl Ports {
@@ -214,10 +226,11 @@ impl Ports {
         attempt: &HostSide<'_>,
         deep: bool,
         heard: &mut Hearing,
-    ) -> Result<DeviceSide, AllocError>
+        side: &mut DeviceSide,
+    ) -> Result<(), AllocError>
         ensures heard { OnOk result (heard.new
             ≡ heard_at attempt.now deep (device_there self.old path.now)) }
-        ensures side { IfOk result (λ side. side
+        ensures side { OnOk result (side.new
             ≡ side_at attempt.now deep (device_there self.old path.now)) }
         ensures ok { OnOk result
             (self.new ≡ changed (left_in attempt.now deep) self.old path.now) }
@@ -227,13 +240,15 @@ impl Ports {
             (RefusedAt attempt.now deep (device_there self.old path.now)) }
     {
         let Some((number, rest)) = path.split_first() else {
-            return Ok(nobody(heard));
+            unheard(heard, side);
+            return Ok(());
         };
         let i = usize::from(*number);
         if i == 0 || i > self.places.len() {
-            return Ok(nobody(heard));
+            unheard(heard, side);
+            return Ok(());
         }
-        self.places[i - 1].attempt_at(rest, attempt, deep, heard)
+        self.places[i - 1].attempt_at(rest, attempt, deep, heard, side)
     }
 }
 
@@ -246,10 +261,11 @@ impl Place {
         attempt: &HostSide<'_>,
         deep: bool,
         heard: &mut Hearing,
-    ) -> Result<DeviceSide, AllocError>
+        side: &mut DeviceSide,
+    ) -> Result<(), AllocError>
         ensures heard { OnOk result (heard.new
             ≡ heard_at attempt.now deep (plugged_in (stood self.old) path.now)) }
-        ensures side { IfOk result (λ side. side
+        ensures side { OnOk result (side.new
             ≡ side_at attempt.now deep (plugged_in (stood self.old) path.now)) }
         ensures ok { OnOk result (stood self.new
             ≡ changed_in (left_in attempt.now deep) (stood self.old) path.now) }
@@ -259,10 +275,13 @@ impl Place {
             (RefusedAt attempt.now deep (plugged_in (stood self.old) path.now)) }
     {
         match &mut self.device {
-            None => Ok(nobody(heard)),
+            None => {
+                unheard(heard, side);
+                Ok(())
+            }
             Some(device) => match path {
-                [] => device.attempt(attempt, deep, heard),
-                [_, ..] => device.ports.attempt_at(path, attempt, deep, heard),
+                [] => device.attempt(attempt, deep, heard, side),
+                [_, ..] => device.ports.attempt_at(path, attempt, deep, heard, side),
             },
         }
     }

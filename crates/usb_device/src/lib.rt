@@ -9,6 +9,8 @@
 //!   devices that come before the one whose sink was to grow (*stopped*). `Holders` is the index of a tree: who holds
 //!   each address among the devices that packets reach, and whether one is held twice (`IsIndexOf`); `forget` and
 //!   `note` keep it so around any change at one path, and cost what stands there.
+//! - `attempt_at` makes a whole attempt, of which nothing is damaged, at the device at a path: it is the row of its
+//!   packets there, and what became of them is told; all others are as they were.
 //! - `child_mut` lends the device on a port. `DeviceSpec` keeps the rules of a device's keys, and `Devices` tells them
 //!   of each of its devices (`IsSpec`).
 //! - Laws (`src/laws.rt`): whole attempts with the device that is spoken to (`attempt_laws`), packets that are for none

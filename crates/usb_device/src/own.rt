@@ -353,7 +353,7 @@ impl Own {
         ensures { (answer_with result room.new, self.new)
             ≡ received self.old (row_of ports.now) (token kind addr ep) }
     {
-        if self.spec.is_silent() {
+        if self.is_silent() {
             return None;
         }
         self.attempt_over();
@@ -365,9 +365,16 @@ impl Own {
     pub fn take_ack(&mut self)
         ensures { self.new ≡ after_ack self.old }
     {
-        if !self.spec.is_silent() {
+        if !self.is_silent() {
             self.acknowledged();
         }
+    }
+
+    /// Whether it never answers.
+    fn is_silent(&self) -> bool
+        ensures { result ≡ self.now.spec.silent }
+    {
+        self.spec.is_silent()
     }
 
     /// A token, which is for this device where it has its address.

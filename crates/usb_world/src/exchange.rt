@@ -23,7 +23,7 @@ use crate::wire::{Mark, Outgoing, flipped, harm_to, mark_of, marked};
 use crate::{Attempt, Outcome};
 use arrayvec::ArrayVec;
 use std::alloc::AllocError;
-use usb_device::{Content, DeviceSide, HeardPid, Hearing, HostSide, LentPacket, Ports};
+use usb_device::{AnswerPid, Content, DeviceSide, HeardPid, Hearing, HostSide, LentPacket, Ports};
 use usb_packet::{Packet, encode, one_flipped_bit};
 
 /// What the devices' answers to an attempt are together.
@@ -46,7 +46,12 @@ fn put_answer(heard: Hearing, answer: &mut ExchangeAnswer)
     match pid {
         HeardPid::Nothing => *answer = ExchangeAnswer::Nothing,
         HeardPid::Collision => *answer = ExchangeAnswer::Collision,
-        HeardPid::One(pid) => *answer = ExchangeAnswer::One(pid.into_packet(bytes)),
+        HeardPid::One(AnswerPid::Ack) => *answer = ExchangeAnswer::One(Packet::Ack),
+        HeardPid::One(AnswerPid::Nak) => *answer = ExchangeAnswer::One(Packet::Nak),
+        HeardPid::One(AnswerPid::Stall) => *answer = ExchangeAnswer::One(Packet::Stall),
+        HeardPid::One(AnswerPid::Data(toggle)) => {
+            *answer = ExchangeAnswer::One(Packet::Payload { toggle, bytes });
+        }
     }
 }
 
@@ -147,20 +152,21 @@ fn exchange_whole(
     put_payload(attempt, None, &mut exchange.payload);
     let mut heard = Hearing::nothing();
     let host = host_side(attempt, &exchange.payload);
-    let side = roots.attempt_at(path, &host, is_deep(path), &mut heard)?;
+    let mut side = DeviceSide::nobody();
+    roots.attempt_at(path, &host, is_deep(path), &mut heard, &mut side)?;
     put_answer(heard, &mut exchange.answer);
     exchange.answer_mark = Mark::Whole;
     let place = answer_place(&exchange.payload) + 1;
     put_reply(attempt, None, place, side.acknowledged, &mut exchange.reply);
     exchange.address_lost = side.address_lost;
     exchange.change_cleared = side.effect.clears_change();
-    Ok(keeps_address(port, side, attempt.addr))
+    Ok(keeps_address(port, &side, attempt.addr))
 }
 
 /// Whether a device that was at an address still is, and asked nothing of its ports that changes who
 /// is reached, but for those on its port of a number.
-fn keeps_address(port: u8, side: DeviceSide, address: u8) -> bool
-    ensures { result ≡ keeps_address port side address }
+fn keeps_address(port: u8, side: &DeviceSide, address: u8) -> bool
+    ensures { result ≡ keeps_address port side.now address }
 {
     side.effect.keeps_others(port) && side.address == Some(address)
 }

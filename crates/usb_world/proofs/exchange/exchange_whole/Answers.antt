@@ -15,18 +15,18 @@ cut_short c = record {
   deep = c.is_deep.result;
   host_is = c.host_side-host.ensures;
   deep_is = c.is_deep.ensures;
-  ports = c.in_err-side.ensures.err;
-  refused = c.in_err-side.ensures.refused;
+  ports = c.in_err-attempt_at.ensures.err;
+  refused = c.in_err-attempt_at.ensures.refused;
 }
 
-pub returns-in_err-side-clause-plugged : goal.returns-in_err-side-clause-plugged
-returns-in_err-side-clause-plugged c = cut_plugged c.args.attempt.now _ _ (walk_over _ _ _ _ _ c.requires.way c.requires.alone (cut_short c))
+pub returns-in_err-attempt_at-clause-plugged : goal.returns-in_err-attempt_at-clause-plugged
+returns-in_err-attempt_at-clause-plugged c = cut_plugged c.args.attempt.now _ _ (walk_over _ _ _ _ _ c.requires.way c.requires.alone (cut_short c))
 
-pub returns-in_err-side-clause-settled : goal.returns-in_err-side-clause-settled
-returns-in_err-side-clause-settled c = over_settled _ _ (walk_over _ _ _ _ _ c.requires.way c.requires.alone (cut_short c))
+pub returns-in_err-attempt_at-clause-settled : goal.returns-in_err-attempt_at-clause-settled
+returns-in_err-attempt_at-clause-settled c = over_settled _ _ (walk_over _ _ _ _ _ c.requires.way c.requires.alone (cut_short c))
 
-pub returns-in_err-side-clause-cut : goal.returns-in_err-side-clause-cut
-returns-in_err-side-clause-cut c = on_err c.from_residual.result (walk_cut _ _ _ _ _ c.requires.way c.requires.alone (cut_short c))
+pub returns-in_err-attempt_at-clause-cut : goal.returns-in_err-attempt_at-clause-cut
+returns-in_err-attempt_at-clause-cut c = on_err c.from_residual.result (walk_cut _ _ _ _ _ c.requires.way c.requires.alone (cut_short c))
 
 abbrev made : (c : goal.After-keeps_address) → Exchange
 made c = record {
@@ -35,11 +35,11 @@ made c = record {
   answer = c.put_answer.new.answer;
   answer_mark = Whole;
   reply = c.put_reply.new.reply;
-  address_lost = c.in_ok-side.side.address_lost;
+  address_lost = c.attempt_at.new.side.address_lost;
   change_cleared = c.clears_change-exchange.result;
 }
 
-walked : (c : goal.After-keeps_address) → Walked c.args.attempt.now c.args.roots.now c.attempt_at.new.self c.args.path.now (made c) c.attempt_at.new.heard c.in_ok-side.side
+walked : (c : goal.After-keeps_address) → Walked c.args.attempt.now c.args.roots.now c.attempt_at.new.self c.args.path.now (made c) c.attempt_at.new.heard c.attempt_at.new.side
 walked c = record {
   token = c.put_token.ensures.value;
   payload = c.put_payload.ensures.value;
@@ -47,12 +47,12 @@ walked c = record {
   deep = c.is_deep.result;
   host_is = c.host_side-host.ensures;
   deep_is = c.is_deep.ensures;
-  heard = c.in_ok-side.ensures.heard;
-  told = c.in_ok-side.ensures.side;
-  ports = c.in_ok-side.ensures.ok;
+  heard = c.in_ok-attempt_at.ensures.heard;
+  told = c.in_ok-attempt_at.ensures.side;
+  ports = c.in_ok-attempt_at.ensures.ok;
   answer = c.put_answer.ensures;
   mark = refl;
-  reply = c.put_reply.ensures.value ∙ ap (λ n. marked_some None (n + 1) c.args.attempt.now.pre (ack_if c.in_ok-side.side.acknowledged)) c.answer_place-place.ensures.value;
+  reply = c.put_reply.ensures.value ∙ ap (λ n. marked_some None (n + 1) c.args.attempt.now.pre (ack_if c.attempt_at.new.side.acknowledged)) c.answer_place-place.ensures.value;
   lost = refl;
   cleared = c.clears_change-exchange.ensures;
 }
