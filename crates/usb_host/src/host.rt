@@ -34,7 +34,7 @@ pub enum Round {
 }
 
 /// The host of a bus.
-#[derive(Drop)]
+#[derive(Debug, Drop)]
 pub struct Host<B: Bus> {
     pub(crate) alloc: Global,
     pub(crate) bus: B,

@@ -54,6 +54,7 @@ impl<B: Bus> Host<B> {
         ensures owned { KeepsOwned self.old result self.new }
         ensures sound { KeepsSound self.old result self.new }
     {
+        // for the checker: the entries and the addresses agree
         let _table = &self.table;
         let port = KnownPort {
             port: HubPort::Root(number),
@@ -91,6 +92,7 @@ impl<B: Bus> Host<B> {
         ensures looks { IfOk result (λ round. LooksOnceMore path.now round self.old self.new) }
         ensures keeps { PartKeeps self.old result self.new }
     {
+        // for the checker: a path has one to seven numbers
         let _numbers = path.numbers();
         let Some(port) = self.port_at(path) else {
             return Ok(Round::Quiet);
@@ -105,6 +107,7 @@ impl<B: Bus> Host<B> {
         ensures some { IfSome result (λ port. StandsAt path.now port self.now) }
         ensures none { IfNone result (StandsNowhere path.now self.now) }
     {
+        // for the checker: a path has one to seven numbers
         let _numbers = path.numbers();
         let known = self.table.port_at(path)?;
         match known.port {
@@ -267,6 +270,7 @@ impl<B: Bus> Host<B> {
         ensures sound { DropsSound hub self.old result self.new }
     {
         let lost = self.disable_upward(hub)?;
+        // for the checker: a path has one to seven numbers
         let _numbers = lost.numbers();
         self.forget(&lost);
         Ok(self.table.insert(lost, Finding::Refused(Cause::Lost))?)
@@ -280,7 +284,7 @@ impl<B: Bus> Host<B> {
         ensures known { IfOk result (λ path. IsSome (known_port path self.old.entries)) }
         ensures climbs { Climbs first self.old result self.new }
     {
-        // (a path's numbers say that it has at most seven)
+        // for the checker: a path has one to seven numbers
         let _numbers = first.numbers();
         let mut path = first;
         'up: loop {

@@ -94,6 +94,7 @@ impl<B: Bus> Host<B> {
         ensures polls { ServesHub hub.now self.old result self.new }
         ensures keeps { HubKeeps hub.now self.old result self.new }
     {
+        // for the checker: a path has one to seven numbers
         let _numbers = hub.numbers();
         match self.table.poll(&mut self.bus, hub) {
             Ok(None) => Ok(Round::Quiet),

@@ -4,7 +4,7 @@ use usb_enum::Finding;
 use usb_port::PortPath;
 
 /// What was found at each port, by rising path.
-#[derive(Drop)]
+#[derive(Debug, Drop)]
 pub struct Tree {
     entries: Vec<(PortPath, Finding)>,
 }

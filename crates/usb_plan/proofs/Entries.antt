@@ -1,16 +1,11 @@
 -- The keys of a table by its entries.
-use Rattle.std.proofs.Common.{◌≡◌, ℕ, List, [], ◌∷◌, map, String, Global, string_bytes, refl, ap, ◌&&◌, ◌||◌, Bor}
+use Rattle.std.proofs.Common.{◌≡◌, ℕ, List, [], ◌∷◌, map, String, Global, string_bytes, refl, ap, ◌||◌, Bor}
 use Rattle.std.specs.List.{list_any, list_all}
 use Rattle.std.specs.Str.{bytes_eq}
 use Rattle.std.specs.Map.{keys_of}
 use Rattle.toml.specs.declared.value.Value.{Value}
 use Rattle.toml.specs.View.{members_view}
 use Rattle.usb_plan.specs.Keys.{only_named}
-
-pub only_named-view : (names : List (List ℕ)) (es : List (String Global × Value)) → only_named names (members_view es) ≡ list_all (λ k. list_any (bytes_eq (string_bytes k)) names) (keys_of es)
-unfolding only_named
-only_named-view names [] = refl
-only_named-view names (e ∷ es) = ap (λ b. list_any (bytes_eq (string_bytes e.0)) names && b) (only_named-view names es)
 
 any_map : (k : List ℕ) (names : List (Bor (List ℕ))) → list_any (bytes_eq k) (map (λ n. n.now) names) ≡ list_any (λ n. bytes_eq k n.now) names
 any_map k [] = refl

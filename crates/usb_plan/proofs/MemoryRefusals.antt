@@ -36,9 +36,6 @@ pub unless_err : {A E : Type 0} (m : E) (r s : Result A E) (k : E) → EqualUnle
 unless_err m (Ok y) s k h e = cc
 unless_err m (Err l) s k h e = let same : l ≡ k = cc e in rw (← same) h
 
-pub unless_same : {A E : Type 0} (m : E) (r s : Result A E) → r ≡ s → EqualUnless m r s
-unless_same m r s h = unless_equal m r s (λ _. h)
-
 pub unless_then : {A E : Type 0} (m : E) (r t s : Result A E) → EqualUnless m r t → EqualUnless m t s → EqualUnless m r s
 unless_then m r t s h g = unless_equal m r s (λ ne. let first = equal_unless m r t h ne in first ∙ equal_unless m t s g (λ e. ne (first ∙ e)))
 

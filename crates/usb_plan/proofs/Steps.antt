@@ -31,9 +31,6 @@ pub AtMost-unless : (n : ℕ) (read texts : Result (List (List ℕ)) EntryFault)
 AtMost-unless n (Ok xs) texts same h = rw same at h
 AtMost-unless n (Err k) texts same h = tt
 
-pub AtMost-room : (n count : ℕ) (texts : Result (List (List ℕ)) EntryFault) (xs : List (List ℕ)) → AtMost n texts → n < count → texts ≡ Ok xs → length xs < count
-AtMost-room n count texts xs h lt is = let few : length xs ≤ n = rw is at h in omega arith
-
 -- the data of the values from a place on
 pub view_drop : (vs : List Value) (i : ℕ) (v : Value) → i < length vs → v ≡ get_or vs i v → map view (drop i vs) ≡ view v ∷ map view (drop (i + 1) vs)
 view_drop vs i v lt is = ap (map view) (drop_more vs i v lt) ∙ rw (← is)

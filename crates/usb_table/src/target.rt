@@ -15,7 +15,7 @@ pub(crate) fn target_to(device: &Accepted, below_hub: bool) -> Target
     ensures fits { IsTarget result }
     ensures wide { 8 ≤ result.max }
 {
-    // an address is 1 to 127
+    // for the checker: an address is 1 to 127
     let _address = device.address.number();
     device.target(below_hub)
 }
