@@ -23,7 +23,7 @@ use Rattle.usb_world.specs.WayEffects.{IsNew, resets_at, packet_spares}
 use Rattle.usb_world.specs.SanePorts.{IsSane}
 use Rattle.usb_world.specs.AttemptPackets.{after_sent, after_attempt, calls_on, IsTokenFor, IsAckOut, IfOut, IsAttemptAt, sent_resets, sent_spares, attempt_resets, attempt_spares, IsSettled}
 use Rattle.usb_world.proofs.Booleans.{no, and_false}
-use Rattle.usb_world.proofs.PacketEffects.{packet_new, packet_reach, packet_kept}
+use Rattle.usb_world.proofs.PacketEffects.{packet_way, packet_kept}
 use Rattle.usb_world.proofs.PortCalls.{KeepsPending}
 use Rattle.usb_world.proofs.WayChanges.{SamePorts, same_ports, same_head, passed_ports}
 use Rattle.usb_world.proofs.SanePorts.{sane_packet, sane_forgotten}
@@ -117,11 +117,11 @@ calm_sent_spares (Some q) c k j p = calm_spares q c false k j p
 
 pub sent_reach : (o : Option Sent) (k : Ports) (j : ℕ) (p : List ℕ) → sent_resets o k j p ≡ false → reach_at (after_sent o k) j p ≡ true → reach_at k j p ≡ true
 sent_reach None k j p f h = h
-sent_reach (Some q) k j p f h = packet_reach q false k j p f h
+sent_reach (Some q) k j p f h = (packet_way q false k j p).1 f h
 
 sent_new : (o : Option Sent) (k : Ports) (j : ℕ) (p : List ℕ) → sent_resets o k j p ≡ true → IsNew (place_at (after_sent o k) j p)
 sent_new None k j p h = no h
-sent_new (Some q) k j p h = packet_new q false k j p h
+sent_new (Some q) k j p h = (packet_way q false k j p).2 h
 
 sent_kept : (o : Option Sent) (k : Ports) (j : ℕ) (p : List ℕ) → sent_spares o k j p ≡ true → KeepsPending k (after_sent o k) j p
 sent_kept None k j p f = (λ h. h, λ h. h)
