@@ -12,7 +12,7 @@ use Rattle.usb_device.specs.declared.transfer.RememberedPacket.{RememberedPacket
 use Rattle.usb_device.specs.declared.transfer.RememberedPacket.TheVariants.{Nothing, SetupSeen}
 use Rattle.usb_device.specs.Rows.{State, Reply, received, unread, forgotten, answered, unless_busy, in_row, in_other_row, bulk_ack_row, token_row, after_memory, awaits_control, ends_with_address, awaits_address}
 use Rattle.usb_device.specs.Effect.{asks, asked_by_data}
-use Rattle.usb_device.specs.Tree.{Ports, ended, vacant, taken, Place, empty, full, row_of, reach, reach_at, state_at, place_at}
+use Rattle.usb_device.specs.Tree.{Ports, Place, empty, full, row_of, reach, reach_at, state_at, place_at}
 use Rattle.usb_device.specs.Delivery.{hears, reply_to, answer_of, asked_by, effect_of}
 use Rattle.usb_device.proofs.Interface.{keeps-received}
 use Rattle.usb_world.specs.declared.damage.Damage.{Damage}
@@ -27,6 +27,8 @@ use Rattle.usb_world.specs.World.{World}
 use Rattle.usb_world.specs.Steps.{due_from, ready, damage_in, with_attempt, Step, attempt, root_call, event, report, after, Course}
 use Rattle.usb_world.specs.Courses.{address_at, Own, Injective}
 use Rattle.usb_world.specs.Addresses.{is_setup, NoneTakes, MovesData, GivesNoAddress}
+use Rattle.usb_world.specs.WayEffects.{effect_resets}
+use Rattle.usb_world.proofs.OnWays.{resets_if}
 use Rattle.usb_world.proofs.AwaitedAcks.{none_awaited_answer, data_no_control_in}
 use Rattle.usb_world.proofs.Booleans.{no, and_false}
 use Rattle.usb_world.proofs.PacketEffects.{packet_state, heard_state}
@@ -192,22 +194,12 @@ data_effect q c deep s r = heard (hears q deep s)
     heard true = data_asks q.content c s r
     heard false = refl
 
-data_resets : (q : Sent) → IsDataOut q.content → (deep : Bool) (k : Ports) → ((i : ℕ) (e : List ℕ) → If WaitsNone (state_at k i e))
-    → (j : ℕ) (p : List ℕ) → resets_at q deep k j p ≡ false
-unfolding resets_at state_at
-data_resets q c deep ended h j p = refl
-data_resets q c deep (vacant b k) h zero p = refl
-data_resets q c deep (vacant b k) h (suc j) p = data_resets q c deep k (λ i e. h (suc i) e) j p
-data_resets q c deep (taken b s a k) h zero [] = refl
-data_resets q c deep (taken b s a k) h zero (zero ∷ p) = refl
-data_resets q c deep (taken b s a k) h zero (suc j ∷ p) =
-    rw (data_effect q c deep s (h zero []), data_resets q c true a (λ i e. h zero (suc i ∷ e)) j p) (and_false b.enable)
-data_resets q c deep (taken b s a k) h (suc j) p = data_resets q c deep k (λ i e. h (suc i) e) j p
-
 data_sent : (o : Option Sent) → IfOut IsDataOut o → (k : Ports) → ((i : ℕ) (e : List ℕ) → If WaitsNone (state_at k i e))
     → (j : ℕ) (p : List ℕ) → sent_resets o k j p ≡ false
 data_sent None c k h j p = refl
-data_sent (Some q) c k h j p = data_resets q c false k h j p
+data_sent (Some q) c k h j p =
+    resets_if q false k j p
+    (λ e m r t z at dp a. ap (λ x. effect_resets x a m r) (data_effect q c dp t (subst (If WaitsNone) at (h j e))))
 
 -- The host's ACK, where no device awaits it to take an address
 

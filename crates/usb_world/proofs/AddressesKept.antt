@@ -36,14 +36,14 @@ use Rattle.usb_world.specs.declared.wire.Mark.TheVariants as mark
 use Rattle.usb_world.specs.Wire.{mark_of, harm_to, marked, marked_some}
 use Rattle.usb_world.specs.Exchange.{token_of, payload_of, reply_of, sent_as, goes_out, token_out, payload_out, reply_out, heard_all, mark_in, place_of_answer, ports_in}
 use Rattle.usb_device.specs.View.{state_there}
-use Rattle.usb_world.specs.Paths.{address_of, is_way, Two}
+use Rattle.usb_world.specs.Paths.{address_of, Two}
 use Rattle.usb_world.specs.WayEffects.{resets_at, call_resets}
 use Rattle.usb_world.specs.AttemptPackets.{after_sent, answers_to, after_attempt, deep_at, sent_resets, attempt_resets}
 use Rattle.usb_world.specs.World.{World}
 use Rattle.usb_world.specs.Steps.{happened, way_of, names_path, took, due_from, ready, damage_in, with_attempt, event_taken, Step, attempt, root_call, event, report, after}
 use Rattle.usb_world.specs.Courses.{is_made, made_resets, root_resets, resets, address_at, Own, Injective, is_quiet, QuietStep, quiet_data}
 use Rattle.usb_world.proofs.Booleans.{no, both, and_of, decided, neither_of}
-use Rattle.usb_world.proofs.WayChanges.{changed_apart}
+use Rattle.usb_world.proofs.WayChanges.{changed_there}
 use Rattle.usb_world.proofs.PortCalls.{call_state}
 use Rattle.usb_world.proofs.PacketEffects.{packet_state, heard_state}
 use Rattle.usb_world.proofs.AttemptPackets.{forgotten_state, calm_sent, token_out as token_calm_out}
@@ -126,12 +126,7 @@ own_not_twice f inj w own = split (decided (is_twice (held w.roots)))
 -- Events
 
 replaced_state : (o : Option Spec) (k : Ports) (x p : List ℕ) → way_of x p ≡ false → state_there (changed (replaced o) k x) p ≡ state_there k p
-unfolding is_way
-replaced_state o k x [] w = refl
-replaced_state o k x (zero ∷ p) w = refl
-replaced_state o k [] (suc j ∷ p) w = refl
-replaced_state o k (zero ∷ x) (suc j ∷ p) w = refl
-replaced_state o k (suc i ∷ x) (suc j ∷ p) w = (changed_apart (replaced o) k i x j p w).1
+replaced_state o k x p w = (changed_there (replaced o) k x p w).2
 
 happened_state : (a : Action) (d : List Spec) (k : Ports) (p : List ℕ) → names_path d a p ≡ false → state_there (happened a d k) p ≡ state_there k p
 happened_state a d k p =

@@ -1,5 +1,5 @@
 -- What an attempt's packets do to reachable, live and pending.
-use Rattle.std.proofs.Common.{◌≡◌, ℕ, zero, suc, ◌||◌, not, if◌then◌else◌, Bool, true, false, List, [], ◌∷◌, Option, None, Some, option_map, refl, ap, sym, ◌∙◌}
+use Rattle.std.proofs.Common.{◌≡◌, ℕ, zero, suc, if◌then◌else◌, Bool, true, false, List, [], ◌∷◌, Option, None, Some, option_map, refl, ap, sym, ◌∙◌}
 use Rattle.usb_packet.specs.declared.Packet.{Packet}
 use Rattle.usb_packet.specs.declared.Packet.TheVariants.{Token, Payload, Ack, Sof, Nak, Stall, Pre}
 use Rattle.usb_port.specs.PortState.{PortState, powered_off}
@@ -19,11 +19,12 @@ use Rattle.usb_world.specs.declared.wire.Mark.{Mark}
 use Rattle.usb_world.specs.declared.wire.Mark.TheVariants as mark
 use Rattle.usb_world.specs.Exchange.{sent_as}
 use Rattle.usb_world.specs.Paths.{live_at, pend_at}
-use Rattle.usb_world.specs.WayEffects.{IsNew, resets_at, packet_spares}
+use Rattle.usb_world.specs.WayEffects.{IsNew, effect_resets, effect_spares}
 use Rattle.usb_world.specs.SanePorts.{IsSane}
 use Rattle.usb_world.specs.AttemptPackets.{after_sent, after_attempt, calls_on, IsTokenFor, IsAckOut, IfOut, IsAttemptAt, sent_resets, sent_spares, attempt_resets, attempt_spares, IsSettled}
-use Rattle.usb_world.proofs.Booleans.{no, and_false}
-use Rattle.usb_world.proofs.PacketEffects.{packet_new, packet_reach, packet_kept}
+use Rattle.usb_world.proofs.Booleans.{no}
+use Rattle.usb_world.proofs.OnWays.{spares_if, resets_if}
+use Rattle.usb_world.proofs.PacketEffects.{packet_way, packet_kept}
 use Rattle.usb_world.proofs.PortCalls.{KeepsPending}
 use Rattle.usb_world.proofs.WayChanges.{SamePorts, same_ports, same_head, passed_ports}
 use Rattle.usb_world.proofs.SanePorts.{sane_packet, sane_forgotten}
@@ -65,26 +66,6 @@ ack_calm (Whole Stall) h s = elim h [ ]
 ack_calm (Whole Pre) h s = elim h [ ]
 ack_calm Broken h s = refl
 
-pub calm_resets : (q : Sent) → IsCalm q → (deep : Bool) (k : Ports) (j : ℕ) (p : List ℕ) → resets_at q deep k j p ≡ false
-unfolding resets_at
-calm_resets q c deep ended j p = refl
-calm_resets q c deep (vacant b k) zero p = refl
-calm_resets q c deep (vacant b k) (suc j) p = calm_resets q c deep k j p
-calm_resets q c deep (taken b s a k) zero [] = refl
-calm_resets q c deep (taken b s a k) zero (zero ∷ p) = refl
-calm_resets q c deep (taken b s a k) zero (suc j ∷ p) = rw (c deep s, calm_resets q c true a j p) (and_false b.enable)
-calm_resets q c deep (taken b s a k) (suc j) p = calm_resets q c deep k j p
-
-pub calm_spares : (q : Sent) → IsCalm q → (deep : Bool) (k : Ports) (j : ℕ) (p : List ℕ) → packet_spares q deep k j p ≡ true
-unfolding packet_spares
-calm_spares q c deep ended j p = refl
-calm_spares q c deep (vacant b k) zero p = refl
-calm_spares q c deep (vacant b k) (suc j) p = calm_spares q c deep k j p
-calm_spares q c deep (taken b s a k) zero [] = refl
-calm_spares q c deep (taken b s a k) zero (zero ∷ p) = refl
-calm_spares q c deep (taken b s a k) zero (suc j ∷ p) = rw (c deep s, calm_spares q c true a j p) (elim b.enable as (λ x. (not x || true) ≡ true) [ true ↦ refl | false ↦ refl ])
-calm_spares q c deep (taken b s a k) (suc j) p = calm_spares q c deep k j p
-
 -- a packet that goes out, or not, and asks nothing
 abbrev pub CalmOut : Option Sent → Type 0
 CalmOut None = Unit {0}
@@ -107,21 +88,23 @@ ack_out (Some q) h = calm_content q (ack_calm q.content h)
 
 pub calm_sent : (o : Option Sent) → CalmOut o → (k : Ports) (j : ℕ) (p : List ℕ) → sent_resets o k j p ≡ false
 calm_sent None c k j p = refl
-calm_sent (Some q) c k j p = calm_resets q c false k j p
+calm_sent (Some q) c k j p =
+    resets_if q false k j p (λ e m r t z at dp a. ap (λ x. effect_resets x a m r) (c dp t))
 
 calm_sent_spares : (o : Option Sent) → CalmOut o → (k : Ports) (j : ℕ) (p : List ℕ) → sent_spares o k j p ≡ true
 calm_sent_spares None c k j p = refl
-calm_sent_spares (Some q) c k j p = calm_spares q c false k j p
+calm_sent_spares (Some q) c k j p =
+    spares_if q false k j p (λ e m r t z at dp. ap (λ x. effect_spares x m r) (c dp t))
 
 -- One packet
 
 pub sent_reach : (o : Option Sent) (k : Ports) (j : ℕ) (p : List ℕ) → sent_resets o k j p ≡ false → reach_at (after_sent o k) j p ≡ true → reach_at k j p ≡ true
 sent_reach None k j p f h = h
-sent_reach (Some q) k j p f h = packet_reach q false k j p f h
+sent_reach (Some q) k j p f h = (packet_way q false k j p).1 f h
 
 sent_new : (o : Option Sent) (k : Ports) (j : ℕ) (p : List ℕ) → sent_resets o k j p ≡ true → IsNew (place_at (after_sent o k) j p)
 sent_new None k j p h = no h
-sent_new (Some q) k j p h = packet_new q false k j p h
+sent_new (Some q) k j p h = (packet_way q false k j p).2 h
 
 sent_kept : (o : Option Sent) (k : Ports) (j : ℕ) (p : List ℕ) → sent_spares o k j p ≡ true → KeepsPending k (after_sent o k) j p
 sent_kept None k j p f = (λ h. h, λ h. h)

@@ -1,5 +1,5 @@
 -- A port of which nothing is asked keeps its change bits and its power, where the device above it is still reached.
-use Rattle.std.proofs.Common.{◌≡◌, ℕ, zero, suc, ◌&&◌, ◌||◌, not, Bool, true, false, List, [], ◌∷◌, ◌++◌, Option, None, Some, refl, ap, sym, subst, ◌∙◌}
+use Rattle.std.proofs.Common.{◌≡◌, ℕ, zero, suc, ◌&&◌, ◌||◌, not, Bool, true, false, List, [], ◌∷◌, ◌++◌, Option, None, Some, refl, ap, sym, subst, ◌∙◌, inl, inr}
 use Rattle.std.proofs.lemmas.Option.{same_Some}
 use Rattle.usb_port.specs.PortState.{PortState, plugged, unplugged}
 use Rattle.usb_port.specs.declared.call.PortCall.{PortCall}
@@ -9,20 +9,22 @@ use Rattle.usb_device.specs.declared.effect.Effect.TheVariants.{Leaves, Calls, P
 use Rattle.usb_port.specs.Calls.{is_reset}
 use Rattle.usb_device.specs.Rows.{fresh}
 use Rattle.usb_device.specs.Spec.{Spec}
-use Rattle.usb_device.specs.Tree.{Ports, ended, vacant, taken, called, replaced, changed, changed_at, port_at, place_at}
+use Rattle.usb_device.specs.Tree.{Ports, ended, vacant, taken, Place, empty, full, before, port_of, called, replaced, changed, changed_at, port_at, place_at}
 use Rattle.usb_device.specs.Delivery.{effect_of}
 use Rattle.usb_device.specs.View.{port_there}
 use Rattle.usb_world.specs.declared.event.Action.{Action}
 use Rattle.usb_world.specs.declared.types.Attempt.{Attempt}
 use Rattle.usb_world.specs.Exchange.{token_out, payload_out, reply_out, ports_in}
-use Rattle.usb_world.specs.Paths.{is_way, on_way, same_number}
+use Rattle.usb_world.specs.Paths.{is_way, same_number}
 use Rattle.usb_world.specs.AttemptPackets.{after_sent, after_attempt, sent_resets, IsAttemptAt}
 use Rattle.usb_world.specs.WayEffects.{effect_resets, resets_at, leaves_port, way_leaves, takes_reset}
 use Rattle.usb_world.specs.World.{World}
 use Rattle.usb_world.specs.Steps.{happened, way_of, names_path, took, ready, damage_in, with_attempt, Course}
 use Rattle.usb_world.specs.Courses.{made_resets, root_resets}
 use Rattle.usb_world.specs.PortRequests.{sent_leaves, made_leaves, root_leaves, leaves_step, LeavesPort, row_reached, StillSet}
-use Rattle.usb_world.proofs.Booleans.{no, both, and_false, or_right, not_true}
+use Rattle.usb_world.proofs.Booleans.{no, both, and_false, or_right, not_true, decided}
+use Rattle.usb_world.proofs.WayChanges.{SamePorts, same_ports, changed_there, root_there}
+use Rattle.usb_world.proofs.RootResets.{is_same}
 use Rattle.usb_world.proofs.PacketPlaces.{way_ports}
 use Rattle.usb_world.proofs.AttemptPackets.{token_out as token_calm, ack_out as ack_calm, forgotten_ports}
 use Rattle.usb_world.proofs.LiftedSteps.{OverSteps, happened_by, over_course}
@@ -50,61 +52,51 @@ still_plugged low c b h =
     subst (λ x. StillSet x (Some (plugged low (unplugged c)))) (same_Some c b h)
     (record { now = plugged low (unplugged c); stands = refl; power = λ e. e; connection = λ e. or_right c.power (c.power || c.connection_changed) (or_right c.power c.connection_changed e); enable = λ e. e; reset = λ e. e })
 
-row_event : (o : Option Spec) (k : Ports) (i : ℕ) (e : List ℕ) (j : ℕ) (b : PortState) → port_at k j [] ≡ Some b → StillSet b (port_at (changed_at (replaced o) k i e) j [])
-unfolding changed_at port_at fresh
-row_event o ended i e j b h = still_same b None h
-row_event None (vacant c k) zero [] zero b h = still_unplugged c b h
-row_event (Some s) (vacant c k) zero [] zero b h = still_plugged s.low c b h
-row_event None (vacant c k) zero [] (suc j) b h = still_same b _ h
-row_event (Some s) (vacant c k) zero [] (suc j) b h = still_same b _ h
-row_event o (vacant c k) zero (n ∷ e) j b h = still_same b _ h
-row_event o (vacant c k) (suc i) e zero b h = still_same b _ h
-row_event o (vacant c k) (suc i) e (suc j) b h = row_event o k i e j b h
-row_event None (taken c s a k) zero [] zero b h = still_unplugged c b h
-row_event (Some t) (taken c s a k) zero [] zero b h = still_plugged t.low c b h
-row_event None (taken c s a k) zero [] (suc j) b h = still_same b _ h
-row_event (Some t) (taken c s a k) zero [] (suc j) b h = still_same b _ h
-row_event o (taken c s a k) zero (zero ∷ e) j b h = still_same b _ h
-row_event o (taken c s a k) zero (suc m ∷ e) zero b h = still_same b _ h
-row_event o (taken c s a k) zero (suc m ∷ e) (suc j) b h = still_same b _ h
-row_event o (taken c s a k) (suc i) e zero b h = still_same b _ h
-row_event o (taken c s a k) (suc i) e (suc j) b h = row_event o k i e j b h
+-- the port at which something is plugged or unplugged
+still_put : (o : Option Spec) (x : Place) (k : Ports) (b : PortState)
+    → Some (port_of x) ≡ Some b → StillSet b (port_at (before (replaced o x) k) zero [])
+unfolding port_at fresh
+still_put None x k b h = still_unplugged (port_of x) b h
+still_put (Some s) x k b h = still_plugged s.low (port_of x) b h
 
-deep_event : (o : Option Spec) (k : Ports) (i : ℕ) (e : List ℕ) (j : ℕ) (p : List ℕ) (n : ℕ) (b : PortState) → on_way i e j p ≡ false
-    → port_at k j (p ++ (n ∷ [])) ≡ Some b → StillSet b (port_at (changed_at (replaced o) k i e) j (p ++ (n ∷ [])))
-unfolding changed_at port_at is_way
-deep_event o ended i e j p n b w h = still_same b None h
-deep_event o (vacant c k) zero [] zero p n b w h = no (sym w)
-deep_event None (vacant c k) zero [] (suc j) p n b w h = still_same b _ h
-deep_event (Some s) (vacant c k) zero [] (suc j) p n b w h = still_same b _ h
-deep_event o (vacant c k) zero (m ∷ e) j p n b w h = still_same b _ h
-deep_event o (vacant c k) (suc i) e zero [] n b w h = still_same b _ h
-deep_event o (vacant c k) (suc i) e zero (x ∷ p) n b w h = still_same b _ h
-deep_event o (vacant c k) (suc i) e (suc j) p n b w h = deep_event o k i e j p n b w h
-deep_event o (taken c s a k) zero [] zero p n b w h = no (sym w)
-deep_event None (taken c s a k) zero [] (suc j) p n b w h = still_same b _ h
-deep_event (Some t) (taken c s a k) zero [] (suc j) p n b w h = still_same b _ h
-deep_event o (taken c s a k) zero (zero ∷ e) j p n b w h = still_same b _ h
-deep_event o (taken c s a k) zero (suc m ∷ e) zero [] zero b w h = still_same b _ h
-deep_event o (taken c s a k) zero (suc m ∷ e) zero [] (suc n) b w h = row_event o a m e n b h
-deep_event o (taken c s a k) zero (suc m ∷ e) zero (zero ∷ p) n b w h = still_same b _ h
-deep_event o (taken c s a k) zero (suc m ∷ e) zero (suc j ∷ p) n b w h = deep_event o a m e j p n b w h
-deep_event o (taken c s a k) zero (suc m ∷ e) (suc j) p n b w h = still_same b _ h
-deep_event o (taken c s a k) (suc i) e zero [] zero b w h = still_same b _ h
-deep_event o (taken c s a k) (suc i) e zero [] (suc n) b w h = still_same b _ h
-deep_event o (taken c s a k) (suc i) e zero (zero ∷ p) n b w h = still_same b _ h
-deep_event o (taken c s a k) (suc i) e zero (suc m ∷ p) n b w h = still_same b _ h
-deep_event o (taken c s a k) (suc i) e (suc j) p n b w h = deep_event o k i e j p n b w h
+struck_port : (o : Option Spec) (k : Ports) (i : ℕ) (e : List ℕ) (b : PortState)
+    → port_at k i e ≡ Some b → StillSet b (port_at (changed_at (replaced o) k i e) i e)
+unfolding changed_at port_at
+struck_port o ended i e b h = still_same b None h
+struck_port o (vacant c k) zero [] b h = still_put o (empty c) k b h
+struck_port o (vacant c k) zero (n ∷ e) b h = still_same b None h
+struck_port o (vacant c k) (suc i) e b h = struck_port o k i e b h
+struck_port o (taken c s a k) zero [] b h = still_put o (full c s a) k b h
+struck_port o (taken c s a k) zero (zero ∷ e) b h = still_same b None h
+struck_port o (taken c s a k) zero (suc i ∷ e) b h = struck_port o a i e b h
+struck_port o (taken c s a k) (suc i) e b h = struck_port o k i e b h
+
+struck_there : (o : Option Spec) (k : Ports) (p : List ℕ) (b : PortState)
+    → port_there k p ≡ Some b → StillSet b (port_there (changed (replaced o) k p) p)
+struck_there o k [] b h = still_same b None h
+struck_there o k (zero ∷ p) b h = still_same b None h
+struck_there o k (suc i ∷ p) b h = struck_port o k i p b h
+
+-- what leads to a port and not to the device above it is that port's own path
+last_step : (x q : List ℕ) (n : ℕ) → is_way x q ≡ false → is_way x (q ++ (n ∷ [])) ≡ true → x ≡ q ++ (n ∷ [])
+unfolding is_way
+last_step [] q n w h = no (sym w)
+last_step (m ∷ []) [] n w h = ap (λ y. y ∷ []) (sym (is_same m n (both (same_number m n) true h).0))
+last_step (m ∷ y ∷ x) [] n w h = no (both (same_number m n) false h).1
+last_step (m ∷ x) (k ∷ q) n w h =
+    let on : _ = both (same_number m k) (is_way x (q ++ (n ∷ []))) h in
+    ap (λ y. y ∷ x) (sym (is_same m k on.0))
+    ∙ ap (λ l. k ∷ l) (last_step x q n (sym (ap (λ y. y && is_way x q) on.0) ∙ w) on.1)
 
 replaced_bits : (o : Option Spec) (k : Ports) (x q : List ℕ) (n : ℕ) (b : PortState) → way_of x q ≡ false
     → port_there k (q ++ (n ∷ [])) ≡ Some b → StillSet b (port_there (changed (replaced o) k x) (q ++ (n ∷ [])))
-unfolding is_way
 replaced_bits o k [] q n b w h = still_same b _ h
-replaced_bits o k (zero ∷ x) q n b w h = still_same b _ h
-replaced_bits o k (suc i ∷ x) [] zero b w h = still_same b _ h
-replaced_bits o k (suc i ∷ x) [] (suc n) b w h = row_event o k i x n b h
-replaced_bits o k (suc i ∷ x) (zero ∷ q) n b w h = still_same b _ h
-replaced_bits o k (suc i ∷ x) (suc j ∷ q) n b w h = deep_event o k i x j q n b w h
+replaced_bits o k (m ∷ x) q n b w h = elim (decided (is_way (m ∷ x) (q ++ (n ∷ [])))) [
+    | inl on ↦
+      subst (λ y. StillSet b (port_there (changed (replaced o) k y) (q ++ (n ∷ []))))
+      (sym (last_step (m ∷ x) q n w on)) (struck_there o k (q ++ (n ∷ [])) b h)
+    | inr away ↦ still_same b _ ((changed_there (replaced o) k (m ∷ x) (q ++ (n ∷ [])) away).1 ∙ h)
+  ]
 
 happened_bits : (a : Action) (d : List Spec) (k : Ports) (q : List ℕ) (n : ℕ) (b : PortState) → names_path d a q ≡ false
     → port_there k (q ++ (n ∷ [])) ≡ Some b → StillSet b (port_there (happened a d k) (q ++ (n ∷ [])))
@@ -128,23 +120,27 @@ row_happened a d k (m ∷ q) h = happened_reach a d k (m ∷ q) h
 
 -- Attempts
 
-sent_port : (o : Option Sent) (k : Ports) (j : ℕ) (p : List ℕ) → sent_leaves o k j p ≡ true → port_at (after_sent o k) j p ≡ port_at k j p
-sent_port None k j p h = refl
-sent_port (Some q) k j p h = (way_ports q false k j p h).3
+sent_ports : (o : Option Sent) (k : Ports) (j : ℕ) (p : List ℕ)
+    → sent_leaves o k j p ≡ true → SamePorts k (after_sent o k) j p
+sent_ports None k j p h = same_ports k j p
+sent_ports (Some q) k j p h = way_ports q false k j p h
 
-attempt_port : (n : ℕ) (t d r : Option Sent) → IsAttemptAt n t d r → (k : Ports) (j : ℕ) (p : List ℕ) → sent_leaves d (after_sent t k) j p ≡ true
-    → port_at (after_attempt t d r k) j p ≡ port_at k j p
-attempt_port n t d r is k j p h =
-    (forgotten_ports (after_sent r (after_sent d (after_sent t k))) j p).3
-    ∙ sent_port r (after_sent d (after_sent t k)) j p (calm_leaves r (ack_calm r is.reply) (after_sent d (after_sent t k)) j p)
-    ∙ sent_port d (after_sent t k) j p h
-    ∙ sent_port t k j p (calm_leaves t (token_calm n t is.token) k j p)
+pub attempt_ports : (n : ℕ) (t d r : Option Sent) → IsAttemptAt n t d r → (k : Ports) (j : ℕ) (p : List ℕ)
+    → sent_leaves d (after_sent t k) j p ≡ true → SamePorts k (after_attempt t d r k) j p
+attempt_ports n t d r is k j p h =
+    let heard : Ports = after_sent d (after_sent t k) in
+    let first : _ = sent_ports t k j p (calm_leaves t (token_calm n t is.token) k j p) in
+    let second : _ = sent_ports d (after_sent t k) j p h in
+    let third : _ = sent_ports r heard j p (calm_leaves r (ack_calm r is.reply) heard j p) in
+    let last : _ = forgotten_ports (after_sent r heard) j p in
+    (last.0 ∙ third.0 ∙ second.0 ∙ first.0, last.1 ∙ third.1 ∙ second.1 ∙ first.1,
+     last.2 ∙ third.2 ∙ second.2 ∙ first.2, last.3 ∙ third.3 ∙ second.3 ∙ first.3)
 
 pub made_port : (a : Attempt) (w : World) (p : List ℕ) → made_leaves a w p ≡ true → port_there (with_attempt a w).roots p ≡ port_there w.roots p
 unfolding with_attempt ports_in
 made_port a w [] h = refl
 made_port a w (zero ∷ p) h = refl
-made_port a w (suc j ∷ p) h = attempt_port a.addr (token_out a (damage_in w)) (payload_out a (damage_in w)) (reply_out a (damage_in w) w.roots) (goes a (damage_in w) w.roots) w.roots j p h
+made_port a w (suc j ∷ p) h = (attempt_ports a.addr (token_out a (damage_in w)) (payload_out a (damage_in w)) (reply_out a (damage_in w) w.roots) (goes a (damage_in w) w.roots) w.roots j p h).3
 
 -- A step that leaves a port resets no device above it
 
@@ -190,10 +186,7 @@ left_root c (suc i) k (suc j ∷ x ∷ q) n h = refl
 -- Steps
 
 pub root_port : (c : PortCall) (m : ℕ) (k : Ports) (p : List ℕ) → root_leaves m p ≡ true → port_there (changed (called c) k (m ∷ [])) p ≡ port_there k p
-root_port c m k [] h = refl
-root_port c m k (zero ∷ p) h = refl
-root_port c zero k (suc j ∷ p) h = refl
-root_port c (suc i) k (suc j ∷ p) h = (called_apart c k i j p h).0.3
+root_port c m k p h = (root_there c m k p h).1
 
 made_row : (a : Attempt) (w : World) (q : List ℕ) (n : ℕ) → made_leaves a w (q ++ (n ∷ [])) ≡ true → row_reached (with_attempt a w).roots q ≡ true → row_reached w.roots q ≡ true
 made_row a w [] n g h = refl

@@ -1,5 +1,5 @@
 -- Setup data whose request is not PORT_RESET reset no device, whoever hears them.
-use Rattle.std.proofs.Common.{◌≡◌, ℕ, zero, suc, ◌/◌, ◌%◌, ◌==◌, ◌&&◌, not, nat_le, if◌then◌else◌, Bool, true, false, List, [], ◌∷◌, length, slice_get, Option, None, Some, refl, sym, ◌∙◌}
+use Rattle.std.proofs.Common.{◌≡◌, ℕ, ◌/◌, ◌%◌, ◌==◌, ◌&&◌, not, nat_le, if◌then◌else◌, Bool, true, false, List, [], ◌∷◌, length, slice_get, Option, None, Some, refl, sym, ◌∙◌}
 use Rattle.usb_packet.specs.declared.Packet.TheVariants.{Payload}
 use Rattle.usb_packet.specs.declared.Packet.TheVariants as packet
 use Rattle.usb_packet.specs.declared.Toggle.{Toggle}
@@ -25,10 +25,11 @@ use Rattle.usb_port.specs.Calls.{is_reset, set_call, clear_call}
 use Rattle.usb_device.specs.Request.{Outcome, stalled, answers, takes_address, takes_configuration, halts, unhalts, tells_port, calls_port, Is, unless, text_asked, asked_descriptor, asked_status, asked_address, asked_configuration, endpoint_of, on_endpoint, asked_hub_descriptor, port_named, told_port, called_at, asked_port_status, port_feature, outcome, is_value}
 use Rattle.usb_device.specs.Rows.{State}
 use Rattle.usb_device.specs.Effect.{asks, asked_by_data, asked_by_setup, effect_of_request}
-use Rattle.usb_device.specs.Tree.{Ports, ended, vacant, taken}
+use Rattle.usb_device.specs.Tree.{Ports}
 use Rattle.usb_device.specs.Delivery.{hears, asked_by, effect_of}
 use Rattle.usb_world.specs.WayEffects.{effect_resets, resets_at}
 use Rattle.usb_world.specs.Courses.{is_harmless}
+use Rattle.usb_world.proofs.OnWays.{resets_if}
 use Rattle.usb_world.proofs.Booleans.{no, and_false}
 
 -- data that are no such request
@@ -183,12 +184,5 @@ none_at (Calls c i) a j [] h = off (is_reset c) _ h
     off false y h = refl
 
 pub harmless_resets : (q : Sent) → IsHarmlessOut q.content → (deep : Bool) (k : Ports) (j : ℕ) (p : List ℕ) → resets_at q deep k j p ≡ false
-unfolding resets_at
-harmless_resets q c deep ended j p = refl
-harmless_resets q c deep (vacant b k) zero p = refl
-harmless_resets q c deep (vacant b k) (suc j) p = harmless_resets q c deep k j p
-harmless_resets q c deep (taken b s a k) zero [] = refl
-harmless_resets q c deep (taken b s a k) zero (zero ∷ p) = refl
-harmless_resets q c deep (taken b s a k) zero (suc j ∷ p) =
-    rw (none_at (effect_of q deep s) a j p (no_reset_asked q c deep s), harmless_resets q c true a j p) (and_false b.enable)
-harmless_resets q c deep (taken b s a k) (suc j) p = harmless_resets q c deep k j p
+harmless_resets q c deep k j p =
+    resets_if q deep k j p (λ e m r t z at dp a. none_at (effect_of q dp t) a m r (no_reset_asked q c dp t))

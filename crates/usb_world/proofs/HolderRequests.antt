@@ -34,7 +34,7 @@ use Rattle.usb_world.proofs.OneHolderAttempts.{holder_in}
 use Rattle.usb_world.proofs.Courses.{goes}
 use Rattle.usb_world.proofs.RootResets.{is_same, same_is}
 use Rattle.usb_world.proofs.PortRequests.{Allows, AllowsOut, PayloadAllows, sent_allowed, payload_allowed}
-use Rattle.usb_world.proofs.PacketWays.{OnWay, spares_if, leaves_if, resets_if}
+use Rattle.usb_world.proofs.OnWays.{OnWay, spares_if, leaves_if, resets_if}
 use Rattle.usb_world.proofs.ChangeBits.{left_effect}
 use Rattle.usb_world.proofs.Equality.{equal_same, self_number}
 use Rattle.usb_world.proofs.States.{unreset}

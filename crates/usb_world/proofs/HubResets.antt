@@ -18,13 +18,12 @@ use Rattle.usb_world.specs.Courses.{is_made, made_resets, resets, address_at, Ow
 use Rattle.usb_world.specs.OneHolder.{IsSetup, HolderIn, token_way, payload_way, answer_way}
 use Rattle.usb_world.specs.Addresses.{after_reset}
 use Rattle.usb_world.proofs.Booleans.{no, both, decided, and_false}
-use Rattle.usb_world.proofs.PortCalls.{off_reach}
 use Rattle.usb_world.proofs.OneDevice.{state_stands}
 use Rattle.usb_world.proofs.Courses.{made_reach, step_new}
 use Rattle.usb_world.proofs.OneHolder.{replied, holder_holds, Holder}
 use Rattle.usb_world.proofs.OneHolderAttempts.{made_is, made_true, holder_in, setup_in, silent_in, others_in}
 use Rattle.usb_world.proofs.AddressesKept.{ready_own}
-use Rattle.usb_world.proofs.RootResets.{is_same, same_is, new_address}
+use Rattle.usb_world.proofs.RootResets.{is_same, same_is, new_address, new_below}
 use Rattle.usb_world.proofs.HolderRequests.{other_rests}
 
 -- A device that was just reset
@@ -35,17 +34,6 @@ new_there k (zero ∷ p) h = elim h [ ]
 new_there k (suc i ∷ p) h = ap (option_map address_of) (sym (state_stands k i p)) ∙ new_address (place_at k i p) h
 
 -- none is reached below it
-new_below : (k : Ports) (i : ℕ) (p : List ℕ) (m : ℕ) (r : List ℕ) → IsNew (place_at k i p) → reach_at k i (p ++ (m ∷ r)) ≡ false
-unfolding place_at reach_at
-new_below ended i p m r h = refl
-new_below (vacant b k) zero p m r h = refl
-new_below (vacant b k) (suc i) p m r h = new_below k i p m r h
-new_below (taken b s a k) zero [] zero r h = refl
-new_below (taken b s a k) zero [] (suc m) r h = ap (λ x. b.enable && x) (ap (λ x. reach_at x m r) (sym h.3) ∙ off_reach a m r) ∙ and_false b.enable
-new_below (taken b s a k) zero (zero ∷ p) m r h = refl
-new_below (taken b s a k) zero (suc j ∷ p) m r h = ap (λ x. b.enable && x) (new_below a j p m r h) ∙ and_false b.enable
-new_below (taken b s a k) (suc i) p m r h = new_below k i p m r h
-
 new_under : (k : Ports) (p : List ℕ) (m : ℕ) (r : List ℕ) → IsNew (place k p) → reach k (p ++ (m ∷ r)) ≡ false
 new_under k [] m r h = elim h [ ]
 new_under k (zero ∷ p) m r h = refl

@@ -42,6 +42,7 @@ pub mod Example
 pub mod ExampleHub
 pub mod ToldChanges
 pub mod PortRequests
+pub mod OnWays
 pub mod PacketWays
 pub mod RestingAttempts
 pub mod ChangeBits

@@ -1,5 +1,5 @@
 -- What a packet does to reachable, live and pending, and to the devices and ports.
-use Rattle.std.proofs.Common.{◌≡◌, ℕ, zero, suc, ◌&&◌, ◌||◌, not, if◌then◌else◌, ◌⊎◌, inl, inr, Bool, true, false, List, [], ◌∷◌, Option, None, Some, option_map, refl, ap, sym, ◌∙◌}
+use Rattle.std.proofs.Common.{◌≡◌, ℕ, zero, suc, ◌&&◌, ◌||◌, not, if◌then◌else◌, inl, inr, Bool, true, false, List, [], ◌∷◌, Option, None, Some, option_map, refl, ap, sym, ◌∙◌}
 use Rattle.usb_port.specs.PortState.{PortState}
 use Rattle.usb_device.specs.declared.effect.Effect.{Effect}
 use Rattle.usb_device.specs.declared.effect.Effect.TheVariants.{Leaves, Calls, PortsOff}
@@ -11,7 +11,7 @@ use Rattle.usb_world.specs.Paths.{live_at, pend_at}
 use Rattle.usb_world.specs.WayEffects.{IsNew, takes_reset, effect_resets, resets_at, reset_if, effect_spares, packet_spares}
 use Rattle.usb_world.specs.AttemptPackets.{deep_at}
 use Rattle.usb_world.proofs.Booleans.{both, and_kept, or_kept, either_of, neither, no}
-use Rattle.usb_world.proofs.PortCalls.{off_state, off_reach, off_new, call_new, call_new_below, call_reach, KeepsPending, pending_kept, call_kept, call_state}
+use Rattle.usb_world.proofs.PortCalls.{off_way, ResetIf, same_reset, call_way, KeepsPending, pending_kept, call_kept}
 use Rattle.usb_world.proofs.WayChanges.{same_head}
 use Rattle.usb_world.proofs.States.{kept_state}
 
@@ -27,30 +27,17 @@ met x q deep b s a k = if x then taken b (answer_of q deep s a).1 (acted (effect
 
 -- What a device asks of its ports
 
-acted_new : (e : Effect) (x : Ports) (j : ℕ) (p : List ℕ) → effect_resets e x j p ≡ true → IsNew (place_at (acted e x) j p)
-acted_new Leaves x j p h = no h
-acted_new (Calls c i) x j p h = call_new c x i j p h
-acted_new PortsOff x j p h = no h
-
-acted_new_below : (e : Effect) (x : Ports) (j n : ℕ) (p : List ℕ) → IsNew (place_at x j (n ∷ p)) → IsNew (place_at (acted e x) j (n ∷ p))
-acted_new_below Leaves x j n p h = h
-acted_new_below (Calls c i) x j n p h = call_new_below c x i j n p h
-acted_new_below PortsOff x j n p h = off_new x j (n ∷ p) h
-
-acted_reach : (e : Effect) (x : Ports) (j : ℕ) (p : List ℕ) → effect_resets e x j p ≡ false → reach_at (acted e x) j p ≡ true → reach_at x j p ≡ true
-acted_reach Leaves x j p h g = g
-acted_reach (Calls c i) x j p h g = call_reach c x i j p h g
-acted_reach PortsOff x j p h g = no (sym (off_reach x j p) ∙ g)
+acted_way : (e : Effect) (x : Ports) (j : ℕ) (p : List ℕ) → ResetIf (effect_resets e x j p) x (acted e x) j p
+acted_way Leaves x j p = same_reset false x j p refl
+acted_way (Calls c i) x j p = call_way c x i j p
+acted_way PortsOff x j p =
+    let off : _ = off_way x j p in
+    (off.1 ∙ kept_state (state_at x j p), λ f h. no (sym off.0 ∙ h), λ f. no f, off.2)
 
 acted_kept : (e : Effect) (x : Ports) (j : ℕ) (p : List ℕ) → effect_spares e j p ≡ true → KeepsPending x (acted e x) j p
 acted_kept Leaves x j p h = (λ g. g, λ g. g)
 acted_kept (Calls c i) x j p h = call_kept c x i j p h
 acted_kept PortsOff x j p h = no h
-
-acted_state : (e : Effect) (x : Ports) (j : ℕ) (p : List ℕ) → state_at (acted e x) j p ≡ option_map (reset_if (effect_resets e x j p)) (state_at x j p)
-acted_state Leaves x j p = kept_state (state_at x j p)
-acted_state (Calls c i) x j p = call_state c x i j p
-acted_state PortsOff x j p = off_state x j p ∙ kept_state (state_at x j p)
 
 -- Where a reset falls
 
@@ -78,55 +65,6 @@ packet_asks (Calls c i) q deep k j (n ∷ p) = refl
 packet_asks PortsOff q deep k j p = refl
 
 -- A packet
-
--- a device that a packet resets is new
-pub packet_new : (q : Sent) (deep : Bool) (k : Ports) (j : ℕ) (p : List ℕ)
-    → resets_at q deep k j p ≡ true → IsNew (place_at (after_packet q deep k) j p)
-unfolding after_packet place_at resets_at
-packet_new q deep ended j p h = no h
-packet_new q deep (vacant b k) zero p h = no h
-packet_new q deep (vacant b k) (suc j) p h = packet_new q deep k j p h
-packet_new q deep (taken b s a k) zero [] h = no h
-packet_new q deep (taken b s a k) zero (zero ∷ p) h = no h
-packet_new q deep (taken b s a k) zero (suc j ∷ p) h = split b.enable h (packet_new q true a j p)
-  where
-    below : (p : List ℕ) → resets_at q true a j p ≡ true → IsNew (place_at (after_packet q true a) j p) → IsNew (place_at (acted (effect_of q deep s) (after_packet q true a)) j p)
-    below [] h n = no (sym (resets_nil q true a j) ∙ h)
-    below (m ∷ p) h n = acted_new_below (effect_of q deep s) (after_packet q true a) j m p n
-
-    found : (effect_resets (effect_of q deep s) a j p ≡ true) ⊎ (resets_at q true a j p ≡ true) → (resets_at q true a j p ≡ true → IsNew (place_at (after_packet q true a) j p))
-        → IsNew (place_at (acted (effect_of q deep s) (after_packet q true a)) j p)
-    found (inl y) ih = acted_new (effect_of q deep s) (after_packet q true a) j p (packet_asks (effect_of q deep s) q true a j p ∙ y)
-    found (inr y) ih = below p y (ih y)
-
-    split : (x : Bool) → (x && (effect_resets (effect_of q deep s) a j p || resets_at q true a j p)) ≡ true
-        → (resets_at q true a j p ≡ true → IsNew (place_at (after_packet q true a) j p)) → IsNew (place_at (met x q deep b s a (after_packet q deep k)) zero (suc j ∷ p))
-    split true h ih = found (either_of (effect_resets (effect_of q deep s) a j p) (resets_at q true a j p) h) ih
-    split false h ih = no h
-packet_new q deep (taken b s a k) (suc j) p h = split b.enable (packet_new q deep k j p h)
-  where
-    split : (x : Bool) → IsNew (place_at (after_packet q deep k) j p) → IsNew (place_at (met x q deep b s a (after_packet q deep k)) (suc j) p)
-    split true n = n
-    split false n = n
-
--- who is reachable after a packet that does not reset it was so before
-pub packet_reach : (q : Sent) (deep : Bool) (k : Ports) (j : ℕ) (p : List ℕ)
-    → resets_at q deep k j p ≡ false → reach_at (after_packet q deep k) j p ≡ true → reach_at k j p ≡ true
-unfolding after_packet reach_at resets_at
-packet_reach q deep ended j p f h = no h
-packet_reach q deep (vacant b k) zero p f h = no h
-packet_reach q deep (vacant b k) (suc j) p f h = packet_reach q deep k j p f h
-packet_reach q deep (taken b s a k) zero [] f h = elim b.enable as (λ x. reach_at (met x q deep b s a (after_packet q deep k)) zero [] ≡ true → b.enable ≡ true) [ true ↦ λ h. h | false ↦ λ h. h ] h
-packet_reach q deep (taken b s a k) zero (zero ∷ p) f h = elim b.enable as (λ x. reach_at (met x q deep b s a (after_packet q deep k)) zero (zero ∷ p) ≡ true → false ≡ true) [ true ↦ λ h. h | false ↦ λ h. h ] h
-packet_reach q deep (taken b s a k) zero (suc j ∷ p) f h = split b.enable f h (packet_reach q true a j p)
-  where
-    split : (x : Bool) → (x && (effect_resets (effect_of q deep s) a j p || resets_at q true a j p)) ≡ false → reach_at (met x q deep b s a (after_packet q deep k)) zero (suc j ∷ p) ≡ true
-        → (resets_at q true a j p ≡ false → reach_at (after_packet q true a) j p ≡ true → reach_at a j p ≡ true) → (b.enable && reach_at a j p) ≡ true
-    split true f h ih =
-        let none_of : _ = neither (effect_resets (effect_of q deep s) a j p) (resets_at q true a j p) f in
-        and_kept b.enable _ _ (λ g. ih none_of.1 (acted_reach (effect_of q deep s) (after_packet q true a) j p (packet_asks (effect_of q deep s) q true a j p ∙ none_of.0) g)) h
-    split false f h ih = h
-packet_reach q deep (taken b s a k) (suc j) p f h = elim b.enable as (λ x. reach_at (met x q deep b s a (after_packet q deep k)) (suc j) p ≡ true → reach_at k j p ≡ true) [ true ↦ packet_reach q deep k j p f | false ↦ packet_reach q deep k j p f ] h
 
 spared : (x y z : Bool) → x ≡ true → (not x || (y && z)) ≡ true → (y ≡ true) × (z ≡ true)
 spared true y z e h = both y z h
@@ -185,32 +123,53 @@ asks_here Leaves q a j (n ∷ p) h = no h
 asks_here (Calls c i) q a j (n ∷ p) h = no h
 asks_here PortsOff q a j (n ∷ p) h = no h
 
+-- the device at a path hears a packet or not, and is then reset or not
+abbrev HeardIf : Sent → Bool → Bool → Bool → Ports → Ports → ℕ → List ℕ → Type 0
+HeardIf q deep on r k m j p =
+    (state_at m j p ≡ option_map (reset_if r) (heard_state q deep on (place_at k j p)))
+    × (r ≡ false → reach_at m j p ≡ true → reach_at k j p ≡ true) × (r ≡ true → IsNew (place_at m j p))
+
+pub packet_way : (q : Sent) (deep : Bool) (k : Ports) (j : ℕ) (p : List ℕ)
+    → HeardIf q (deep_at deep p) (reach_at k j p) (resets_at q deep k j p) k (after_packet q deep k) j p
+unfolding after_packet reach_at place_at resets_at state_at
+packet_way q deep ended j p = (refl, λ f h. h, λ f. no f)
+packet_way q deep (vacant b k) zero [] = (refl, λ f h. h, λ f. no f)
+packet_way q deep (vacant b k) zero (n ∷ p) = (refl, λ f h. h, λ f. no f)
+packet_way q deep (vacant b k) (suc j) p = packet_way q deep k j p
+packet_way q deep (taken b s a k) zero [] = split b.enable
+  where
+    split : (x : Bool) → HeardIf q deep x false (taken b s a k) (met x q deep b s a (after_packet q deep k)) zero []
+    split true = (refl, λ f h. h, λ f. no f)
+    split false = (refl, λ f h. h, λ f. no f)
+packet_way q deep (taken b s a k) zero (zero ∷ p) = split b.enable
+  where
+    split : (x : Bool) → HeardIf q true false false (taken b s a k) (met x q deep b s a (after_packet q deep k)) zero (zero ∷ p)
+    split true = (refl, λ f h. h, λ f. no f)
+    split false = (refl, λ f h. h, λ f. no f)
+packet_way q deep (taken b s a k) zero (suc j ∷ p) = split b.enable (packet_way q true a j p)
+  where
+    split : (x : Bool) → HeardIf q (deep_at true p) (reach_at a j p) (resets_at q true a j p) a (after_packet q true a) j p
+        → HeardIf q true (x && reach_at a j p) (x && (effect_resets (effect_of q deep s) a j p || resets_at q true a j p)) (taken b s a k) (met x q deep b s a (after_packet q deep k)) zero (suc j ∷ p)
+    split true ih =
+        let asked : _ = acted_way (effect_of q deep s) (after_packet q true a) j p in
+        let same : _ = packet_asks (effect_of q deep s) q true a j p in (
+          asked.0
+              ∙ ap (λ x. option_map (reset_if x) (state_at (after_packet q true a) j p)) same
+              ∙ ap (option_map (reset_if (effect_resets (effect_of q deep s) a j p))) ih.0
+              ∙ reset_then (effect_resets (effect_of q deep s) a j p) (resets_at q true a j p) (heard_state q (deep_at true p) (reach_at a j p) (place_at a j p)) (asks_here (effect_of q deep s) q a j p)
+              ∙ ap (λ d. option_map (reset_if (effect_resets (effect_of q deep s) a j p || resets_at q true a j p)) (heard_state q d (reach_at a j p) (place_at a j p))) (true_deep p),
+          λ f. let none_of : _ = neither (effect_resets (effect_of q deep s) a j p) (resets_at q true a j p) f in and_kept b.enable _ _ (λ g. ih.1 none_of.1 (asked.1 (same ∙ none_of.0) g)),
+          λ f. elim (either_of (effect_resets (effect_of q deep s) a j p) (resets_at q true a j p) f) [ inl y ↦ asked.2 (same ∙ y) | inr y ↦ asked.3 (ih.2 y) ],
+        )
+    split false ih = (unheard q true a j p ∙ kept_state (heard_state q true false (place_at a j p)), λ f h. h, λ f. no f)
+packet_way q deep (taken b s a k) (suc j) p = split b.enable (packet_way q deep k j p)
+  where
+    split : (x : Bool) → HeardIf q (deep_at deep p) (reach_at k j p) (resets_at q deep k j p) k (after_packet q deep k) j p
+        → HeardIf q (deep_at deep p) (reach_at k j p) (resets_at q deep k j p) (taken b s a k) (met x q deep b s a (after_packet q deep k)) (suc j) p
+    split true h = h
+    split false h = h
+
 -- a packet changes each device that it reaches by that device's row, and no other, but for those that it resets
 pub packet_state : (q : Sent) (deep : Bool) (k : Ports) (j : ℕ) (p : List ℕ)
     → state_at (after_packet q deep k) j p ≡ option_map (reset_if (resets_at q deep k j p)) (heard_state q (deep_at deep p) (reach_at k j p) (place_at k j p))
-unfolding after_packet reach_at place_at resets_at state_at
-packet_state q deep ended j p = refl
-packet_state q deep (vacant b k) zero [] = refl
-packet_state q deep (vacant b k) zero (n ∷ p) = refl
-packet_state q deep (vacant b k) (suc j) p = packet_state q deep k j p
-packet_state q deep (taken b s a k) zero [] =
-    elim b.enable as (λ x. state_at (met x q deep b s a (after_packet q deep k)) zero [] ≡ Some (if x then (answer_of q deep s a).1 else s)) [ true ↦ refl | false ↦ refl ]
-packet_state q deep (taken b s a k) zero (zero ∷ p) =
-    elim b.enable as (λ x. state_at (met x q deep b s a (after_packet q deep k)) zero (zero ∷ p) ≡ None) [ true ↦ refl | false ↦ refl ]
-packet_state q deep (taken b s a k) zero (suc j ∷ p) = split b.enable (packet_state q true a j p)
-  where
-    split : (x : Bool) → state_at (after_packet q true a) j p ≡ option_map (reset_if (resets_at q true a j p)) (heard_state q (deep_at true p) (reach_at a j p) (place_at a j p))
-        → state_at (met x q deep b s a (after_packet q deep k)) zero (suc j ∷ p)
-        ≡ option_map (reset_if (x && (effect_resets (effect_of q deep s) a j p || resets_at q true a j p))) (heard_state q true (x && reach_at a j p) (place_at a j p))
-    split true ih =
-        acted_state (effect_of q deep s) (after_packet q true a) j p
-        ∙ ap (λ x. option_map (reset_if x) (state_at (after_packet q true a) j p)) (packet_asks (effect_of q deep s) q true a j p)
-        ∙ ap (option_map (reset_if (effect_resets (effect_of q deep s) a j p))) ih
-        ∙ reset_then (effect_resets (effect_of q deep s) a j p) (resets_at q true a j p) (heard_state q (deep_at true p) (reach_at a j p) (place_at a j p)) (asks_here (effect_of q deep s) q a j p)
-        ∙ ap (λ d. option_map (reset_if (effect_resets (effect_of q deep s) a j p || resets_at q true a j p)) (heard_state q d (reach_at a j p) (place_at a j p))) (true_deep p)
-    split false ih = unheard q true a j p ∙ kept_state (heard_state q true false (place_at a j p))
-packet_state q deep (taken b s a k) (suc j) p =
-    elim b.enable as (λ x. state_at (met x q deep b s a (after_packet q deep k)) (suc j) p ≡ option_map (reset_if (resets_at q deep k j p)) (heard_state q (deep_at deep p) (reach_at k j p) (place_at k j p))) [
-      | true ↦ packet_state q deep k j p
-      | false ↦ packet_state q deep k j p
-    ]
+packet_state q deep k j p = (packet_way q deep k j p).0

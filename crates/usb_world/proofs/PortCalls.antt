@@ -1,5 +1,5 @@
 -- What a call at a port does to reachable, live and pending, and to the devices and ports.
-use Rattle.std.proofs.Common.{◌≡◌, ℕ, zero, suc, ◌&&◌, ◌||◌, if◌then◌else◌, Bool, true, false, List, [], ◌∷◌, Some, option_map, refl, ap, sym, ◌∙◌}
+use Rattle.std.proofs.Common.{◌≡◌, ℕ, zero, suc, ◌&&◌, ◌||◌, if◌then◌else◌, Bool, true, false, List, [], ◌∷◌, option_map, refl, ap, sym, ◌∙◌}
 use Rattle.usb_port.specs.PortState.{PortState, is_attached, powered_off}
 use Rattle.usb_port.specs.declared.call.PortCall.{PortCall}
 use Rattle.usb_port.specs.declared.call.PortCall.TheVariants.{SetPower, SetReset, ClearEnable, ClearPower, ClearConnectionChange, ClearEnableChange, ClearResetChange}
@@ -18,36 +18,19 @@ all_off_twice ended = refl
 all_off_twice (vacant b k) = ap (vacant (powered_off b)) (all_off_twice k)
 all_off_twice (taken b s a k) = ap (taken (powered_off b) s a) (all_off_twice k)
 
-pub off_state : (k : Ports) (j : ℕ) (p : List ℕ) → state_at (all_off k) j p ≡ state_at k j p
-unfolding state_at all_off
-off_state ended j p = refl
-off_state (vacant b k) zero p = refl
-off_state (vacant b k) (suc j) p = off_state k j p
-off_state (taken b s a k) zero [] = refl
-off_state (taken b s a k) zero (zero ∷ p) = refl
-off_state (taken b s a k) zero (suc n ∷ p) = refl
-off_state (taken b s a k) (suc j) p = off_state k j p
-
-pub off_reach : (k : Ports) (j : ℕ) (p : List ℕ) → reach_at (all_off k) j p ≡ false
-unfolding reach_at all_off
-off_reach ended j p = refl
-off_reach (vacant b k) zero p = refl
-off_reach (vacant b k) (suc j) p = off_reach k j p
-off_reach (taken b s a k) zero [] = refl
-off_reach (taken b s a k) zero (zero ∷ p) = refl
-off_reach (taken b s a k) zero (suc n ∷ p) = refl
-off_reach (taken b s a k) (suc j) p = off_reach k j p
-
-pub off_new : (k : Ports) (j : ℕ) (p : List ℕ) → IsNew (place_at k j p) → IsNew (place_at (all_off k) j p)
-unfolding place_at all_off
-off_new ended j p h = h
-off_new (vacant b k) zero [] h = h
-off_new (vacant b k) zero (n ∷ p) h = h
-off_new (vacant b k) (suc j) p h = off_new k j p h
-off_new (taken b s a k) zero [] h = h
-off_new (taken b s a k) zero (zero ∷ p) h = h
-off_new (taken b s a k) zero (suc n ∷ p) h = h
-off_new (taken b s a k) (suc j) p h = off_new k j p h
+-- where each port of a row is off, none is reached, and the devices are as they were
+pub off_way : (k : Ports) (j : ℕ) (p : List ℕ)
+    → (reach_at (all_off k) j p ≡ false) × (state_at (all_off k) j p ≡ state_at k j p)
+    × (IsNew (place_at k j p) → IsNew (place_at (all_off k) j p))
+unfolding reach_at state_at place_at all_off
+off_way ended j p = (refl, refl, λ h. h)
+off_way (vacant b k) zero [] = (refl, refl, λ h. h)
+off_way (vacant b k) zero (n ∷ p) = (refl, refl, λ h. h)
+off_way (vacant b k) (suc j) p = off_way k j p
+off_way (taken b s a k) zero [] = (refl, refl, λ h. h)
+off_way (taken b s a k) zero (zero ∷ p) = (refl, refl, λ h. h)
+off_way (taken b s a k) zero (suc n ∷ p) = (refl, refl, λ h. h)
+off_way (taken b s a k) (suc j) p = off_way k j p
 
 -- a port that is powered and sees what is attached
 abbrev sees : PortState → Bool
@@ -67,72 +50,89 @@ none_there true true = refl
 none_there true false = refl
 none_there false y = refl
 
+-- The device at a path is reset, or not: then its state is what it was, and where it is reached it was so before. One
+-- that is reset is new, and so is one that was new.
+abbrev pub ResetIf : Bool → Ports → Ports → ℕ → List ℕ → Type 0
+ResetIf r k m j p =
+    (state_at m j p ≡ option_map (reset_if r) (state_at k j p))
+    × (r ≡ false → reach_at m j p ≡ true → reach_at k j p ≡ true)
+    × (r ≡ true → IsNew (place_at m j p)) × (IsNew (place_at k j p) → IsNew (place_at m j p))
+
+pub same_reset : (r : Bool) (k : Ports) (j : ℕ) (p : List ℕ) → r ≡ false → ResetIf r k k j p
+same_reset true k j p e = no (sym e)
+same_reset false k j p e = (kept_state (state_at k j p), λ f h. h, λ f. no f, λ h. h)
+
+pub call_way : (c : PortCall) (k : Ports) (i j : ℕ) (p : List ℕ)
+    → ResetIf (call_resets c k i j p) k (changed_at (called c) k i []) j p
+unfolding changed_at reach_at state_at place_at reset_state
+call_way c ended i j [] = same_reset _ ended j [] (none_there (is_reset c) (same_number i j))
+call_way c ended i j (n ∷ p) = same_reset false ended j (n ∷ p) refl
+call_way c (vacant b k) zero zero [] = same_reset _ ended zero [] (and_false (is_reset c))
+call_way c (vacant b k) zero zero (n ∷ p) = same_reset false (vacant b k) zero (n ∷ p) refl
+call_way c (vacant b k) zero (suc j) [] = same_reset _ k j [] (and_false (is_reset c))
+call_way c (vacant b k) zero (suc j) (n ∷ p) = same_reset false k j (n ∷ p) refl
+call_way c (vacant b k) (suc i) zero [] = same_reset _ (vacant b k) zero [] (and_false (is_reset c))
+call_way c (vacant b k) (suc i) zero (n ∷ p) = same_reset false (vacant b k) zero (n ∷ p) refl
+call_way c (vacant b k) (suc i) (suc j) [] = call_way c k i j []
+call_way c (vacant b k) (suc i) (suc j) (n ∷ p) = call_way c k i j (n ∷ p)
+call_way c (taken b s a k) zero zero [] = split (is_reset c && sees b) refl
+  where
+    split : (x : Bool) → (is_reset c && sees b) ≡ x
+        → ResetIf x (taken b s a k) (before (reset_where x (called_port c b) s a) k) zero []
+    split true e =
+        (refl, λ f. no (sym f), λ f. (refl, refl, refl, all_off_twice a), λ h. (refl, refl, refl, all_off_twice a))
+    split false e = (refl, λ f. called_enable c b e, λ f. no f, λ h. h)
+call_way c (taken b s a k) zero zero (n ∷ p) = split n (is_reset c && sees b) refl
+  where
+    split : (n : ℕ) (x : Bool) → (is_reset c && sees b) ≡ x
+        → ResetIf false (taken b s a k) (before (reset_where x (called_port c b) s a) k) zero (n ∷ p)
+    split zero true e = same_reset false (taken b s a k) zero (zero ∷ p) refl
+    split zero false e = same_reset false (taken b s a k) zero (zero ∷ p) refl
+    split (suc n) true e =
+        let off : _ = off_way a n p in (
+          off.1 ∙ kept_state (state_at a n p),
+          λ f h. no (sym off.0 ∙ (both (called_port c b).enable _ h).1),
+          λ f. no f,
+          off.2,
+        )
+    split (suc n) false e = (
+      kept_state (state_at a n p),
+      λ f. and_wider (called_port c b).enable b.enable _ _ (called_enable c b e) (λ g. g),
+      λ f. no f,
+      λ h. h,
+    )
+call_way c (taken b s a k) zero (suc j) [] = further (is_reset c && sees b)
+  where
+    further : (x : Bool) → ResetIf (is_reset c && false) (taken b s a k) (before (reset_where x (called_port c b) s a) k) (suc j) []
+    further true = same_reset _ k j [] (and_false (is_reset c))
+    further false = same_reset _ k j [] (and_false (is_reset c))
+call_way c (taken b s a k) zero (suc j) (n ∷ p) = further (is_reset c && sees b)
+  where
+    further : (x : Bool) → ResetIf false (taken b s a k) (before (reset_where x (called_port c b) s a) k) (suc j) (n ∷ p)
+    further true = same_reset false k j (n ∷ p) refl
+    further false = same_reset false k j (n ∷ p) refl
+call_way c (taken b s a k) (suc i) zero [] = same_reset _ (taken b s a k) zero [] (and_false (is_reset c))
+call_way c (taken b s a k) (suc i) zero (zero ∷ p) = same_reset false ended zero [] refl
+call_way c (taken b s a k) (suc i) zero (suc n ∷ p) = same_reset false (taken b s a k) zero (suc n ∷ p) refl
+call_way c (taken b s a k) (suc i) (suc j) [] = call_way c k i j []
+call_way c (taken b s a k) (suc i) (suc j) (n ∷ p) = call_way c k i j (n ∷ p)
+
 -- a device that a call resets is new
 pub call_new : (c : PortCall) (k : Ports) (i j : ℕ) (p : List ℕ)
     → call_resets c k i j p ≡ true → IsNew (place_at (changed_at (called c) k i []) j p)
-unfolding changed_at place_at reset_state
-call_new c k i j (n ∷ p) h = no h
-call_new c ended i j [] h = no (sym (none_there (is_reset c) (same_number i j)) ∙ h)
-call_new c (vacant b k) zero zero [] h = no (sym (and_false (is_reset c)) ∙ h)
-call_new c (vacant b k) zero (suc j) [] h = no (sym (and_false (is_reset c)) ∙ h)
-call_new c (vacant b k) (suc i) zero [] h = no (sym (and_false (is_reset c)) ∙ h)
-call_new c (vacant b k) (suc i) (suc j) [] h = call_new c k i j [] h
-call_new c (taken b s a k) zero zero [] h = split (is_reset c && sees b) h
-  where
-    split : (x : Bool) → x ≡ true → IsNew (place_at (before (reset_where x (called_port c b) s a) k) zero [])
-    split true e = (refl, refl, refl, all_off_twice a)
-    split false e = no e
-call_new c (taken b s a k) zero (suc j) [] h = no (sym (and_false (is_reset c)) ∙ h)
-call_new c (taken b s a k) (suc i) zero [] h = no (sym (and_false (is_reset c)) ∙ h)
-call_new c (taken b s a k) (suc i) (suc j) [] h = call_new c k i j [] h
+call_new c k i j p h = (call_way c k i j p).2 h
 
 -- who is reachable after a call that does not reset it was so before
 pub call_reach : (c : PortCall) (k : Ports) (i j : ℕ) (p : List ℕ)
-    → call_resets c k i j p ≡ false → reach_at (changed_at (called c) k i []) j p ≡ true → reach_at k j p ≡ true
-unfolding changed_at reach_at place_at
-call_reach c ended i j p f h = no h
-call_reach c (vacant b k) zero zero p f h = no h
-call_reach c (vacant b k) zero (suc j) p f h = h
-call_reach c (vacant b k) (suc i) zero p f h = no h
-call_reach c (vacant b k) (suc i) (suc j) [] f h = call_reach c k i j [] f h
-call_reach c (vacant b k) (suc i) (suc j) (n ∷ p) f h = call_reach c k i j (n ∷ p) f h
-call_reach c (taken b s a k) zero zero p f h = split p (is_reset c && sees b) refl f h
-  where
-    split : (p : List ℕ) (x : Bool) → (is_reset c && sees b) ≡ x → call_resets c (taken b s a k) zero zero p ≡ false
-        → reach_at (before (reset_where x (called_port c b) s a) k) zero p ≡ true → reach_at (taken b s a k) zero p ≡ true
-    split [] true e f h = no (sym f ∙ e)
-    split [] false e f h = called_enable c b e h
-    split (zero ∷ p) true e f h = no h
-    split (zero ∷ p) false e f h = no h
-    split (suc n ∷ p) true e f h = no (sym (off_reach a n p) ∙ (both (called_port c b).enable _ h).1)
-    split (suc n ∷ p) false e f h =
-        let on : _ = both (called_port c b).enable (reach_at a n p) h in and_of b.enable _ (called_enable c b e on.0) on.1
-call_reach c (taken b s a k) zero (suc j) p f h =
-    elim (is_reset c && sees b) as (λ x. reach_at (before (reset_where x (called_port c b) s a) k) (suc j) p ≡ true → reach_at k j p ≡ true) [ true ↦ λ h. h | false ↦ λ h. h ] h
-call_reach c (taken b s a k) (suc i) zero p f h = h
-call_reach c (taken b s a k) (suc i) (suc j) [] f h = call_reach c k i j [] f h
-call_reach c (taken b s a k) (suc i) (suc j) (n ∷ p) f h = call_reach c k i j (n ∷ p) f h
+    → call_resets c k i j p ≡ false → reach_at (changed_at (called c) k i []) j p ≡ true
+    → reach_at k j p ≡ true
+call_reach c k i j p f h = (call_way c k i j p).1 f h
 
--- below the port of a call, a device that was just reset stays so
-pub call_new_below : (c : PortCall) (k : Ports) (i j n : ℕ) (p : List ℕ)
-    → IsNew (place_at k j (n ∷ p)) → IsNew (place_at (changed_at (called c) k i []) j (n ∷ p))
-unfolding changed_at place_at
-call_new_below c ended i j n p h = h
-call_new_below c (vacant b k) zero zero n p h = h
-call_new_below c (vacant b k) zero (suc j) n p h = h
-call_new_below c (vacant b k) (suc i) zero n p h = h
-call_new_below c (vacant b k) (suc i) (suc j) n p h = call_new_below c k i j n p h
-call_new_below c (taken b s a k) zero zero n p h = split n (is_reset c && sees b) h
-  where
-    split : (n : ℕ) (x : Bool) → IsNew (place_at (taken b s a k) zero (n ∷ p)) → IsNew (place_at (before (reset_where x (called_port c b) s a) k) zero (n ∷ p))
-    split zero true h = h
-    split zero false h = h
-    split (suc n) true h = off_new a n p h
-    split (suc n) false h = h
-call_new_below c (taken b s a k) zero (suc j) n p h =
-    elim (is_reset c && sees b) as (λ x. IsNew (place_at (before (reset_where x (called_port c b) s a) k) (suc j) (n ∷ p))) [ true ↦ h | false ↦ h ]
-call_new_below c (taken b s a k) (suc i) zero n p h = h
-call_new_below c (taken b s a k) (suc i) (suc j) n p h = call_new_below c k i j n p h
+-- a call resets the device that it resets, and leaves every other device's own state
+pub call_state : (c : PortCall) (k : Ports) (i j : ℕ) (p : List ℕ)
+    → state_at (changed_at (called c) k i []) j p
+    ≡ option_map (reset_if (call_resets c k i j p)) (state_at k j p)
+call_state c k i j p = (call_way c k i j p).0
 
 pub called_power : (c : PortCall) (b : PortState) (p : List ℕ) → spares c p ≡ true → b.power ≡ true → (called_port c b).power ≡ true
 called_power SetPower b p h g = lit b.power refl
@@ -225,40 +225,3 @@ call_kept c (taken b s a k) (suc i) zero p h =
     pending_kept (taken b s a k) (taken b s a (changed_at (called c) k i [])) zero p
     (same_head (full b s a) k (changed_at (called c) k i []) p).0
 call_kept c (taken b s a k) (suc i) (suc j) p h = call_kept c k i j p h
-
--- a call resets the device that it resets, and leaves every other device's own state
-pub call_state : (c : PortCall) (k : Ports) (i j : ℕ) (p : List ℕ)
-    → state_at (changed_at (called c) k i []) j p ≡ option_map (reset_if (call_resets c k i j p)) (state_at k j p)
-unfolding changed_at state_at place_at
-call_state c ended i j p = refl
-call_state c (vacant b k) zero zero p = refl
-call_state c (vacant b k) zero (suc j) [] = rw (and_false (is_reset c)) (kept_state (state_at k j []))
-call_state c (vacant b k) zero (suc j) (n ∷ p) = kept_state (state_at k j (n ∷ p))
-call_state c (vacant b k) (suc i) zero p = refl
-call_state c (vacant b k) (suc i) (suc j) [] = call_state c k i j []
-call_state c (vacant b k) (suc i) (suc j) (n ∷ p) = call_state c k i j (n ∷ p)
-call_state c (taken b s a k) zero zero p = split p (is_reset c && sees b) refl
-  where
-    split : (p : List ℕ) (x : Bool) → (is_reset c && sees b) ≡ x
-        → state_at (before (reset_where x (called_port c b) s a) k) zero p ≡ option_map (reset_if (call_resets c (taken b s a k) zero zero p)) (state_at (taken b s a k) zero p)
-    split [] true e = ap (λ y. Some (reset_if y s)) (sym e)
-    split [] false e = ap (λ y. Some (reset_if y s)) (sym e)
-    split (zero ∷ p) true e = refl
-    split (zero ∷ p) false e = refl
-    split (suc n ∷ p) true e = off_state a n p ∙ kept_state (state_at a n p)
-    split (suc n ∷ p) false e = kept_state (state_at a n p)
-call_state c (taken b s a k) zero (suc j) [] = rw (and_false (is_reset c)) (further (is_reset c && sees b))
-  where
-    further : (x : Bool) → state_at (before (reset_where x (called_port c b) s a) k) (suc j) [] ≡ option_map (reset_if false) (state_at k j [])
-    further true = kept_state (state_at k j [])
-    further false = kept_state (state_at k j [])
-call_state c (taken b s a k) zero (suc j) (n ∷ p) = further (is_reset c && sees b)
-  where
-    further : (x : Bool) → state_at (before (reset_where x (called_port c b) s a) k) (suc j) (n ∷ p) ≡ option_map (reset_if false) (state_at k j (n ∷ p))
-    further true = kept_state (state_at k j (n ∷ p))
-    further false = kept_state (state_at k j (n ∷ p))
-call_state c (taken b s a k) (suc i) zero [] = rw (and_false (is_reset c)) refl
-call_state c (taken b s a k) (suc i) zero (zero ∷ p) = refl
-call_state c (taken b s a k) (suc i) zero (suc n ∷ p) = kept_state (state_at a n p)
-call_state c (taken b s a k) (suc i) (suc j) [] = call_state c k i j []
-call_state c (taken b s a k) (suc i) (suc j) (n ∷ p) = call_state c k i j (n ∷ p)

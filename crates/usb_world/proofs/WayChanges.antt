@@ -6,6 +6,10 @@ use Rattle.usb_port.specs.declared.call.PortCall.{PortCall}
 use Rattle.usb_device.specs.Rows.{State}
 use Rattle.usb_device.specs.Tree.{Ports, ended, vacant, taken, Place, empty, full, before, changed_at}
 use Rattle.usb_device.specs.Tree.{called, reach_at, state_at, port_at}
+use Rattle.usb_device.specs.Tree.{changed, reach}
+use Rattle.usb_device.specs.View.{port_there, state_there}
+use Rattle.usb_world.specs.PortRequests.{root_leaves}
+use Rattle.usb_world.specs.Steps.{way_of}
 use Rattle.usb_world.specs.Paths.{live_at, pend_at, is_way, on_way, same_number}
 use Rattle.usb_world.proofs.Booleans.{no, not_true}
 
@@ -80,3 +84,29 @@ pub called_apart : (c : PortCall) (k : Ports) (i j : ℕ) (p : List ℕ)
     → not (same_number i j) ≡ true → SameWay k (changed_at (called c) k i []) j p
 unfolding is_way
 called_apart c k i j p h = changed_apart (called c) k i [] j p (ap (λ x. x && true) (not_true (same_number i j) h))
+
+-- The same of whole paths
+
+abbrev pub SameThere : Ports → Ports → List ℕ → Type 0
+SameThere k m p =
+    (reach m p ≡ reach k p) × (port_there m p ≡ port_there k p) × (state_there m p ≡ state_there k p)
+
+pub changed_there : (f : Place → Place) (k : Ports) (x p : List ℕ)
+    → way_of x p ≡ false → SameThere k (changed f k x) p
+unfolding is_way
+changed_there f k x [] w = (refl, refl, refl)
+changed_there f k x (zero ∷ p) w = (refl, refl, refl)
+changed_there f k [] (suc j ∷ p) w = (refl, refl, refl)
+changed_there f k (zero ∷ x) (suc j ∷ p) w = (refl, refl, refl)
+changed_there f k (suc i ∷ x) (suc j ∷ p) w =
+    let y : _ = changed_apart f k i x j p w in
+    (y.0.0, y.0.3, y.1)
+
+pub root_there : (c : PortCall) (m : ℕ) (k : Ports) (p : List ℕ)
+    → root_leaves m p ≡ true → SameThere k (changed (called c) k (m ∷ [])) p
+root_there c m k [] h = (refl, refl, refl)
+root_there c m k (zero ∷ p) h = (refl, refl, refl)
+root_there c zero k (suc j ∷ p) h = (refl, refl, refl)
+root_there c (suc i) k (suc j ∷ p) h =
+    let y : _ = called_apart c k i j p h in
+    (y.0.0, y.0.3, y.1)
