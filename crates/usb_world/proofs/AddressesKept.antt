@@ -1,5 +1,5 @@
 -- Which courses keep each device at its own address, and set no mark.
-use Rattle.std.proofs.Common.{◌≡◌, ℕ, zero, suc, ◌+◌, ◌==◌, ◌&&◌, ◌||◌, not, nat_lt, if◌then◌else◌, ◌⊎◌, inl, inr, Bool, true, false, List, [], ◌∷◌, ◌++◌, length, Option, None, Some, option_map, refl, ap, sym, subst, ◌∙◌}
+use Rattle.std.proofs.Common.{◌≡◌, ℕ, zero, suc, ◌+◌, ◌==◌, ◌&&◌, ◌||◌, not, nat_lt, if◌then◌else◌, ◌⊎◌, inl, inr, Bool, true, false, List, [], ◌∷◌, ◌++◌, length, Option, None, Some, option_map, refl, ap, sym, ◌∙◌}
 use Rattle.usb_packet.specs.declared.Packet.{Packet}
 use Rattle.usb_packet.specs.declared.Packet.TheVariants.{Token, Payload, Ack, Sof, Nak, Stall, Pre}
 use Rattle.usb_packet.specs.declared.Toggle.{Toggle}
@@ -27,7 +27,6 @@ use Rattle.usb_device.specs.Tree.{Ports, ended, vacant, taken, Place, empty, ful
 use Rattle.usb_device.specs.Delivery.{hears, reply_to, answer_of, answers, listed, held, is_twice}
 use Rattle.usb_device.proofs.Interface.{keeps-received}
 use Rattle.usb_world.specs.declared.damage.Damage.{Damage}
-use Rattle.usb_world.specs.declared.event.Event.{Event}
 use Rattle.usb_world.specs.declared.event.Action.{Action}
 use Rattle.usb_world.specs.declared.types.Attempt.{Attempt}
 use Rattle.usb_world.specs.declared.types.BusFault.{BusFault}
@@ -40,7 +39,7 @@ use Rattle.usb_world.specs.Paths.{address_of, is_way, Two}
 use Rattle.usb_world.specs.WayEffects.{resets_at, call_resets}
 use Rattle.usb_world.specs.AttemptPackets.{after_sent, answers_to, after_attempt, deep_at, sent_resets, attempt_resets}
 use Rattle.usb_world.specs.World.{World}
-use Rattle.usb_world.specs.Steps.{happened, way_of, names_path, took, due_from, ready, damage_in, with_attempt, event_taken, Step, attempt, root_call, event, report, after}
+use Rattle.usb_world.specs.Steps.{happened, way_of, names_path, took, ready, damage_in, with_attempt, event_taken, Step, attempt, root_call, event, report, after}
 use Rattle.usb_world.specs.Courses.{is_made, made_resets, root_resets, resets, address_at, Own, Injective, is_quiet, QuietStep, quiet_data}
 use Rattle.usb_world.proofs.Booleans.{no, both, and_of, decided, neither_of}
 use Rattle.usb_world.proofs.PlugEvents.{event_place}
@@ -52,8 +51,8 @@ use Rattle.usb_world.proofs.OneDevice.{stands, state_stands}
 use Rattle.usb_world.proofs.Courses.{happened_reach, made_reach, root_reach, goes}
 use Rattle.usb_world.proofs.HarmlessRequests.{harmless_resets, IsHarmlessOut}
 use Rattle.usb_world.proofs.States.{kept_address, forgotten_address}
-use Rattle.usb_world.proofs.LiftedSteps.{OverEvents, OverSteps, Keeps, keeps_events, happened_by, over_taken, over_due, over_ready, over_attempt, over_step, due_alike}
-use Rattle.usb_world.proofs.DueEvents.{beside_events, ready_beside}
+use Rattle.usb_world.proofs.LiftedSteps.{OverEvents, OverSteps, Keeps, keeps_events, happened_by, over_taken, over_ready, over_attempt, over_step}
+use Rattle.usb_world.proofs.DueEvents.{beside_events, ready_shared}
 
 -- A packet that is no ACK changes no address
 
@@ -159,11 +158,8 @@ stood_events p = record {
   came = λ e es w l. happened_stood e.action w.devices w.roots p;
 }
 
-pub due_state : (es : List Event) (w : World) (p : List ℕ) → reach (due_from es w).roots p ≡ true → state_there (due_from es w).roots p ≡ state_there w.roots p
-due_state es w p =
-    subst (λ (k : Ports). reach k p ≡ true → state_there k p ≡ state_there w.roots p)
-    (ap (λ v. v.roots) (due_alike es w))
-    (λ on. (over_due (stood_events p) es (record w { left = es }) refl on).1)
+pub ready_stood : (w : World) (p : List ℕ) → Stood p w (ready w)
+ready_stood w p = over_ready (stood_events p) w
 
 pub taken_state : (f : Option BusFault) (w : World) (p : List ℕ) → reach (event_taken f w).roots p ≡ true → state_there (event_taken f w).roots p ≡ state_there w.roots p
 taken_state f w p on = (over_taken (stood_events p) f w on).1
@@ -419,7 +415,7 @@ ready_own f = over_ready (own_steps f).events
 pub ready_unshared : (f : List ℕ → Option ℕ) → Injective f → (w : World) → Own f w → w.shared ≡ false → ((ready w).shared || is_twice (held (ready w).roots)) ≡ false
 ready_unshared f inj w own h =
     neither_of (ready w).shared (is_twice (held (ready w).roots))
-    (ap (λ v. v.shared) (ready_beside w) ∙ h) (own_not_twice f inj (ready w) (ready_own f w own))
+    (ready_shared w ∙ h) (own_not_twice f inj (ready w) (ready_own f w own))
 
 pub step_unshared : (f : List ℕ → Option ℕ) → Injective f → (s : Step) (w : World) → Own f w → w.shared ≡ false → (after s w).shared ≡ false
 unfolding after with_attempt

@@ -21,7 +21,7 @@ use Rattle.usb_world.specs.AttemptPackets.{IsSettled}
 use Rattle.usb_world.specs.SanePorts.{IsSane}
 use Rattle.usb_world.specs.PlanData.{PlanData}
 use Rattle.usb_world.specs.World.{World}
-use Rattle.usb_world.specs.Steps.{happened, with_plugged, took, ready, damage_in, with_attempt, Step, after, AnyStep, Course, IsBetween, opening}
+use Rattle.usb_world.specs.Steps.{happened, with_plugged, took, ready, damage_in, with_attempt, Step, after, AnyStep, Course, here, step, IsBetween, opening}
 use Rattle.usb_world.proofs.SanePorts.{sane_path, sane_new_ports, sane_called, sane_replaced}
 use Rattle.usb_world.proofs.AttemptPackets.{attempt_settled, attempt_sane}
 use Rattle.usb_world.proofs.LiftedSteps.{OverSteps, Keeps, keeps_events, happened_by, over_ready, over_step, over_course}
@@ -178,6 +178,18 @@ settled_steps = record {
 
 pub settled_after : (s : Step) (w : World) → IsSettled w.roots → IsSettled (after s w).roots
 settled_after s w = over_step (settled_steps {K = AnyStep}) s w tt
+
+pub settled_course : {K : Step → World → Type 0} {w v : World} → Course K w v → IsSettled w.roots
+    → IsSettled v.roots
+settled_course c = over_course settled_steps c
+
+-- a course of steps that are so where no device remembers a packet
+pub settled_wider : {K L : Step → World → Type 0}
+    → ((s : Step) (w : World) → K s w → IsSettled w.roots → L s w) → {w v : World} → Course K w v
+    → IsSettled w.roots → Course L w v
+settled_wider f (here w) h = here w
+settled_wider f (step s {w} {v} k c) h =
+    step s (f s w k h) (settled_wider f c (settled_after s w h))
 
 pub between_steps : {K : Step → World → Type 0} → OverSteps K (Keeps IsBetween)
 unfolding took with_attempt
