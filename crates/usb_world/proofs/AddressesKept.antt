@@ -143,19 +143,15 @@ Stood p w v =
     reach v.roots p ≡ true
     → (reach w.roots p ≡ true) × (state_there v.roots p ≡ state_there w.roots p)
 
-pub happened_stood : (a : Action) (d : List Spec) (k : Ports) (p : List ℕ)
-    → reach (happened a d k) p ≡ true
-    → (reach k p ≡ true) × (state_there (happened a d k) p ≡ state_there k p)
-happened_stood a d k p on =
-    let before : _ = happened_reach a d k p on in (before.0, happened_state a d k p before.1)
-
 pub stood_events : (p : List ℕ) → OverEvents (Stood p)
 unfolding took
 stood_events p = record {
   same = λ w on. (on, refl);
   joined = λ w m v x y on.
       let late : _ = y on in let early : _ = x late.0 in (early.0, late.1 ∙ early.1);
-  came = λ e es w l. happened_stood e.action w.devices w.roots p;
+  came = λ e es w l on.
+      let before : _ = happened_reach e.action w.devices w.roots p on in
+      (before.0, happened_state e.action w.devices w.roots p before.1);
 }
 
 pub ready_stood : (w : World) (p : List ℕ) → Stood p w (ready w)
@@ -386,15 +382,12 @@ quiet_resets (report l) w p h = refl
 pub own_steps : (f : List ℕ → Option ℕ) → OverSteps QuietStep (Keeps (Own f))
 unfolding resets
 own_steps f = record {
-  events =
-      keeps_events (Own f)
-      (λ e es w l own p h.
+  events = keeps_events (Own f) (λ e es w l own p h.
       let x : _ = (stood_events p).came e es w l h in
       ap (option_map address_of) x.1 ∙ own p x.0);
   made = λ a w made q own p h.
-      let rest : made_resets a (ready w) p
-      ≡ false = ap (λ x. x && made_resets a (ready w) p) (sym made)
-      ∙ quiet_resets (attempt a) w p q in
+      let rest : made_resets a (ready w) p ≡ false =
+      ap (λ x. x && made_resets a (ready w) p) (sym made) ∙ quiet_resets (attempt a) w p q in
       made_address a (ready w) (quiet_sends a (damage_in (ready w)) q) p
       ∙ own p (made_reach a (ready w) p rest h);
   root = λ c n w q own p h.

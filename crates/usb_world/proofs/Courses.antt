@@ -1,5 +1,5 @@
 -- What a step of the world does to reachable, live and pending, and what whole courses do.
-use Rattle.std.proofs.Common.{◌≡◌, ℕ, zero, suc, Bool, ◌+◌, ◌&&◌, nat_le, length, if◌then◌else◌, ◌⊎◌, inl, inr, true, false, List, [], ◌∷◌, ◌++◌, Option, None, Some, refl, ap, sym, subst, ◌∙◌}
+use Rattle.std.proofs.Common.{◌≡◌, ℕ, zero, suc, Bool, ◌+◌, ◌&&◌, nat_le, length, if◌then◌else◌, ◌⊎◌, inl, inr, true, false, List, [], ◌∷◌, ◌++◌, Option, None, Some, refl, ap, sym, subst, ◌∙◌, append_assoc}
 use Rattle.usb_port.specs.declared.call.PortCall.{PortCall}
 use Rattle.usb_device.specs.declared.delivery.Content.TheVariants.{Whole}
 use Rattle.usb_device.specs.Spec.{Spec}
@@ -33,10 +33,6 @@ use Rattle.usb_world.proofs.AttemptPackets.{attempt_reach, attempt_new, attempt_
 
 pub undisturbed_here : (w v : World) (p : List ℕ) → w.left ≡ v.left → v.devices ≡ w.devices → Undisturbed w v p
 undisturbed_here w v p e d = record { events = []; split = e; silent = tt; devices = d }
-
-append_assoc : (a b c : List Event) → (a ++ b) ++ c ≡ a ++ (b ++ c)
-append_assoc [] b c = refl
-append_assoc (x ∷ a) b c = ap (λ y. x ∷ y) (append_assoc a b c)
 
 none_append : (d : List Spec) (a b : List Event) (p : List ℕ) → NoneNames d a p → NoneNames d b p → NoneNames d (a ++ b) p
 none_append d [] b p h g = g

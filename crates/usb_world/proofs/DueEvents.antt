@@ -5,26 +5,20 @@ use Rattle.usb_world.specs.World.{World}
 use Rattle.usb_world.specs.Steps.{took, took_first, ready, Coming}
 use Rattle.usb_world.proofs.LiftedSteps.{OverEvents, over_ready, over_coming}
 
--- all is as it was but the ports, the events to come, how many came, and when the last one did
-abbrev pub SameBeside : World → World → Type 0
-SameBeside w v =
+-- a world but for its ports, the events to come, how many came, and when the last one did
+abbrev with_events_of : World → World → World
+with_events_of w v =
     record v { roots = w.roots; left = w.left; taken = w.taken; attempts_then = w.attempts_then }
-    ≡ w
+
+-- all else is as it was
+abbrev pub SameBeside : World → World → Type 0
+SameBeside w v = with_events_of w v ≡ w
 
 pub beside_events : OverEvents SameBeside
 unfolding took
 beside_events = record {
   same = λ w. refl;
-  joined = λ w m v x y.
-      ap
-      (λ (u : World).
-      record u {
-        roots = w.roots;
-        left = w.left;
-        taken = w.taken;
-        attempts_then = w.attempts_then;
-      }) y
-      ∙ x;
+  joined = λ w m v x y. ap (with_events_of w) y ∙ x;
   came = λ e events w l. refl;
 }
 
