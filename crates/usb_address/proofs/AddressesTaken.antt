@@ -21,7 +21,7 @@ use Rattle.usb_transaction.specs.Trail.{Trail, start, next, CutOff, Transacted}
 use Rattle.usb_address.specs.Aims.{Aims, AllAim, Never}
 use Rattle.usb_address.specs.Leaves.{LeavesTrans}
 use Rattle.usb_address.specs.Ownership.{Owned}
-use Rattle.usb_address.proofs.Steps.{aim_ready, in_aims, data_owned, settled_after, unshared_after}
+use Rattle.usb_address.proofs.Steps.{aim_ready, in_aims, data_owned, attempt_settled, unshared_after}
 use Rattle.usb_address.proofs.Trails.{cut_off}
 
 ends_some : (g : Stage) → ends_with_address g ≡ true → (c : ℕ) × (g ≡ ending (Some c))
@@ -52,7 +52,7 @@ module _ (f : List ℕ → Option ℕ) (p : List ℕ) (b : ℕ) (a : Attempt) (i
 
   kept : (w : World) → Made w (after (attempt a) w) → IsMade a w → Owned f w → AllAim Target n w → Own f (after (attempt a) w) → Taking (after (attempt a) w)
   kept w made m o h own =
-      inl (record { distinct = o.distinct; own = own; single = unshared_after f a w o; settled = settled_after a w made o.settled }, in_aims Target a w m is (unshared_after f a w o) h)
+      inl (record { distinct = o.distinct; own = own; single = unshared_after f a w o; settled = attempt_settled a w o.settled }, in_aims Target a w m is (unshared_after f a w o) h)
 
   -- once it is taken nobody is left at the old address
   none_left : (w : World) → Own taken w → AllAim Never n w
@@ -67,7 +67,7 @@ module _ (f : List ℕ → Option ℕ) (p : List ℕ) (b : ℕ) (a : Attempt) (i
 
   took : (w : World) (r : List ℕ) → f r ≡ Some n → Made w (after (attempt a) w) → Owned f w → Own taken (after (attempt a) w) → Taking (after (attempt a) w)
   took w r e made o own =
-      inr (record { distinct = taken_distinct f p b o.distinct (λ q h. elim (free q r h e) [ ]); own = own; single = unshared_after f a w o; settled = settled_after a w made o.settled }, none_left (after (attempt a) w) own)
+      inr (record { distinct = taken_distinct f p b o.distinct (λ q h. elim (free q r h e) [ ]); own = own; single = unshared_after f a w o; settled = attempt_settled a w o.settled }, none_left (after (attempt a) w) own)
 
   moved_own : (w : World) → Owned f w → NoneTakes n (ready w).roots → Own f (after (attempt a) w)
   moved_own w o h = data_own f a w (ap is_setup is.kind) h o.settled o.own

@@ -1,36 +1,22 @@
 -- What events do to the addresses that devices hold.
-use Rattle.std.proofs.Common.{◌≡◌, false, List, [], ◌∷◌, Option, None, Some, Result, Ok, Err, refl, ap, ◌∙◌}
+use Rattle.std.proofs.Common.{◌≡◌, false, Option, None, Some, Result, Ok, Err, refl, ap, ◌∙◌}
 use Rattle.std.specs.Prelude.{OnOk}
 use Rattle.usb_world.specs.declared.event.Due.{Due}
-use Rattle.usb_world.specs.declared.event.Event.{Event}
 use Rattle.usb_world.specs.declared.types.BusFault.{BusFault}
 use Rattle.usb_world.specs.declared.types.BusFault.TheVariants.{LimitReached, Memory, TraceFailed}
-use Rattle.usb_world.specs.AttemptPackets.{IsSettled}
-use Rattle.usb_world.specs.Steps.{took, took_first, event_taken, event, after, TookEvent}
+use Rattle.usb_world.specs.Steps.{event, after, TookEvent}
 use Rattle.usb_world.specs.World.{World}
-use Rattle.usb_world.proofs.Interface.{settled_happened, step_own, step_unshared}
+use Rattle.usb_world.proofs.Interface.{settled_after, step_own, step_unshared}
 use Rattle.usb_address.specs.Claims.{Claims}
 use Rattle.usb_address.specs.Ownership.{Owned, TillFault, KeepsAddresses}
 use Rattle.usb_address.proofs.Endpoints.{same_keeps}
 
--- The next event, if one is left
-
-first_settled : (events : List Event) (w : World) → IsSettled w.roots → IsSettled (took_first events w).roots
-unfolding took
-first_settled [] w h = h
-first_settled (e ∷ events) w h = settled_happened e.action w.devices w.roots h
-
-taken_settled : (fault : Option BusFault) (w : World) → IsSettled w.roots → IsSettled (event_taken fault w).roots
-taken_settled (Some fault) w h = h
-taken_settled None w h = first_settled w.left w h
-
 event_owned : (f : Claims) (w : World) → Owned f w → Owned f (after event w)
-unfolding after
 event_owned f w o = record {
   distinct = o.distinct;
   own = step_own f event w refl o.own;
   single = step_unshared f o.distinct event w o.own o.single;
-  settled = taken_settled w.fault w o.settled;
+  settled = settled_after event w o.settled;
 }
 
 -- where the bus gave up in a world, only its fault is new

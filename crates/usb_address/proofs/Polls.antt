@@ -30,7 +30,7 @@ use Rattle.usb_pipe.specs.Control.{as_pipe_fault}
 use Rattle.usb_pipe.specs.Interrupt.{Interrupt, PollAsked, Polls}
 use Rattle.usb_address.specs.Leaves.{LeavesTrans, LeavesPipe}
 use Rattle.usb_address.specs.Ownership.{Owned}
-use Rattle.usb_address.proofs.Steps.{settled_after, unshared_after}
+use Rattle.usb_address.proofs.Steps.{attempt_settled, unshared_after}
 use Rattle.usb_address.proofs.Trails.{cut_off}
 use Rattle.usb_address.proofs.BulkRuns.{in_kept}
 
@@ -124,7 +124,7 @@ pub trail_far : (f : List ℕ → Option ℕ) (a : Attempt) → IsFar a → {old
 trail_far f a far start o = o
 trail_far f a far (next w t made) o =
     let x : Owned f w = trail_far f a far t o in
-    record { distinct = x.distinct; own = far_own f a w far (made_of a w x.settled made) (unshared_after f a w x) x.own; single = unshared_after f a w x; settled = settled_after a w made x.settled }
+    record { distinct = x.distinct; own = far_own f a w far (made_of a w x.settled made) (unshared_after f a w x) x.own; single = unshared_after f a w x; settled = attempt_settled a w x.settled }
 
 pub far_transacted : (f : List ℕ → Option ℕ) (a : Attempt) → IsFar a → (hear : _) (old : World) (answer : Result (List ℕ) TransFault) (new : World) → Transacted hear a old answer new → Owned f old → LeavesTrans (Owned f) answer new
 far_transacted f a far hear old (Ok bytes) new e o = trail_far f a far e.trail o

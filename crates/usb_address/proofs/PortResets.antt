@@ -33,7 +33,7 @@ use Rattle.usb_address.specs.Aims.{Aims, AllAim, TakesOnly, Never}
 use Rattle.usb_address.specs.Leaves.{LeavesTrans, LeavesPipe}
 use Rattle.usb_address.specs.Ownership.{Owned}
 use Rattle.usb_address.proofs.AddressRequests.{outcome_only}
-use Rattle.usb_address.proofs.Steps.{set_up_aims, settled_after, unshared_after}
+use Rattle.usb_address.proofs.Steps.{set_up_aims, attempt_settled, unshared_after}
 use Rattle.usb_address.proofs.Trails.{cut_off, acked}
 use Rattle.usb_address.proofs.Transfers.{asks_leaves, Calm, FaultLeaves, of_fault}
 
@@ -118,10 +118,10 @@ module _ (q : List ℕ) (n : ℕ) (t : Target) (request : Setup) (same : setup_o
       u = unshared_after h a w o
 
       stays : Own h (after (attempt a) w) → Step h (after (attempt a) w)
-      stays own = inl (record { distinct = o.distinct; own = own; single = u; settled = settled_after a w made o.settled })
+      stays own = inl (record { distinct = o.distinct; own = own; single = u; settled = attempt_settled a w o.settled })
 
       moves : Own (after_reset h p) (after (attempt a) w) → Step h (after (attempt a) w)
-      moves own = inr (record { distinct = reset_distinct h p o.distinct y.only; own = own; single = u; settled = settled_after a w made o.settled })
+      moves own = inr (record { distinct = reset_distinct h p o.distinct y.only; own = own; single = u; settled = attempt_settled a w o.settled })
 
       nobody : NobodyHolds a.addr (ready w).roots → Own h (after (attempt a) w)
       nobody x path on = ap (λ k. address_at k path) (nobody_in a w m x).1 ∙ ready_own h w o.own path (ap (λ k. reach k path) (sym (nobody_in a w m x).1) ∙ on)

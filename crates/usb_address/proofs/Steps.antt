@@ -1,10 +1,9 @@
 -- What one attempt leaves of addresses.
-use Rattle.std.proofs.Common.{◌≡◌, ℕ, ◌&&◌, ◌||◌, if◌then◌else◌, inr, Bool, true, false, List, Option, None, Some, Err, refl, ap, sym, subst, ◌∙◌, ◌==◌}
+use Rattle.std.proofs.Common.{◌≡◌, ℕ, ◌&&◌, if◌then◌else◌, inr, Bool, true, false, List, Option, None, Some, Err, refl, ap, sym, subst, ◌∙◌}
 use Rattle.usb_packet.specs.declared.Toggle.{Toggle}
 use Rattle.usb_request.specs.Layout.{setup_of}
 use Rattle.usb_device.specs.Attempt.{Way, is_whole, heard}
 use Rattle.usb_device.specs.declared.answer.Answer.TheVariants as answer
-use Rattle.usb_device.specs.Delivery.{held, is_twice}
 use Rattle.usb_device.specs.Request.{outcome}
 use Rattle.usb_device.specs.Rows.{State, Reply, accepted}
 use Rattle.usb_device.specs.Tree.{row_of, Spot, path_to, reach_on, state_on}
@@ -15,14 +14,12 @@ use Rattle.usb_world.specs.declared.types.Outcome.TheVariants.{Ack}
 use Rattle.usb_world.specs.Paths.{address_of}
 use Rattle.usb_world.specs.AttemptPackets.{IsSettled}
 use Rattle.usb_world.specs.World.{World, Made}
-use Rattle.usb_world.specs.Steps.{ready, attempt, after, outcome_in, here, step, Left, at_event, at_packet, at_line, GaveUp, AttemptFails, with_attempt, attempted, damage_in}
+use Rattle.usb_world.specs.Steps.{ready, attempt, after, outcome_in, here, step, AttemptFails}
 use Rattle.usb_world.specs.Courses.{resets, is_quiet}
 use Rattle.usb_world.specs.OneHolder.{IsSetup, IsOut, IsIn, IsMade, got}
 use Rattle.usb_world.specs.Devices.{Was, DidIn, DidOut, DidSetup}
 use Rattle.usb_world.specs.Addresses.{is_setup, NoneTakes}
-use Rattle.usb_world.proofs.Interface.{came_shared, course_keeps, due_own, due_reach, due_shared, due_state, each_in, each_out, each_setup, equal_same, neither_of, no, own_not_twice, same_equal, settled_ports, step_own, step_unshared}
-use Rattle.usb_transaction.proofs.Interface.{trail_settled}
-use Rattle.usb_transaction.specs.Trail.{start, next}
+use Rattle.usb_world.proofs.Interface.{course_keeps, due_back, each_in, each_out, each_setup, equal_same, given_up_shared, no, same_equal, settled_after, step_own, step_unshared}
 use Rattle.usb_address.specs.Aims.{Aims, AllAim, TakesOnly, Never}
 use Rattle.usb_address.specs.Ownership.{Owned}
 use Rattle.usb_address.proofs.Stages.{none_takes, in_keeps, out_keeps}
@@ -31,8 +28,8 @@ use Rattle.usb_address.proofs.AddressRequests.{first_aims}
 -- Events that are due
 
 pub aim_ready : (Q : ℕ → Type 0) (n : ℕ) (w : World) → AllAim Q n w → AllAim Q n (ready w)
-unfolding ready
-aim_ready Q n w h i s on there at = h i s (due_reach w.left w (path_to i) refl on).0 (sym (due_state w.left w (path_to i) on) ∙ there) at
+aim_ready Q n w h i s on there at =
+    let was : _ = due_back w i on in h i s was.0 (sym was.1 ∙ there) at
 
 none_ready : (n : ℕ) (w : World) → AllAim Never n w → NoneTakes n (ready w).roots
 none_ready n w h i e s on there at = none_takes s.stage (aim_ready Never n w h (record { row = i; rest = e }) s on there at)
@@ -103,19 +100,7 @@ module _ (Q : ℕ → Type 0) where
 
 -- an attempt leaves the ports settled, whether it is made or not
 pub attempt_settled : (a : Attempt) (w : World) → IsSettled w.roots → IsSettled (after (attempt a) w).roots
-unfolding after with_attempt
-attempt_settled a w h = tried w.fault
-  where
-    tried : (x : Option BusFault) → IsSettled (attempted a x w).roots
-    tried (Some x) = h
-    tried None = made (w.attempts == w.limit)
-      where
-        made : (x : Bool) → IsSettled (if x then record w { fault = Some LimitReached } else with_attempt a (ready w)).roots
-        made true = h
-        made false = settled_ports a (damage_in (ready w)) (ready w).roots
-
-pub settled_after : (a : Attempt) (w : World) → Made w (after (attempt a) w) → IsSettled w.roots → IsSettled (after (attempt a) w).roots
-settled_after a w made h = trail_settled (next w start made) h
+attempt_settled a w = settled_after (attempt a) w
 
 pub unshared_after : (f : List ℕ → Option ℕ) (a : Attempt) (w : World) → Owned f w → (after (attempt a) w).shared ≡ false
 unshared_after f a w o = step_unshared f o.distinct (attempt a) w o.own o.single
@@ -126,24 +111,17 @@ data_owned f a w kind o h =
     record { distinct = o.distinct; own = x.0; single = x.1; settled = x.2 }
 
 pub quiet_owned : (f : List ℕ → Option ℕ) (a : Attempt) (w : World) → is_quiet (attempt a) ≡ true → Made w (after (attempt a) w) → Owned f w → Owned f (after (attempt a) w)
-quiet_owned f a w q made o = record { distinct = o.distinct; own = step_own f (attempt a) w q o.own; single = unshared_after f a w o; settled = settled_after a w made o.settled }
+quiet_owned f a w q made o = record {
+  distinct = o.distinct;
+  own = step_own f (attempt a) w q o.own;
+  single = unshared_after f a w o;
+  settled = attempt_settled a w o.settled;
+}
 
 -- An attempt that the bus gave up: no address was held twice at it
 
-made_unshared : (f : List ℕ → Option ℕ) (w : World) → Owned f w → ((ready w).shared || is_twice (held (ready w).roots)) ≡ false
-unfolding ready
-made_unshared f w o = neither_of (ready w).shared (is_twice (held (ready w).roots)) (due_shared w.left w ∙ o.single) (own_not_twice f o.distinct (ready w) (due_own f w.left w o.own))
-
-left_unshared : (f : List ℕ → Option ℕ) (a : Attempt) (w v : World) (fault : BusFault) → Owned f w → Left a w fault v → v.shared ≡ false
-unfolding with_attempt
-left_unshared f a w v fault o (at_event c) = came_shared c ∙ o.single
-left_unshared f a w v fault o (at_packet k e cut is) = ap (λ x. x.shared) is ∙ made_unshared f w o
-left_unshared f a w v fault o (at_line e is) = ap (λ x. x.shared) is ∙ made_unshared f w o
-
-gave_up : (f : List ℕ → Option ℕ) (a : Attempt) (w v : World) (fault : BusFault) → Owned f w → GaveUp a w fault v → v.shared ≡ false
-gave_up f a w v fault o g = ap (λ x. x.shared) g.told ∙ left_unshared f a w g.left fault o g.so_far
-
 pub fails_unshared : (f : List ℕ → Option ℕ) (a : Attempt) (w v : World) (fault : BusFault) → Owned f w → AttemptFails a w (Err fault) v → v.shared ≡ false
 fails_unshared f a w v LimitReached o h = ap (λ x. x.shared) h ∙ unshared_after f a w o
-fails_unshared f a w v Memory o h = gave_up f a w v Memory o h
-fails_unshared f a w v TraceFailed o h = gave_up f a w v TraceFailed o h
+fails_unshared f a w v Memory o h = given_up_shared a w v Memory h f o.distinct o.own o.single
+fails_unshared f a w v TraceFailed o h =
+    given_up_shared a w v TraceFailed h f o.distinct o.own o.single

@@ -1,5 +1,5 @@
 -- A port without power, of which nothing is asked, stays without power, whatever is plugged or unplugged.
-use Rattle.std.proofs.Common.{◌≡◌, ℕ, zero, suc, ◌==◌, if◌then◌else◌, true, false, List, [], ◌∷◌, Option, None, Some, slice_get, ap, sym, subst, ◌∙◌, refl}
+use Rattle.std.proofs.Common.{◌≡◌, ℕ, zero, suc, false, List, [], ◌∷◌, Option, None, Some, ap, sym, subst, ◌∙◌, refl}
 use Rattle.std.proofs.lemmas.Option.{same_Some}
 use Rattle.usb_port.specs.PortState.{PortState, plugged, unplugged, off}
 use Rattle.usb_device.specs.Rows.{fresh}
@@ -7,15 +7,10 @@ use Rattle.usb_device.specs.Spec.{Spec, Hub}
 use Rattle.usb_device.specs.Tree.{Ports, ended, vacant, taken, new_ports, first_ports, replaced, changed, changed_at, port_at}
 use Rattle.usb_device.specs.View.{port_there}
 use Rattle.usb_world.specs.declared.event.Action.{Action}
-use Rattle.usb_world.specs.declared.event.Action.TheVariants.{Plug, Unplug, Show, Send, Receive, Clear}
-use Rattle.usb_world.specs.declared.event.Event.{Event}
-use Rattle.usb_world.specs.declared.types.Attempt.{Attempt}
-use Rattle.usb_world.specs.declared.types.BusFault.{BusFault}
-use Rattle.usb_world.specs.declared.types.BusFault.TheVariants.{LimitReached}
-use Rattle.usb_world.specs.PortRequests.{made_leaves, leaves_step, LeavesPort}
-use Rattle.usb_world.specs.Steps.{with_plugged, happened, is_due, took, took_first, due_from, ready, with_attempt, attempted, event_taken, Step, attempt, root_call, event, report, after, Course, here, step}
+use Rattle.usb_world.specs.PortRequests.{leaves_step, LeavesPort}
+use Rattle.usb_world.specs.Steps.{happened, took, ready, Course}
 use Rattle.usb_world.specs.World.{World}
-use Rattle.usb_world.proofs.Interface.{made_port, root_port}
+use Rattle.usb_world.proofs.Interface.{Keeps, OverSteps, happened_by, keeps_events, made_port, over_course, over_ready, root_port}
 
 -- the port that stands there, if any, has no power
 abbrev pub NoPower : Option PortState → Type 0
@@ -79,57 +74,26 @@ replaced_unpowered o k (suc i ∷ x) [] h = h
 replaced_unpowered o k (suc i ∷ x) (zero ∷ p) h = h
 replaced_unpowered o k (suc i ∷ x) (suc j ∷ p) h = event_unpowered o k i x j p h
 
-plugged_unpowered : (o : Option Spec) (k : Ports) (x p : List ℕ) → NoPower (port_there k p) → NoPower (port_there (with_plugged o x k) p)
-plugged_unpowered None k x p h = h
-plugged_unpowered (Some s) k x p h = replaced_unpowered (Some s) k x p h
-
-happened_unpowered : (a : Action) (d : List Spec) (k : Ports) (p : List ℕ) → NoPower (port_there k p) → NoPower (port_there (happened a d k) p)
-happened_unpowered (Plug x i) d k p h = plugged_unpowered (slice_get d i) k x p h
-happened_unpowered (Unplug x) d k p h = replaced_unpowered None k x p h
-happened_unpowered Show d k p h = h
-happened_unpowered (Send x y) d k p h = h
-happened_unpowered (Receive x y) d k p h = h
-happened_unpowered (Clear x) d k p h = h
-
-due_unpowered : (es : List Event) (w : World) (p : List ℕ) → NoPower (port_there w.roots p) → NoPower (port_there (due_from es w).roots p)
-unfolding due_from took
-due_unpowered [] w p h = h
-due_unpowered (e ∷ es) w p h =
-    elim (is_due e w) as (λ b. NoPower (port_there (if b then due_from es (took e es w) else w).roots p)) [
-      | true ↦ due_unpowered es (took e es w) p (happened_unpowered e.action w.devices w.roots p h)
-      | false ↦ h
-    ]
-
-pub ready_unpowered : (w : World) (p : List ℕ) → NoPower (port_there w.roots p) → NoPower (port_there (ready w).roots p)
-unfolding ready
-ready_unpowered w p h = due_unpowered w.left w p h
+happened_unpowered : (a : Action) (d : List Spec) (k : Ports) (p : List ℕ)
+    → NoPower (port_there k p) → NoPower (port_there (happened a d k) p)
+happened_unpowered a d k p h =
+    happened_by (λ v _. NoPower (port_there v p)) a d k p h (λ o x. replaced_unpowered o k x p h)
 
 -- Steps
 
-attempted_unpowered : (a : Attempt) (f : Option BusFault) (w : World) (p : List ℕ) → made_leaves a (ready w) p ≡ true → NoPower (port_there w.roots p) → NoPower (port_there (attempted a f w).roots p)
-attempted_unpowered a (Some f) w p g h = h
-attempted_unpowered a None w p g h =
-    elim (w.attempts == w.limit) as (λ b. NoPower (port_there (if b then record w { fault = Some LimitReached } else with_attempt a (ready w)).roots p)) [
-      | true ↦ h
-      | false ↦ subst NoPower (sym (made_port a (ready w) p g)) (ready_unpowered w p h)
-    ]
+unpowered_steps : (p : List ℕ)
+    → OverSteps (LeavesPort p) (Keeps (λ w. NoPower (port_there w.roots p)))
+unfolding took leaves_step
+unpowered_steps p = record {
+  events = keeps_events (λ w. NoPower (port_there w.roots p))
+      (λ e es w l. happened_unpowered e.action w.devices w.roots p);
+  made = λ a w made g. subst NoPower (sym (made_port a (ready w) p g));
+  root = λ c m w g. subst NoPower (sym (root_port c m w.roots p g));
+  refused = λ w h. h;
+}
 
-first_unpowered_by : (es : List Event) (w : World) (p : List ℕ) → NoPower (port_there w.roots p) → NoPower (port_there (took_first es w).roots p)
-unfolding took
-first_unpowered_by [] w p h = h
-first_unpowered_by (e ∷ es) w p h = happened_unpowered e.action w.devices w.roots p h
-
-taken_unpowered : (f : Option BusFault) (w : World) (p : List ℕ) → NoPower (port_there w.roots p) → NoPower (port_there (event_taken f w).roots p)
-taken_unpowered (Some f) w p h = h
-taken_unpowered None w p h = first_unpowered_by w.left w p h
-
-step_unpowered : (s : Step) (w : World) (p : List ℕ) → leaves_step s w p ≡ true → NoPower (port_there w.roots p) → NoPower (port_there (after s w).roots p)
-unfolding after leaves_step
-step_unpowered (attempt a) w p g h = attempted_unpowered a w.fault w p g h
-step_unpowered (root_call c m) w p g h = subst NoPower (sym (root_port c m w.roots p g)) h
-step_unpowered event w p g h = taken_unpowered w.fault w p h
-step_unpowered (report l) w p g h = h
+pub ready_unpowered : (w : World) (p : List ℕ) → NoPower (port_there w.roots p) → NoPower (port_there (ready w).roots p)
+ready_unpowered w p = over_ready (unpowered_steps p).events w
 
 pub stays_unpowered : (p : List ℕ) {w v : World} → Course (LeavesPort p) w v → NoPower (port_there w.roots p) → NoPower (port_there v.roots p)
-stays_unpowered p (here w) h = h
-stays_unpowered p (step s {w} {v} k more) h = stays_unpowered p more (step_unpowered s w p k h)
+stays_unpowered p c = over_course (unpowered_steps p) c

@@ -1,5 +1,5 @@
 -- What events add to what is left to do, where ports are marked.
-use Rattle.std.proofs.Common.{◌≡◌, ◌≤◌, ℕ, zero, suc, ◌+◌, ◌||◌, if◌then◌else◌, Bool, true, false, List, [], ◌∷◌, length, slice_get, Option, None, Some, refl, ◌∙◌, arith}
+use Rattle.std.proofs.Common.{◌≡◌, ◌≤◌, ℕ, zero, suc, ◌+◌, ◌||◌, Bool, true, false, List, [], ◌∷◌, length, slice_get, Option, None, Some, refl, subst, ◌∙◌, arith}
 use Rattle.std.proofs.lemmas.List.Elements.{All-head, All-tail}
 use Rattle.usb_port.specs.PortState.{bit}
 use Rattle.usb_device.specs.Rows.{fresh}
@@ -8,10 +8,10 @@ use Rattle.usb_device.specs.Tree.{Ports, ended, vacant, taken, new_ports, first_
 use Rattle.usb_world.specs.declared.event.Action.{Action}
 use Rattle.usb_world.specs.declared.event.Action.TheVariants.{Plug, Unplug, Show, Send, Receive, Clear}
 use Rattle.usb_world.specs.declared.event.Event.{Event}
-use Rattle.usb_world.specs.declared.types.BusFault.{BusFault}
 use Rattle.usb_world.specs.PlanCourses.{AtPorts, PlugsAtPort}
-use Rattle.usb_world.specs.Steps.{after, due_from, event, event_taken, happened, is_due, ready, took, took_first, with_plugged}
+use Rattle.usb_world.specs.Steps.{after, event, happened, ready, took, with_plugged}
 use Rattle.usb_world.specs.World.{World}
+use Rattle.usb_world.proofs.Interface.{OverEvents, over_ready, over_taken}
 use Rattle.usb_backlog.specs.Marks.{charged, devices_in, Few, KeepsBy, PortMark, after_first, below_first, devices_by, looks_by, strays_by}
 use Rattle.usb_backlog.proofs.Devices.{charged-less, charged-more, charged-most}
 use Rattle.usb_backlog.proofs.Devices.{devices_in-plugged, devices_in-unplugged, own-most}
@@ -188,30 +188,26 @@ module _ (m v r : PortMark) (few : Few v r) where
         still = λ same d. absurd (omega (arith, same));
       }
 
-  keeps-due : (events : List Event) (w : World) → w.left ≡ events → AtPorts w.left → AtPorts events → KeepsBy m v r w (due_from events w)
-  unfolding due_from took
-  keeps-due [] w l g h = keeps-none w g
-  keeps-due (e ∷ events) w l g h =
-      split (is_due e w) (keeps-then (keeps-took e events w h) (keeps-due events (took e events w) refl (All-tail (λ x. PlugsAtPort x.action) e events h) (All-tail (λ x. PlugsAtPort x.action) e events h)))
-    where
-      split : (x : Bool) → KeepsBy m v r w (due_from events (took e events w)) → KeepsBy m v r w (if x then due_from events (took e events w) else w)
-      split true k = k
-      split false k = keeps-none w g
+  -- where the events to come are at ports
+  abbrev pub KeepsFrom : World → World → Type 0
+  KeepsFrom w x = AtPorts w.left → KeepsBy m v r w x
+
+  pub keeps-joined : (w x y : World) → KeepsFrom w x → KeepsFrom x y → KeepsFrom w y
+  keeps-joined w x y one two h =
+      let first : KeepsBy m v r w x = one h in keeps-then first (two first.left)
+
+  pub keeps-events : OverEvents KeepsFrom
+  keeps-events = record {
+    same = keeps-none;
+    joined = keeps-joined;
+    came = λ e events w l h. keeps-took e events w (subst AtPorts l h);
+  }
 
   -- those that are due before an attempt
   pub keeps-ready : (w : World) → AtPorts w.left → KeepsBy m v r w (ready w)
-  unfolding ready
-  keeps-ready w h = keeps-due w.left w refl h h
-
-  keeps-first : (events : List Event) (w : World) → AtPorts w.left → AtPorts events → KeepsBy m v r w (took_first events w)
-  keeps-first [] w g h = keeps-none w g
-  keeps-first (e ∷ events) w g h = keeps-took e events w h
-
-  keeps-taken : (f : Option BusFault) (w : World) → AtPorts w.left → KeepsBy m v r w (event_taken f w)
-  keeps-taken (Some f) w h = keeps-none w h
-  keeps-taken None w h = keeps-first w.left w h h
+  keeps-ready = over_ready keeps-events
 
   -- and one that is applied
   pub keeps-event : (w : World) → AtPorts w.left → KeepsBy m v r w (after event w)
   unfolding after
-  keeps-event w h = keeps-taken w.fault w h
+  keeps-event w = over_taken keeps-events w.fault w

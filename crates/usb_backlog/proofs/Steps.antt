@@ -1,5 +1,5 @@
 -- What steps and courses add to what is left to do, where ports are marked.
-use Rattle.std.proofs.Common.{◌≡◌, ℕ, zero, suc, ◌==◌, ◌&&◌, ◌||◌, not, if◌then◌else◌, Bool, true, false, List, [], ◌∷◌, Option, None, Some, refl, ap, sym, subst, arith}
+use Rattle.std.proofs.Common.{◌≡◌, ℕ, zero, suc, ◌&&◌, ◌||◌, not, Bool, true, [], ◌∷◌, Option, Some, refl, ap, sym, subst, arith}
 use Rattle.std.specs.Bool.{⊤}
 use Rattle.usb_port.specs.declared.call.PortCall.{PortCall}
 use Rattle.usb_port.specs.Calls.{is_reset}
@@ -7,19 +7,17 @@ use Rattle.usb_device.specs.declared.delivery.Sent.{Sent}
 use Rattle.usb_device.specs.Tree.{Ports, called, changed}
 use Rattle.usb_world.specs.declared.damage.Damage.{Damage}
 use Rattle.usb_world.specs.declared.types.Attempt.{Attempt}
-use Rattle.usb_world.specs.declared.types.BusFault.{BusFault}
-use Rattle.usb_world.specs.declared.types.BusFault.TheVariants.{LimitReached}
 use Rattle.usb_world.specs.AttemptPackets.{NobodyHolds, after_sent}
 use Rattle.usb_world.specs.Exchange.{payload_out, ports_in, reply_out, token_out}
 use Rattle.usb_world.specs.OneHolder.{IsMade}
 use Rattle.usb_world.specs.PlanCourses.{AtPorts}
-use Rattle.usb_world.specs.Steps.{Course, Step, after, attempt, attempted, damage_in, event, here, ready, report, root_call, step, with_attempt}
+use Rattle.usb_world.specs.Steps.{Course, Step, after, attempt, damage_in, event, here, ready, report, root_call, step, with_attempt}
 use Rattle.usb_world.specs.World.{World}
-use Rattle.usb_world.proofs.Interface.{ack_out, both, goes, made_is, nobody_in, token_out as token_calm}
+use Rattle.usb_world.proofs.Interface.{OverSteps, ack_out, both, goes, made_is, nobody_in, over_course, over_step, token_out as token_calm, with_call, with_limit_told}
 use Rattle.usb_backlog.specs.Marks.{AllowsMarks, Few, KeepsBy, PortMark}
 use Rattle.usb_backlog.specs.PortSettings.{gives_power}
 use Rattle.usb_backlog.proofs.Calls.{Less, less-called, less-same, less-then}
-use Rattle.usb_backlog.proofs.Events.{keeps-event, keeps-none, keeps-ready, keeps-then}
+use Rattle.usb_backlog.proofs.Events.{KeepsFrom, keeps-events, keeps-none, keeps-ready, keeps-then}
 use Rattle.usb_backlog.proofs.Packets.{less-calm, less-forgotten, less-sent}
 
 -- what each device asks at an attempt is allowed
@@ -58,23 +56,34 @@ module _ (m v r : PortMark) (few : Few v r) where
       (less-then (less-calm m v r (reply_out a d k) (after_sent (payload_out a d) (after_sent (token_out a d) k)) (ack_out (reply_out a d k) (goes a d k).reply))
       (less-forgotten m v r (after_sent (reply_out a d k) (after_sent (payload_out a d) (after_sent (token_out a d) k))))))
 
-  keeps-made : (a : Attempt) (w : World) → AtPorts w.left → AttemptAllows m r a w → KeepsBy m v r w (with_attempt a (ready w))
-  unfolding with_attempt
-  keeps-made a w h allows =
-      let came : KeepsBy m v r w (ready w) = keeps-ready m v r few w h in
-      keeps-then m v r few came (keeps-less (ready w) (with_attempt a (ready w)) refl refl came.left (less-attempt a (damage_in (ready w)) (ready w).roots allows))
+  less-root : (c : PortCall) (n : ℕ) (k : Ports) → root_allowed m r c n ≡ true → Less m v r k (changed (called c) k (n ∷ []))
+  less-root c zero k h = less-same m v r k
+  less-root c (suc i) k h =
+      let x : _ = both (m i [] || not (gives_power c)) (r i [] || not (is_reset c)) h in
+      less-called m v r c k i x.0 x.1
 
-  keeps-attempted : (f : Option BusFault) (a : Attempt) (w : World) → AtPorts w.left → AttemptAllows m r a w → KeepsBy m v r w (attempted a f w)
-  keeps-attempted (Some f) a w h allows = keeps-none m v r few w h
-  keeps-attempted None a w h allows = split (w.attempts == w.limit)
-    where
-      split : (x : Bool) → KeepsBy m v r w (if x then record w { fault = Some LimitReached } else with_attempt a (ready w))
-      split true = keeps-less w (record w { fault = Some LimitReached }) refl refl h (less-same m v r w.roots)
-      split false = keeps-made a w h allows
+  keeps-steps : OverSteps (StepAllows m r) (KeepsFrom m v r few)
+  unfolding with_attempt
+  keeps-steps = record {
+    events = keeps-events m v r few;
+    made = λ a w made k h.
+        keeps-less (ready w) (with_attempt a (ready w)) refl refl h
+        (less-attempt a (damage_in (ready w)) (ready w).roots k);
+    root = λ c n w k h. keeps-less w (with_call c n w) refl refl h (less-root c n w.roots k);
+    refused = λ w h. keeps-less w (with_limit_told w) refl refl h (less-same m v r w.roots);
+  }
+
+  pub keeps-step : (s : Step) (w : World) → AtPorts w.left → StepAllows m r s w → KeepsBy m v r w (after s w)
+  keeps-step s w h k = over_step keeps-steps s w k h
 
   pub keeps-attempt : (a : Attempt) (w : World) → AtPorts w.left → AttemptAllows m r a w → KeepsBy m v r w (after (attempt a) w)
-  unfolding after
-  keeps-attempt a w h allows = keeps-attempted w.fault a w h allows
+  keeps-attempt a = keeps-step (attempt a)
+
+  pub keeps-root : (c : PortCall) (n : ℕ) (w : World) → AtPorts w.left → root_allowed m r c n ≡ true → KeepsBy m v r w (after (root_call c n) w)
+  keeps-root c n = keeps-step (root_call c n)
+
+  pub keeps-course : {w x : World} → AtPorts w.left → Course (StepAllows m r) w x → KeepsBy m v r w x
+  keeps-course h c = over_course keeps-steps c h
 
   -- an attempt that nobody hears
   pub keeps-unheard : (a : Attempt) (w : World) → AtPorts w.left → IsMade a w → NobodyHolds a.addr (ready w).roots → KeepsBy m v r w (after (attempt a) w)
@@ -84,34 +93,6 @@ module _ (m v r : PortMark) (few : Few v r) where
       keeps-then m v r few came
       (keeps-less (ready w) (after (attempt a) w) (ap (λ x. x.taken) (made_is a w made)) (ap (λ x. x.left) (made_is a w made)) came.left
       (subst (Less m v r (ready w).roots) (sym (nobody_in a w made nobody).1) (less-same m v r (ready w).roots)))
-
-  less-root : (c : PortCall) (n : ℕ) (k : Ports) → root_allowed m r c n ≡ true → Less m v r k (changed (called c) k (n ∷ []))
-  less-root c zero k h = less-same m v r k
-  less-root c (suc i) k h =
-      let x : _ = both (m i [] || not (gives_power c)) (r i [] || not (is_reset c)) h in
-      less-called m v r c k i x.0 x.1
-
-  pub keeps-root : (c : PortCall) (n : ℕ) (w : World) → AtPorts w.left → root_allowed m r c n ≡ true → KeepsBy m v r w (after (root_call c n) w)
-  unfolding after
-  keeps-root c n w h allows = keeps-less w (after (root_call c n) w) refl refl h (less-root c n w.roots allows)
-
-  keeps-line : (line : List ℕ) (w : World) → AtPorts w.left → KeepsBy m v r w (after (report line) w)
-  unfolding after
-  keeps-line line w h = keeps-none m v r few w h
-
-  -- a step, and a course of them
-
-  pub keeps-step : (s : Step) (w : World) → AtPorts w.left → StepAllows m r s w → KeepsBy m v r w (after s w)
-  keeps-step (attempt a) w h k = keeps-attempt a w h k
-  keeps-step (root_call c n) w h k = keeps-root c n w h k
-  keeps-step event w h k = keeps-event m v r few w h
-  keeps-step (report line) w h k = keeps-line line w h
-
-  pub keeps-course : {w x : World} → AtPorts w.left → Course (StepAllows m r) w x → KeepsBy m v r w x
-  keeps-course h (here w) = keeps-none m v r few w h
-  keeps-course h (step s {w} k more) =
-      let one : KeepsBy m v r w (after s w) = keeps-step s w h k in
-      keeps-then m v r few one (keeps-course one.left more)
 
   -- the same where each step says so itself
   abbrev pub KeepsStep : Step → World → Type 0

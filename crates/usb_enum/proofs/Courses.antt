@@ -11,37 +11,59 @@ use Rattle.usb_bus.specs.Traces.{Attempts, Traced, still, attempted, called, Wen
 use Rattle.usb_enum.specs.PresentDevices.{IsInOrder, IsOrderly, IsRegular}
 
 -- the bus was at work, and these were its steps
-record AtWork (old new : World) : Type 0 where
-  sound : old.fault ≡ None
-  course : Course AnyStep old new
+pub record AtWork (old new : World) : Type 0 where
+  pub sound : old.fault ≡ None
+  pub course : Course AnyStep old new
+
+-- so it was, where it is at work in the end
+abbrev pub Onward : World → World → Type 0
+Onward w v = v.fault ≡ None → AtWork w v
 
 -- a fault that was told is told again
-pub attempt_sound : {a : Attempt} {w v : World} {t s : Option (List ℕ)} (result : Result Outcome BusFault) → Attempts a w t result v s → v.fault ≡ None → w.fault ≡ None
-attempt_sound {a} {w} {v} result made h = split w.fault refl
+pub sound_before : (w v : World) {A : Type 0} (result : Result A BusFault) → v.fault ≡ None
+    → ((fault : BusFault) → w.fault ≡ Some fault → (result ≡ Err fault) × (v ≡ w)) → w.fault ≡ None
+sound_before w v result h again = split w.fault refl
   where
     split : (x : Option BusFault) → w.fault ≡ x → w.fault ≡ None
     split None e = e
-    split (Some fault) e = ap (λ y. y.fault) (sym (made.counts.again fault e).1) ∙ h
+    split (Some fault) e = ap (λ (u : World). u.fault) (sym (again fault e).1) ∙ h
+
+pub attempt_sound : {a : Attempt} {w v : World} {t s : Option (List ℕ)} (result : Result Outcome BusFault) → Attempts a w t result v s → v.fault ≡ None → w.fault ≡ None
+attempt_sound {a} {w} {v} result made h = sound_before w v result h made.counts.again
 
 pub attempt_after : {a : Attempt} {w v : World} {t s : Option (List ℕ)} (result : Result Outcome BusFault) → Attempts a w t result v s → v.fault ≡ None → v ≡ after (attempt a) w
 attempt_after (Ok outcome) made h = made.exact
 attempt_after (Err fault) made h = absurd (cc (h, made.counts.ends.told))
 
-traced_course : {old : World} {t : Option (List ℕ)} {new : World} {s : Option (List ℕ)} → Traced old t new s → new.fault ≡ None → AtWork old new
+pub traced_onward : {old : World} {t : Option (List ℕ)} {new : World} {s : Option (List ℕ)} → Traced old t new s → Onward old new
 unfolding after
-traced_course {old} still h = record { sound = h; course = here old }
-traced_course {old} (attempted {w} {v} a result fits before made) h =
-    let work = traced_course before (attempt_sound result made h) in
+traced_onward {old} still h = record { sound = h; course = here old }
+traced_onward {old} (attempted {w} {v} a result fits before made) h =
+    let work = traced_onward before (attempt_sound result made h) in
     record { sound = work.sound; course = subst (Course AnyStep old) (sym (attempt_after result made h)) (course_then (attempt a) work.course tt) }
-traced_course (called c port before) h =
-    let work = traced_course before h in
+traced_onward (called c port before) h =
+    let work = traced_onward before h in
     record { sound = work.sound; course = course_then (root_call c port) work.course tt }
 
+-- behind a fault no attempt is made
+pub traced_faulted : {w : World} {t : Option (List ℕ)} {v : World} {s : Option (List ℕ)}
+    → Traced w t v s → (fault : BusFault) → w.fault ≡ Some fault
+    → (v.attempts ≡ w.attempts) × (v.fault ≡ Some fault)
+unfolding after
+traced_faulted still fault e = (refl, e)
+traced_faulted (attempted {w = m} {v = v} a result fits before made) fault e =
+    let so_far = traced_faulted before fault e in
+    let same : v ≡ m = (made.counts.again fault so_far.1).1 in (
+      ap (λ (x : World). x.attempts) same ∙ so_far.0,
+      ap (λ (x : World). x.fault) same ∙ so_far.1,
+    )
+traced_faulted (called c port before) fault e = traced_faulted before fault e
+
 pub went_sound : (n : ℕ) (old new : World) {t s : Option (List ℕ)} → WentOn n old t new s → new.fault ≡ None → old.fault ≡ None
-went_sound n old new went h = (traced_course went.traced h).sound
+went_sound n old new went h = (traced_onward went.traced h).sound
 
 pub went_course : (n : ℕ) (old new : World) {t s : Option (List ℕ)} → WentOn n old t new s → new.fault ≡ None → Course AnyStep old new
-went_course n old new went h = (traced_course went.traced h).course
+went_course n old new went h = (traced_onward went.traced h).course
 
 -- what is in order stays so
 
@@ -49,7 +71,8 @@ pub orderly_on : {K : Step → World → Type 0} {old new : World} → IsOrderly
 orderly_on was course = between_course course was
 
 pub traced_in_order : {old : World} {t : Option (List ℕ)} {new : World} {s : Option (List ℕ)} → Traced old t new s → IsInOrder old → IsInOrder new
-traced_in_order traced order h = let work = traced_course traced h in orderly_on (order work.sound) work.course
+traced_in_order traced order h =
+    let work = traced_onward traced h in orderly_on (order work.sound) work.course
 
 pub went_in_order : (n : ℕ) (old new : World) {t s : Option (List ℕ)} → WentOn n old t new s → IsInOrder old → IsInOrder new
 went_in_order n old new went = traced_in_order went.traced

@@ -1,21 +1,18 @@
 -- What steps keep of a world: its damages and how many root ports it has; the worst stretch of address losses only grows.
-use Rattle.std.proofs.Common.{◌≡◌, ◌≤◌, ◌==◌, Bool, true, false, if◌then◌else◌, List, [], ◌∷◌, length, Option, None, Some, refl, ap, sym, subst, ◌∙◌, arith}
+use Rattle.std.proofs.Common.{◌≡◌, ◌≤◌, Bool, true, false, [], ◌∷◌, length, Option, None, Some, refl, ap, sym, subst, ◌∙◌, arith}
 use Rattle.usb_device.proofs.Interface.{row_of-after, row_of-forgotten}
 use Rattle.usb_device.specs.declared.delivery.Sent.{Sent}
 use Rattle.usb_port.specs.Calls.{is_clearing}
 use Rattle.usb_device.specs.Tree.{Ports, called, row_of}
 use Rattle.usb_world.specs.declared.damage.Damage.{Damage}
-use Rattle.usb_world.specs.declared.event.Event.{Event}
 use Rattle.usb_world.specs.declared.losses.Losses.{Losses}
 use Rattle.usb_world.specs.declared.types.Attempt.{Attempt}
-use Rattle.usb_world.specs.declared.types.BusFault.{BusFault}
-use Rattle.usb_world.specs.declared.types.BusFault.TheVariants.{LimitReached}
 use Rattle.usb_world.specs.Exchange.{lost_in, cleared_in, token_out, payload_out, reply_out, ports_in}
 use Rattle.usb_world.specs.Losses.{one_more, counted, after_clearing}
-use Rattle.usb_world.specs.Steps.{is_due, took, took_first, due_from, ready, damage_in, with_attempt, attempted, event_taken, Step, attempt, root_call, event, report, after, Course, here, step}
+use Rattle.usb_world.specs.Steps.{AnyStep, took, ready, damage_in, with_attempt, Step, after, Course}
 use Rattle.usb_world.specs.AttemptPackets.{after_sent, after_attempt}
 use Rattle.usb_world.specs.World.{World, roots_of}
-use Rattle.usb_world.proofs.Interface.{happened_long, row_long}
+use Rattle.usb_world.proofs.Interface.{OverSteps, happened_long, over_course, over_step, row_long, with_limit_told}
 use Rattle.usb_enum.specs.Losses.{FewLosses}
 
 -- the same damages and number of root ports, and a worst stretch that is no shorter
@@ -29,19 +26,6 @@ later_same w v d r l = record { damages = d; roots = r; worst = rw l (omega arit
 
 later_then : (w m v : World) → IsLater w m → IsLater m v → IsLater w v
 later_then w m v x y = let a = x.worst in let b = y.worst in record { damages = y.damages ∙ x.damages; roots = y.roots ∙ x.roots; worst = omega (arith, a, b) }
-
-took_later : (e : Event) (es : List Event) (w : World) → IsLater w (took e es w)
-unfolding took
-took_later e es w = later_same w (took e es w) refl (happened_long e.action w.devices w.roots) refl
-
-pub due_later : (es : List Event) (w : World) → IsLater w (due_from es w)
-unfolding due_from
-due_later [] w = later_same w w refl refl refl
-due_later (e ∷ es) w =
-    elim (is_due e w) as (λ b. IsLater w (if b then due_from es (took e es w) else w)) [
-      | true ↦ later_then w (took e es w) (due_from es (took e es w)) (took_later e es w) (due_later es (took e es w))
-      | false ↦ later_same w w refl refl refl
-    ]
 
 sent_row : (o : Option Sent) (k : Ports) → row_of (after_sent o k) ≡ row_of k
 sent_row None k = refl
@@ -70,33 +54,31 @@ made_later a w =
     let lost : Bool = lost_in a (damage_in w) w.roots in
     record { damages = refl; roots = made_row a (damage_in w) w.roots; worst = subst (λ x. x ≤ (counted lost (after_clearing cleared w.losses)).worst) (cleared_worst cleared w.losses) (counted_worst lost (after_clearing cleared w.losses)) }
 
-attempted_later : (a : Attempt) (f : Option BusFault) (w : World) → IsLater w (attempted a f w)
-unfolding ready
-attempted_later a (Some f) w = later_same w w refl refl refl
-attempted_later a None w =
-    elim (w.attempts == w.limit) as (λ b. IsLater w (if b then record w { fault = Some LimitReached } else with_attempt a (ready w))) [
-      | true ↦ later_same w (record w { fault = Some LimitReached }) refl refl refl
-      | false ↦ later_then w (ready w) (with_attempt a (ready w)) (due_later w.left w) (made_later a (ready w))
-    ]
-
-first_later : (es : List Event) (w : World) → IsLater w (took_first es w)
-first_later [] w = later_same w w refl refl refl
-first_later (e ∷ es) w = took_later e es w
-
-event_later : (f : Option BusFault) (w : World) → IsLater w (event_taken f w)
-event_later (Some f) w = later_same w w refl refl refl
-event_later None w = first_later w.left w
+later_steps : {K : Step → World → Type 0} → OverSteps K IsLater
+unfolding took
+later_steps = record {
+  events = record {
+    same = λ w. later_same w w refl refl refl;
+    joined = later_then;
+    came = λ e es w l.
+        later_same w (took e es w) refl (happened_long e.action w.devices w.roots) refl;
+  };
+  made = λ a w made k. made_later a (ready w);
+  root = λ c n w k. record {
+    damages = refl;
+    roots = row_long (called c) w.roots (n ∷ []);
+    worst =
+        subst (λ x. w.losses.worst ≤ x) (sym (cleared_worst (is_clearing c) w.losses))
+        (omega arith);
+  };
+  refused = λ w. later_same w (with_limit_told w) refl refl refl;
+}
 
 pub step_later : (s : Step) (w : World) → IsLater w (after s w)
-unfolding after
-step_later (attempt a) w = attempted_later a w.fault w
-step_later (root_call c n) w = record { damages = refl; roots = row_long (called c) w.roots (n ∷ []); worst = subst (λ x. w.losses.worst ≤ x) (sym (cleared_worst (is_clearing c) w.losses)) (omega arith) }
-step_later event w = event_later w.fault w
-step_later (report line) w = later_same w w refl refl refl
+step_later s w = over_step (later_steps {K = AnyStep}) s w tt
 
 pub course_later : {K : Step → World → Type 0} {w v : World} → Course K w v → IsLater w v
-course_later (here w) = later_same w w refl refl refl
-course_later (step s {w} {v} k more) = later_then w (after s w) v (step_later s w) (course_later more)
+course_later c = over_course later_steps c
 
 -- where few are lost in the end, few were lost before
 pub few_before : {K : Step → World → Type 0} {w v : World} → Course K w v → FewLosses v → FewLosses w

@@ -1,5 +1,5 @@
 -- Over which calls no other stretch of address losses begins.
-use Rattle.std.proofs.Common.{◌≡◌, inl, inr, ◌≤◌, ◌==◌, ℕ, Bool, true, false, [], Option, None, Some, Result, refl, ap, sym, subst, ◌∙◌, arith}
+use Rattle.std.proofs.Common.{◌≡◌, inl, inr, ◌≤◌, ◌==◌, ℕ, Bool, true, false, [], None, Some, Result, refl, ap, sym, subst, ◌∙◌, arith}
 use Rattle.std.specs.Global.{Vec}
 use Rattle.usb_port.specs.declared.status.PortStatus.{PortStatus}
 use Rattle.usb_request.specs.declared.setup.Setup.{Setup}
@@ -9,17 +9,16 @@ use Rattle.usb_port.specs.declared.call.PortCall.{PortCall}
 use Rattle.usb_port.specs.Calls.{set_call, clear_call, is_clearing}
 use Rattle.usb_world.specs.declared.losses.Losses.{Losses}
 use Rattle.usb_world.specs.declared.types.Attempt.{Attempt}
-use Rattle.usb_world.specs.declared.types.BusFault.{BusFault}
 use Rattle.usb_world.specs.Losses.{one_more, counted, after_clearing}
 use Rattle.usb_world.specs.OneHolder.{IsMade, IsOut}
 use Rattle.usb_world.specs.AttemptPackets.{IsSettled}
-use Rattle.usb_world.specs.Steps.{Step, attempt, root_call, event, report, after, Course, here, step}
+use Rattle.usb_world.specs.Steps.{Step, attempt, root_call, event, report, after, Course, step}
 use Rattle.usb_world.specs.World.{World}
-use Rattle.usb_world.proofs.Interface.{faulted, in_clears, limited, loses, losses_as, no, not_true, out_counts, same_equal, set_up_counts}
+use Rattle.usb_world.proofs.Interface.{MadeOrNot, attempt_cases, in_clears, kept_course, loses, losses_as, made_here, not_true, out_counts, set_up_counts, settled_after}
 use Rattle.usb_transaction.specs.declared.target.Target.{Target}
 use Rattle.usb_transaction.specs.Losses.{begins_no_stretch}
 use Rattle.usb_transaction.specs.Transactions.{in_attempt, out_attempt, setup_attempt}
-use Rattle.usb_address.proofs.Interface.{attempt_settled, same_setup}
+use Rattle.usb_address.proofs.Interface.{same_setup}
 use Rattle.usb_pipe.specs.declared.fault.PipeFault.{PipeFault}
 use Rattle.usb_pipe.specs.Attempts.{IsOfTransfer}
 use Rattle.usb_pipe.specs.Leaves.{IsBehind}
@@ -44,15 +43,11 @@ goes_same w v same = record { run = rw same (omega arith) }
 
 -- where it is made
 attempt_goes : (a : Attempt) (w : World) → IsSettled w.roots → (IsMade a w → NoNewStretch w (after (attempt a) w)) → NoNewStretch w (after (attempt a) w)
-attempt_goes a w settled made = by_fault w.fault refl
+attempt_goes a w settled made = pick (attempt_cases a w)
   where
-    by_limit : w.fault ≡ None → (b : Bool) → (w.attempts == w.limit) ≡ b → NoNewStretch w (after (attempt a) w)
-    by_limit sound true e = goes_same w (after (attempt a) w) (ap (λ v. v.losses) (limited a w sound e))
-    by_limit sound false e = made (record { sound = sound; within = λ k. no (sym e ∙ same_equal w.attempts w.limit k); settled = settled })
-
-    by_fault : (x : Option BusFault) → w.fault ≡ x → NoNewStretch w (after (attempt a) w)
-    by_fault None e = by_limit e (w.attempts == w.limit) refl
-    by_fault (Some fault) e = goes_same w (after (attempt a) w) (ap (λ v. v.losses) (faulted a w fault e))
+    pick : MadeOrNot a w (after (attempt a) w) → NoNewStretch w (after (attempt a) w)
+    pick (inl e) = goes_same w (after (attempt a) w) (ap (λ v. v.losses) e)
+    pick (inr m) = made (made_here a w m.0 settled)
 
 counted_run : (lost : Bool) (l : Losses) → l.run ≤ (counted lost l).run
 unfolding one_more
@@ -73,26 +68,28 @@ module _ (t : Target) (request : Setup) (none : begins_no_stretch request ≡ tr
   set_up_goes : (w : World) → IsMade (setup_attempt t (bytes_of request)) w → NoNewStretch w (after (attempt (setup_attempt t (bytes_of request))) w)
   set_up_goes w m = goes_same w _ (set_up_counts (setup_attempt t (bytes_of request)) (bytes_of request) refl refl (not_true _ (ap begins_no_stretch (same_setup request) ∙ none)) w m)
 
-  abbrev Goes : Step → World → Type 0
-  Goes s w = NoNewStretch w (after s w) × IsSettled (after s w).roots
-
-  made_goes : (a : Attempt) (w : World) → IsSettled w.roots → (IsMade a w → NoNewStretch w (after (attempt a) w)) → Goes (attempt a) w
-  made_goes a w settled made = (attempt_goes a w settled made, attempt_settled a w settled)
-
-  behind_goes : (s : Step) (w : World) → IsBehind t s w → IsSettled w.roots → Goes s w
-  behind_goes (attempt a) w (inl e) settled = subst (λ x. Goes (attempt x) w) (sym e) (made_goes (in_attempt t 0) w settled (in_goes t w))
-  behind_goes (attempt a) w (inr e) settled = made_goes a w settled (out_goes t a e w)
+  behind_goes : (s : Step) (w : World) → IsBehind t s w → IsSettled w.roots
+      → NoNewStretch w (after s w)
+  behind_goes (attempt a) w (inl e) settled =
+      subst (λ x. NoNewStretch w (after (attempt x) w)) (sym e)
+      (attempt_goes (in_attempt t 0) w settled (in_goes t w))
+  behind_goes (attempt a) w (inr e) settled = attempt_goes a w settled (out_goes t a e w)
   behind_goes (root_call c n) w k settled = elim k [ ]
   behind_goes event w k settled = elim k [ ]
   behind_goes (report line) w k settled = elim k [ ]
 
-  step_goes : (s : Step) (w : World) → IsOfTransfer t request s w → IsSettled w.roots → Goes s w
-  step_goes s w (inl e) settled = subst (λ x. Goes x w) (sym e) (made_goes (setup_attempt t (bytes_of request)) w settled (set_up_goes w))
+  step_goes : (s : Step) (w : World) → IsOfTransfer t request s w → IsSettled w.roots
+      → NoNewStretch w (after s w)
+  step_goes s w (inl e) settled =
+      subst (λ x. NoNewStretch w (after x w)) (sym e)
+      (attempt_goes (setup_attempt t (bytes_of request)) w settled (set_up_goes w))
   step_goes s w (inr k) settled = behind_goes s w k settled
 
   transfer_goes : {w v : World} → Course (IsOfTransfer t request) w v → IsSettled w.roots → NoNewStretch w v
-  transfer_goes (here w) settled = goes_none w
-  transfer_goes (step s {w} {v} k more) settled = let x : Goes s w = step_goes s w k settled in goes_then w (after s w) v x.0 (transfer_goes more x.1)
+  transfer_goes {w} c settled =
+      (kept_course (λ v. NoNewStretch w v × IsSettled v.roots)
+      (λ s u k h. (goes_then w u (after s u) h.0 (step_goes s u k h.1), settled_after s u h.1))
+      c (goes_none w, settled)).0
 
   pub asked_goes : (answer : Result (Vec ℕ) PipeFault) (old new : World) → AskedData t request old answer new → new.fault ≡ None → NoNewStretch old new
   asked_goes answer old new asked still = transfer_goes ((read_attempts t request answer old new asked.stages).whole (ended 3 answer old new asked.ends still)) asked.settled

@@ -16,9 +16,9 @@ use Rattle.usb_world.specs.Addresses.{is_setup}
 use Rattle.usb_world.specs.AttemptPackets.{IsSettled, NobodyHolds}
 use Rattle.usb_world.specs.OneHolder.{HolderIn, IsMade, IsSetup}
 use Rattle.usb_world.specs.PlanCourses.{AtPorts}
-use Rattle.usb_world.specs.Steps.{Course, Step, after, attempt, event, here, ready, report, root_call, step}
+use Rattle.usb_world.specs.Steps.{Course, Step, after, attempt, event, ready, report, root_call}
 use Rattle.usb_world.specs.World.{World}
-use Rattle.usb_world.proofs.Interface.{Allows, course_joined, course_then, decided, holder_or_nobody, made_of}
+use Rattle.usb_world.proofs.Interface.{Allows, course_joined, course_then, decided, holder_or_nobody, made_of, settled_wider}
 use Rattle.usb_backlog.specs.Marks.{CoversCall, Few, KeepsAll, KeepsBy, PortMark, is_marked}
 use Rattle.usb_backlog.proofs.Interface.{AttemptAllows, Covers, KeepsStep, data_allows, holder_allows, keeps-attempt, keeps-chain, keeps-unheard, payload_sets_none, request_sets_none, sets_none}
 use Rattle.usb_transaction.specs.declared.target.Target.{Target}
@@ -32,7 +32,7 @@ use Rattle.usb_pipe.specs.Attempts.{IsOfTransfer}
 use Rattle.usb_pipe.specs.Leaves.{IsBehind, IsNoBusFault}
 use Rattle.usb_pipe.specs.Stages.{Reads, Writes}
 use Rattle.usb_pipe.proofs.Interface.{read_attempts, write_attempts}
-use Rattle.usb_address.proofs.Interface.{ClaimedAt, Follows, attempt_settled, claimed_holder, same_setup, trail_with, unshared_after}
+use Rattle.usb_address.proofs.Interface.{ClaimedAt, Follows, claimed_holder, same_setup, trail_with, unshared_after}
 use Rattle.usb_hub.proofs.ActingCalls.{AsksFor}
 
 is_set_up : (t : Target) (request : Setup) → IsSetup (setup_attempt t (bytes_of request)) (bytes_of request)
@@ -41,8 +41,10 @@ is_set_up t request = record { kind = refl; ep = refl; payload = refl; whole = r
 
 module _ (m v r : PortMark) (few : Few v r) where
   -- a step behind a SETUP
-  pub behind_step : (t : Target) (s : Step) (w : World) → IsBehind t s w → IsSettled w.roots → KeepsStep m v r few s w × IsSettled (after s w).roots
-  behind_step t (attempt a) w k h = (λ ports. keeps-attempt m v r few a w ports (data_allows m r a w (kind k refl refl) h), attempt_settled a w h)
+  pub behind_step : (t : Target) (s : Step) (w : World) → IsBehind t s w → IsSettled w.roots
+      → KeepsStep m v r few s w
+  behind_step t (attempt a) w k h =
+      λ ports. keeps-attempt m v r few a w ports (data_allows m r a w (kind k refl refl) h)
     where
       kind : {b d : Attempt} → (a ≡ b) ⊎ (a ≡ d) → is_setup b.kind ≡ false → is_setup d.kind ≡ false → is_setup a.kind ≡ false
       kind (inl e) f g = ap (λ y. is_setup y.kind) e ∙ f
@@ -52,23 +54,21 @@ module _ (m v r : PortMark) (few : Few v r) where
   behind_step t (report l) w k h = elim k [ ]
 
   pub behind_keeps : (t : Target) {w x : World} → Course (IsBehind t) w x → IsSettled w.roots → Course (KeepsStep m v r few) w x
-  behind_keeps t (here w) h = here w
-  behind_keeps t (step s {w} k c) h = let one : _ = behind_step t s w k h in step s one.0 (behind_keeps t c one.1)
+  behind_keeps t c = settled_wider (behind_step t) c
 
   -- a transfer of a request that sets no feature of a port, whoever hears it
   module _ (t : Target) (request : Setup) (plain : Allows sets_none request) where
-    request_step : (s : Step) (w : World) → IsOfTransfer t request s w → IsSettled w.roots → KeepsStep m v r few s w × IsSettled (after s w).roots
+    request_step : (s : Step) (w : World) → IsOfTransfer t request s w → IsSettled w.roots
+        → KeepsStep m v r few s w
     request_step s w (inl e) h =
-        subst (λ s. KeepsStep m v r few s w × IsSettled (after s w).roots) (sym e) (
-          λ ports. keeps-attempt m v r few (setup_attempt t (bytes_of request)) w ports
-              (payload_sets_none m r (setup_attempt t (bytes_of request)) w (subst (Allows sets_none) (sym (same_setup request)) plain)),
-          attempt_settled (setup_attempt t (bytes_of request)) w h,
-        )
+        subst (λ s. KeepsStep m v r few s w) (sym e)
+        (λ ports. keeps-attempt m v r few (setup_attempt t (bytes_of request)) w ports
+        (payload_sets_none m r (setup_attempt t (bytes_of request)) w
+        (subst (Allows sets_none) (sym (same_setup request)) plain)))
     request_step s w (inr k) h = behind_step t s w k h
 
     pub request_keeps : {w x : World} → Course (IsOfTransfer t request) w x → IsSettled w.roots → Course (KeepsStep m v r few) w x
-    request_keeps (here w) h = here w
-    request_keeps (step s {w} k c) h = let one : _ = request_step s w k h in step s one.0 (request_keeps c one.1)
+    request_keeps c = settled_wider request_step c
 
   -- a call at a port of the hub that holds the address
   module _ (t : Target) (q : List ℕ) (i : ℕ) (request : Setup) (c : PortCall) (asked : AsksFor request c (suc i)) (covers : (x : Spot) → path_to x ≡ q → Covers m r x.row x.rest i c) where

@@ -1,5 +1,5 @@
 -- What a port is after a call that was done there: what the call makes of what it was, or what was told of it; or a change of connection is pending.
-use Rattle.std.proofs.Common.{◌≡◌, ℕ, zero, suc, ◌==◌, ◌&&◌, ◌⊎◌, inl, inr, if◌then◌else◌, Bool, true, false, List, [], ◌∷◌, ◌++◌, Option, None, Some, option_map, refl, ap, sym, subst, ◌∙◌}
+use Rattle.std.proofs.Common.{◌≡◌, ℕ, zero, suc, ◌&&◌, ◌⊎◌, inl, inr, if◌then◌else◌, Bool, true, false, List, [], ◌∷◌, ◌++◌, Option, None, Some, option_map, refl, ap, sym, subst, ◌∙◌}
 use Rattle.std.proofs.lemmas.Option.{same_Some}
 use Rattle.usb_port.specs.PortState.{PortState, is_attached, powered_on, reset}
 use Rattle.usb_port.specs.declared.status.PortStatus.{PortStatus}
@@ -11,7 +11,6 @@ use Rattle.usb_device.specs.Rows.{State}
 use Rattle.usb_device.specs.View.{port_there, state_there}
 use Rattle.usb_world.specs.declared.event.Event.{Event}
 use Rattle.usb_world.specs.declared.types.Attempt.{Attempt}
-use Rattle.usb_world.specs.declared.types.BusFault.{BusFault}
 use Rattle.usb_world.specs.Courses.{spares_step, resets}
 use Rattle.usb_world.specs.Paths.{live, pend}
 use Rattle.usb_world.specs.PlanCourses.{spec_of}
@@ -20,7 +19,7 @@ use Rattle.usb_world.specs.RestingPorts.{AsksNothingOf, SameAt, RestsOrPends, St
 use Rattle.usb_world.specs.Steps.{Step, attempt, root_call, event, report, after, with_attempt, ready, due_from, took, is_due, Course, here, step}
 use Rattle.usb_world.specs.WayEffects.{spares}
 use Rattle.usb_world.specs.World.{World}
-use Rattle.usb_world.proofs.Interface.{and_of, both, course_wider, made_pend, no, pending_persists, rests_or_pends, stands_or_pends}
+use Rattle.usb_world.proofs.Interface.{MadeOrNot, and_of, attempt_cases, both, course_wider, made_pend, made_sound, no, pending_persists, rests_or_pends, stands_or_pends}
 use Rattle.usb_hub.specs.Moments.{OnReachedRow, PortTold, met_by, ActsAt, PortDone}
 
 -- The port of a place
@@ -131,7 +130,7 @@ module _ (p : List ℕ) (c : PortCall) where
 
   attempt_met : (a : Attempt) (w : World) → spares_step (attempt a) w p ≡ true → live w.roots p ≡ true → Met (attempt a) w
   unfolding after spares_step ready
-  attempt_met a w sp on = by_fault w.fault refl
+  attempt_met a w sp on = cases (attempt_cases a w)
     where
       made : w.fault ≡ None → after (attempt a) w ≡ with_attempt a (ready w) → Met (attempt a) w
       made sound is = pick (rests_or_pends p (due_course p w.left w refl sound) on)
@@ -140,13 +139,9 @@ module _ (p : List ℕ) (c : PortCall) where
           pick (inl y) = same y.1.port
           pick (inr y) = pends (subst (λ v. pend v.roots p ≡ true) (sym is) (made_pend a (ready w) p sp y))
 
-      by_limit : w.fault ≡ None → (b : Bool) → (w.attempts == w.limit) ≡ b → Met (attempt a) w
-      by_limit sound true e = nothing (rw (sound, e) refl)
-      by_limit sound false e = made sound (rw (sound, e) refl)
-
-      by_fault : (x : Option BusFault) → w.fault ≡ x → Met (attempt a) w
-      by_fault (Some g) e = nothing (rw e refl)
-      by_fault None e = by_limit e (w.attempts == w.limit) refl
+      cases : MadeOrNot a w (after (attempt a) w) → Met (attempt a) w
+      cases (inl e) = nothing (ap (λ v. v.roots) e)
+      cases (inr m) = made (made_sound w m.0) m.1
 
   step_met : (s : Step) (w : World) → spares_step s w p ≡ true → live w.roots p ≡ true → Met s w
   step_met (attempt a) w sp on = attempt_met a w sp on

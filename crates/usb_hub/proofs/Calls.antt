@@ -28,7 +28,7 @@ use Rattle.usb_world.specs.RestingPorts.{AsksNothingOf}
 use Rattle.usb_world.specs.Steps.{Step, attempt, root_call, after, ready, Course, here, step as step_then, AttemptFails, SetsRoot, ClearsRoot}
 use Rattle.usb_world.specs.WayEffects.{spares}
 use Rattle.usb_world.specs.World.{World, Attempted}
-use Rattle.usb_world.proofs.Interface.{and_of, course_joined, course_wider, decided, equal_same, made_of, no, or_right, same_is}
+use Rattle.usb_world.proofs.Interface.{and_of, course_joined, course_wider, decided, equal_same, made_of, no, or_right, same_is, settled_wider}
 use Rattle.usb_transaction.specs.declared.target.Target.{Target}
 use Rattle.usb_transaction.specs.declared.fault.TransFault.{TransFault}
 use Rattle.usb_transaction.specs.declared.fault.TransFault.TheVariants as trans
@@ -135,9 +135,11 @@ sent_up_to t request old fault new (inr x) = no_status _ x.fault x.told x.status
 
 -- what comes behind is about each port
 behind_about : (t : Target) (p : List ℕ) (c : PortCall) {w v : World} → Course (IsBehind t) w v → IsSettled w.roots → Course (IsAbout p c) w v
-behind_about t p c (here w) h = here w
-behind_about t p c (step_then s {w} {v} k more) h =
-    step_then s (record { others = λ x d. (behind_rests t x s w k h).0; spares = λ y. (behind_rests t p s w k h).0.spares }) (behind_about t p c more (behind_rests t p s w k h).1)
+behind_about t p c course =
+    settled_wider (λ s w k h. record {
+      others = λ x d. behind_rests t x s w k h;
+      spares = λ y. (behind_rests t p s w k h).spares;
+    }) course
 
 -- A call at a hub's port
 

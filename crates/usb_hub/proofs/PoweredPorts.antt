@@ -1,5 +1,5 @@
 -- A port that had no power, after a call that powered it: a change of connection is pending, or nothing is plugged there.
-use Rattle.std.proofs.Common.{◌≡◌, ℕ, zero, suc, ◌==◌, ◌&&◌, ◌⊎◌, inl, inr, Bool, true, false, List, [], ◌∷◌, ◌++◌, Option, None, Some, option_map, refl, ap, sym, subst, ◌∙◌}
+use Rattle.std.proofs.Common.{◌≡◌, ℕ, zero, suc, ◌&&◌, ◌⊎◌, inl, inr, Bool, true, false, List, [], ◌∷◌, ◌++◌, Option, None, Some, option_map, refl, ap, sym, subst, ◌∙◌}
 use Rattle.std.proofs.lemmas.Option.{same_Some}
 use Rattle.usb_port.specs.PortState.{PortState, is_attached, speed_of, powered_on}
 use Rattle.usb_port.specs.declared.call.PortCall.TheVariants.{SetPower}
@@ -7,7 +7,6 @@ use Rattle.usb_device.specs.Rows.{State}
 use Rattle.usb_device.specs.Tree.{Ports, ended, vacant, taken, Place, empty, full, port_of, called, place, place_at}
 use Rattle.usb_device.specs.View.{port_there, state_there}
 use Rattle.usb_world.specs.declared.types.Attempt.{Attempt}
-use Rattle.usb_world.specs.declared.types.BusFault.{BusFault}
 use Rattle.usb_world.specs.Courses.{NoReset, is_made, made_resets, resets}
 use Rattle.usb_world.specs.Paths.{live, pend}
 use Rattle.usb_world.specs.PlanCourses.{spec_of}
@@ -16,7 +15,7 @@ use Rattle.usb_world.specs.RestingPorts.{RestsOrPends, StandsOrPends}
 use Rattle.usb_world.specs.SanePorts.{IsSane, IsSanePlace}
 use Rattle.usb_world.specs.Steps.{Step, attempt, root_call, event, report, after, with_attempt, ready, Course, here, step, IsBetween}
 use Rattle.usb_world.specs.World.{World}
-use Rattle.usb_world.proofs.Interface.{between_after, between_course, between_ready, course_bits, course_wider, made_reach, no, pending_persists, reach_live, rests_or_pends, same_device, stands, stands_or_pends, state_stands, step_pend}
+use Rattle.usb_world.proofs.Interface.{MadeOrNot, attempt_cases, between_after, between_course, between_ready, course_bits, course_wider, made_reach, made_sound, no, pending_persists, reach_live, rests_or_pends, same_device, stands, stands_or_pends, state_stands, step_pend}
 use Rattle.usb_address.proofs.Interface.{IsUp, NoPower, live_of_up, not_way, pend_of_up, ready_unpowered}
 use Rattle.usb_hub.specs.Moments.{met_by, ActsAt, PortDone}
 use Rattle.usb_hub.proofs.CalledPorts.{port_of_place, due_course}
@@ -129,7 +128,7 @@ module _ (q : List ℕ) (n : ℕ) where
 
   attempt_finds : (a : Attempt) (w : World) → IsBetween w → resets (attempt a) w q ≡ false → row_reached (after (attempt a) w).roots q ≡ true → Off w.roots → Finds (attempt a) w
   unfolding after resets ready
-  attempt_finds a w between rests on o = by_fault w.fault refl
+  attempt_finds a w between rests on o = cases (attempt_cases a w)
     where
       row_ready : (q : List ℕ) → made_resets a (ready w) q ≡ false → row_reached (with_attempt a (ready w)).roots q ≡ true → row_reached (ready w).roots q ≡ true
       row_ready [] r h = refl
@@ -147,13 +146,9 @@ module _ (q : List ℕ) (n : ℕ) where
           still : StillSet o.port (port_there (ready w).roots p)
           still = course_bits q n (course_wider (λ s w k. k.leaves) (due_course p w.left w refl sound)) reached o.port o.there
 
-      by_limit : w.fault ≡ None → (b : Bool) → (w.attempts == w.limit) ≡ b → Finds (attempt a) w
-      by_limit sound true e = nothing_done (rw (sound, e) refl)
-      by_limit sound false e = made sound (rw (sound, e) refl) (rw (sound, e) refl)
-
-      by_fault : (x : Option BusFault) → w.fault ≡ x → Finds (attempt a) w
-      by_fault (Some g) e = nothing_done (rw e refl)
-      by_fault None e = by_limit e (w.attempts == w.limit) refl
+      cases : MadeOrNot a w (after (attempt a) w) → Finds (attempt a) w
+      cases (inl e) = nothing_done (ap (λ v. v.roots) e)
+      cases (inr m) = made (made_sound w m.0) m.0 m.1
 
   step_finds : (s : Step) (w : World) → IsBetween w → resets s w q ≡ false → row_reached (after s w).roots q ≡ true → Off w.roots → Finds s w
   step_finds (attempt a) w between rests on o = attempt_finds a w between rests on o

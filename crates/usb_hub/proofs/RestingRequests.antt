@@ -13,8 +13,8 @@ use Rattle.usb_world.specs.AttemptPackets.{IsSettled}
 use Rattle.usb_world.specs.PortRequests.{asks_no_port}
 use Rattle.usb_world.specs.RestingPorts.{AsksNothingOf}
 use Rattle.usb_world.specs.World.{World}
-use Rattle.usb_world.specs.Steps.{Step, after, attempt, root_call, event, report, Course, here, step}
-use Rattle.usb_world.proofs.Interface.{course_then, data_asks_nothing, payload_asks_nothing}
+use Rattle.usb_world.specs.Steps.{Step, attempt, root_call, event, report, Course}
+use Rattle.usb_world.proofs.Interface.{course_then, data_asks_nothing, payload_asks_nothing, settled_wider}
 use Rattle.usb_transaction.specs.declared.target.Target.{Target}
 use Rattle.usb_transaction.specs.Leaves.{AcceptedAt}
 use Rattle.usb_transaction.specs.Transactions.{setup_attempt}
@@ -24,12 +24,13 @@ use Rattle.usb_pipe.specs.Attempts.{IsOfTransfer}
 use Rattle.usb_pipe.specs.Stages.{Reads, Writes}
 use Rattle.usb_pipe.specs.Leaves.{IsBehind, IsNoBusFault}
 use Rattle.usb_pipe.proofs.Interface.{read_attempts, write_attempts}
-use Rattle.usb_address.proofs.Interface.{attempt_settled, same_setup}
+use Rattle.usb_address.proofs.Interface.{same_setup}
 use Rattle.usb_hub.specs.Requests.{AllRest}
 
--- a step behind a SETUP asks nothing of any port, and no device remembers a packet after it
-pub behind_rests : (t : Target) (x : List ℕ) (s : Step) (w : World) → IsBehind t s w → IsSettled w.roots → AsksNothingOf x s w × IsSettled (after s w).roots
-behind_rests t x (attempt a) w k h = (data_asks_nothing a w x (kind k refl refl) h, attempt_settled a w h)
+-- a step behind a SETUP asks nothing of any port
+pub behind_rests : (t : Target) (x : List ℕ) (s : Step) (w : World) → IsBehind t s w
+    → IsSettled w.roots → AsksNothingOf x s w
+behind_rests t x (attempt a) w k h = data_asks_nothing a w x (kind k refl refl) h
   where
     kind : {b d : Attempt} → (a ≡ b) ⊎ (a ≡ d) → is_setup b.kind ≡ false → is_setup d.kind ≡ false → is_setup a.kind ≡ false
     kind (inl e) f g = ap (λ y. is_setup y.kind) e ∙ f
@@ -39,8 +40,7 @@ behind_rests t x event w k h = elim k [ ]
 behind_rests t x (report l) w k h = elim k [ ]
 
 pub behind_asks_nothing : (t : Target) (x : List ℕ) {w v : World} → Course (IsBehind t) w v → IsSettled w.roots → Course (AsksNothingOf x) w v
-behind_asks_nothing t x (here w) h = here w
-behind_asks_nothing t x (step s {w} {v} k c) h = let rests : _ = behind_rests t x s w k h in step s rests.0 (behind_asks_nothing t x c rests.1)
+behind_asks_nothing t x c = settled_wider (behind_rests t x) c
 
 -- a course of setup data that ask nothing of ports
 pub resting_course : (t : Target) (request : Setup) → asks_no_port request ≡ true → {j : Spot} {s v : State} (old now : World) → AcceptedAt t (bytes_of request) old now j s v → AllRest old now
@@ -53,15 +53,16 @@ resting_course t request plain old now at x =
 
 -- a whole transfer of such a request
 module _ (t : Target) (request : Setup) (plain : asks_no_port request ≡ true) where
-  step_rests : (x : List ℕ) (s : Step) (w : World) → IsOfTransfer t request s w → IsSettled w.roots → AsksNothingOf x s w × IsSettled (after s w).roots
+  step_rests : (x : List ℕ) (s : Step) (w : World) → IsOfTransfer t request s w → IsSettled w.roots
+      → AsksNothingOf x s w
   step_rests x s w (inl e) h =
-      subst (λ s. AsksNothingOf x s w × IsSettled (after s w).roots) (sym e)
-      (payload_asks_nothing (setup_attempt t (bytes_of request)) w x (ap asks_no_port (same_setup request) ∙ plain), attempt_settled (setup_attempt t (bytes_of request)) w h)
+      subst (λ s. AsksNothingOf x s w) (sym e)
+      (payload_asks_nothing (setup_attempt t (bytes_of request)) w x
+      (ap asks_no_port (same_setup request) ∙ plain))
   step_rests x s w (inr k) h = behind_rests t x s w k h
 
   transfer_rests : (x : List ℕ) {w v : World} → Course (IsOfTransfer t request) w v → IsSettled w.roots → Course (AsksNothingOf x) w v
-  transfer_rests x (here w) h = here w
-  transfer_rests x (step s {w} {v} k c) h = let rests : _ = step_rests x s w k h in step s rests.0 (transfer_rests x c rests.1)
+  transfer_rests x c = settled_wider (step_rests x) c
 
 read_asks_no_port : (request : Setup) → IsToHost request → asks_no_port request ≡ true
 read_asks_no_port request host = rw (other request.request_type PORT_OUT host (omega arith), other request.request_type DEVICE_OUT host (omega arith)) refl

@@ -19,10 +19,9 @@ use Rattle.usb_world.specs.declared.types.Outcome.TheVariants.{Payload, Stall}
 use Rattle.usb_world.specs.Devices.{EachWas, DidIn}
 use Rattle.usb_world.specs.OneHolder.{got}
 use Rattle.usb_world.specs.AttemptPackets.{IsSettled}
-use Rattle.usb_world.specs.declared.event.Event.{Event}
-use Rattle.usb_world.specs.Steps.{attempt, after, due_from, is_due, outcome_in, damage_in, ready, took, with_attempt}
+use Rattle.usb_world.specs.Steps.{attempt, after, outcome_in, damage_in, ready, with_attempt}
 use Rattle.usb_world.specs.World.{World, Made}
-use Rattle.usb_world.proofs.Interface.{decided, got_nak, got_payload, got_stall, made_step, no}
+use Rattle.usb_world.proofs.Interface.{decided, got_nak, got_payload, got_stall, made_step, no, ready_taken}
 use Rattle.usb_transaction.specs.declared.fault.TransFault.{TransFault}
 use Rattle.usb_transaction.specs.declared.fault.TransFault.TheVariants.{Stalled, Busy, NoAnswer, Bus}
 use Rattle.usb_transaction.specs.declared.heard_outcome.HeardOutcome.{HeardOutcome}
@@ -141,15 +140,6 @@ module _ (Told : ℕ → Type 0) (bits : ℕ) (t : Toggle) (max : ℕ) (m : 1 �
 
 -- The events that are due come with an attempt
 
-due_taken : (es : List Event) (w : World) → w.taken ≤ (due_from es w).taken
-unfolding due_from took
-due_taken [] w = omega arith
-due_taken (e ∷ es) w = elim (is_due e w) as (λ b. w.taken ≤ (if b then due_from es (took e es w) else w).taken) [ true ↦ (let more = due_taken es (took e es w) in omega (arith, more)) | false ↦ omega arith ]
-
-due_onward : (w : World) → w.taken ≤ (ready w).taken
-unfolding ready
-due_onward w = due_taken w.left w
-
 due_came : (a : Attempt) (w : World) → Made w (after (attempt a) w) → (ready w).taken ≤ (after (attempt a) w).taken
 unfolding with_attempt
 due_came a w made = let same : (after (attempt a) w).taken ≡ (ready w).taken = ap (λ (v : World). v.taken) (made_step a w made) in omega (arith, same)
@@ -234,7 +224,7 @@ module _ (t : Target) (toggle : Toggle) (old : World) (m : 1 ≤ t.max) (j : Spo
             later = outcome_in a w ∷ x.told.later;
             since = Trail.next w x.told.since made;
           };
-          came = omega (arith, x.came, due_onward w, due_came a w made);
+          came = omega (arith, x.came, ready_taken w, due_came a w made);
         }
 
     ended : (result : Result (Option (List ℕ)) TransFault) (new : World) → DidIn a w j u v → PollAt (ToldSome (ToldSince a old w j)) toggle u → IsPollEnd toggle result (outcome_in a w) outcomes → ((IsOfBus result → ⊥) → Told a w new)

@@ -12,11 +12,10 @@ use Rattle.usb_device.specs.declared.transfer.RememberedPacket.{RememberedPacket
 use Rattle.usb_device.specs.declared.transfer.RememberedPacket.TheVariants.{Nothing, SetupSeen}
 use Rattle.usb_device.specs.Rows.{State, Reply, received, unread, forgotten, answered, unless_busy, in_row, in_other_row, bulk_ack_row, token_row, after_memory, awaits_control, ends_with_address, awaits_address}
 use Rattle.usb_device.specs.Effect.{asks, asked_by_data}
-use Rattle.usb_device.specs.Tree.{Ports, Place, empty, full, row_of, reach, reach_at, state_at, place_at}
+use Rattle.usb_device.specs.Tree.{Ports, Place, empty, full, row_of, reach_at, state_at, place_at}
 use Rattle.usb_device.specs.Delivery.{hears, reply_to, answer_of, asked_by, effect_of}
 use Rattle.usb_device.proofs.Interface.{keeps-received}
 use Rattle.usb_world.specs.declared.damage.Damage.{Damage}
-use Rattle.usb_world.specs.declared.event.Event.{Event}
 use Rattle.usb_world.specs.declared.types.Attempt.{Attempt}
 use Rattle.usb_world.specs.Wire.{mark_of, harm_to, marked}
 use Rattle.usb_world.specs.Exchange.{token_of, token_out, payload_out, reply_out, ports_in}
@@ -24,8 +23,8 @@ use Rattle.usb_world.specs.Paths.{address_of}
 use Rattle.usb_world.specs.WayEffects.{resets_at, reset_if}
 use Rattle.usb_world.specs.AttemptPackets.{after_sent, deep_at, sent_resets, attempt_resets, IsDataOut, IfOut, IsSettled}
 use Rattle.usb_world.specs.World.{World}
-use Rattle.usb_world.specs.Steps.{due_from, ready, damage_in, with_attempt, Step, attempt, root_call, event, report, after, Course}
-use Rattle.usb_world.specs.Courses.{address_at, Own, Injective}
+use Rattle.usb_world.specs.Steps.{ready, damage_in, with_attempt, Step, attempt, root_call, event, report, after, Course}
+use Rattle.usb_world.specs.Courses.{Own, Injective}
 use Rattle.usb_world.specs.Addresses.{is_setup, NoneTakes, MovesData, GivesNoAddress}
 use Rattle.usb_world.specs.WayEffects.{effect_resets}
 use Rattle.usb_world.proofs.OnWays.{resets_if}
@@ -37,8 +36,8 @@ use Rattle.usb_world.proofs.OneDevice.{stands, state_stands, settled_memory}
 use Rattle.usb_world.proofs.OneHolderAttempts.{ready_settled}
 use Rattle.usb_world.proofs.StepInvariants.{settled_after}
 use Rattle.usb_world.proofs.Courses.{made_reach, goes}
-use Rattle.usb_world.proofs.AddressesKept.{own_steps, step_own, step_unshared, ready_own}
-use Rattle.usb_world.proofs.LiftedSteps.{over_due, over_attempt, kept_course, due_alike}
+use Rattle.usb_world.proofs.AddressesKept.{step_own, step_unshared, ready_own}
+use Rattle.usb_world.proofs.LiftedSteps.{over_attempt, kept_course}
 use Rattle.usb_world.proofs.Equality.{equal_same}
 use Rattle.usb_world.proofs.States.{kept_address, forgotten_address}
 
@@ -321,12 +320,6 @@ module _ (a : Attempt) (d : Option Damage) (k : Ports) (settled : IsSettled k) (
         ∙ kept_sent (token_out a d) k j p (token_calm j p) (at_rest AwaitsNone j p (λ s e m. forgot_awaits s m))
 
 -- Worlds
-
-pub due_own : (f : List ℕ → Option ℕ) (es : List Event) (w : World) → Own f w → Own f (due_from es w)
-due_own f es w own =
-    subst (λ (k : Ports). (p : List ℕ) → reach k p ≡ true → address_at k p ≡ f p)
-    (ap (λ v. v.roots) (due_alike es w))
-    (over_due (own_steps f).events es (record w { left = es }) refl own)
 
 made_own : (f : List ℕ → Option ℕ) (a : Attempt) (w : World) → is_setup a.kind ≡ false → NoneTakes a.addr w.roots → IsSettled w.roots → Own f w → Own f (with_attempt a w)
 unfolding with_attempt

@@ -1,5 +1,5 @@
 -- Which courses keep each device at its own address, and set no mark.
-use Rattle.std.proofs.Common.{◌≡◌, ℕ, zero, suc, ◌+◌, ◌==◌, ◌&&◌, ◌||◌, not, nat_lt, if◌then◌else◌, ◌⊎◌, inl, inr, Bool, true, false, List, [], ◌∷◌, ◌++◌, length, Option, None, Some, option_map, refl, ap, sym, subst, ◌∙◌}
+use Rattle.std.proofs.Common.{◌≡◌, ℕ, zero, suc, ◌+◌, ◌==◌, ◌&&◌, ◌||◌, not, nat_lt, if◌then◌else◌, ◌⊎◌, inl, inr, Bool, true, false, List, [], ◌∷◌, ◌++◌, length, Option, None, Some, option_map, refl, ap, sym, ◌∙◌}
 use Rattle.usb_packet.specs.declared.Packet.{Packet}
 use Rattle.usb_packet.specs.declared.Packet.TheVariants.{Token, Payload, Ack, Sof, Nak, Stall, Pre}
 use Rattle.usb_packet.specs.declared.Toggle.{Toggle}
@@ -27,7 +27,6 @@ use Rattle.usb_device.specs.Tree.{Ports, ended, vacant, taken, Place, empty, ful
 use Rattle.usb_device.specs.Delivery.{hears, reply_to, answer_of, answers, listed, held, is_twice}
 use Rattle.usb_device.proofs.Interface.{keeps-received}
 use Rattle.usb_world.specs.declared.damage.Damage.{Damage}
-use Rattle.usb_world.specs.declared.event.Event.{Event}
 use Rattle.usb_world.specs.declared.event.Action.{Action}
 use Rattle.usb_world.specs.declared.types.Attempt.{Attempt}
 use Rattle.usb_world.specs.declared.types.BusFault.{BusFault}
@@ -40,7 +39,7 @@ use Rattle.usb_world.specs.Paths.{address_of, Two}
 use Rattle.usb_world.specs.WayEffects.{resets_at, call_resets}
 use Rattle.usb_world.specs.AttemptPackets.{after_sent, answers_to, after_attempt, deep_at, sent_resets, attempt_resets}
 use Rattle.usb_world.specs.World.{World}
-use Rattle.usb_world.specs.Steps.{happened, way_of, names_path, took, due_from, ready, damage_in, with_attempt, event_taken, Step, attempt, root_call, event, report, after}
+use Rattle.usb_world.specs.Steps.{happened, way_of, names_path, took, ready, damage_in, with_attempt, event_taken, Step, attempt, root_call, event, report, after}
 use Rattle.usb_world.specs.Courses.{is_made, made_resets, root_resets, resets, address_at, Own, Injective, is_quiet, QuietStep, quiet_data}
 use Rattle.usb_world.proofs.Booleans.{no, both, and_of, decided, neither_of}
 use Rattle.usb_world.proofs.WayChanges.{changed_there}
@@ -52,8 +51,8 @@ use Rattle.usb_world.proofs.OneDevice.{stands, state_stands}
 use Rattle.usb_world.proofs.Courses.{happened_reach, made_reach, root_reach, goes}
 use Rattle.usb_world.proofs.HarmlessRequests.{harmless_resets, IsHarmlessOut}
 use Rattle.usb_world.proofs.States.{kept_address, forgotten_address}
-use Rattle.usb_world.proofs.LiftedSteps.{OverEvents, OverSteps, Keeps, keeps_events, happened_by, over_taken, over_due, over_ready, over_attempt, over_step, due_alike}
-use Rattle.usb_world.proofs.DueEvents.{beside_events, ready_beside}
+use Rattle.usb_world.proofs.LiftedSteps.{OverEvents, OverSteps, Keeps, keeps_events, happened_by, over_taken, over_ready, over_attempt, over_step}
+use Rattle.usb_world.proofs.DueEvents.{beside_events, ready_shared}
 
 -- A packet that is no ACK changes no address
 
@@ -139,26 +138,19 @@ Stood p w v =
     reach v.roots p ≡ true
     → (reach w.roots p ≡ true) × (state_there v.roots p ≡ state_there w.roots p)
 
-pub happened_stood : (a : Action) (d : List Spec) (k : Ports) (p : List ℕ)
-    → reach (happened a d k) p ≡ true
-    → (reach k p ≡ true) × (state_there (happened a d k) p ≡ state_there k p)
-happened_stood a d k p on =
-    let before : _ = happened_reach a d k p on in (before.0, happened_state a d k p before.1)
-
 pub stood_events : (p : List ℕ) → OverEvents (Stood p)
 unfolding took
 stood_events p = record {
   same = λ w on. (on, refl);
   joined = λ w m v x y on.
       let late : _ = y on in let early : _ = x late.0 in (early.0, late.1 ∙ early.1);
-  came = λ e es w l. happened_stood e.action w.devices w.roots p;
+  came = λ e es w l on.
+      let before : _ = happened_reach e.action w.devices w.roots p on in
+      (before.0, happened_state e.action w.devices w.roots p before.1);
 }
 
-pub due_state : (es : List Event) (w : World) (p : List ℕ) → reach (due_from es w).roots p ≡ true → state_there (due_from es w).roots p ≡ state_there w.roots p
-due_state es w p =
-    subst (λ (k : Ports). reach k p ≡ true → state_there k p ≡ state_there w.roots p)
-    (ap (λ v. v.roots) (due_alike es w))
-    (λ on. (over_due (stood_events p) es (record w { left = es }) refl on).1)
+pub ready_stood : (w : World) (p : List ℕ) → Stood p w (ready w)
+ready_stood w p = over_ready (stood_events p) w
 
 pub taken_state : (f : Option BusFault) (w : World) (p : List ℕ) → reach (event_taken f w).roots p ≡ true → state_there (event_taken f w).roots p ≡ state_there w.roots p
 taken_state f w p on = (over_taken (stood_events p) f w on).1
@@ -385,15 +377,12 @@ quiet_resets (report l) w p h = refl
 pub own_steps : (f : List ℕ → Option ℕ) → OverSteps QuietStep (Keeps (Own f))
 unfolding resets
 own_steps f = record {
-  events =
-      keeps_events (Own f)
-      (λ e es w l own p h.
+  events = keeps_events (Own f) (λ e es w l own p h.
       let x : _ = (stood_events p).came e es w l h in
       ap (option_map address_of) x.1 ∙ own p x.0);
   made = λ a w made q own p h.
-      let rest : made_resets a (ready w) p
-      ≡ false = ap (λ x. x && made_resets a (ready w) p) (sym made)
-      ∙ quiet_resets (attempt a) w p q in
+      let rest : made_resets a (ready w) p ≡ false =
+      ap (λ x. x && made_resets a (ready w) p) (sym made) ∙ quiet_resets (attempt a) w p q in
       made_address a (ready w) (quiet_sends a (damage_in (ready w)) q) p
       ∙ own p (made_reach a (ready w) p rest h);
   root = λ c n w q own p h.
@@ -414,7 +403,7 @@ ready_own f = over_ready (own_steps f).events
 pub ready_unshared : (f : List ℕ → Option ℕ) → Injective f → (w : World) → Own f w → w.shared ≡ false → ((ready w).shared || is_twice (held (ready w).roots)) ≡ false
 ready_unshared f inj w own h =
     neither_of (ready w).shared (is_twice (held (ready w).roots))
-    (ap (λ v. v.shared) (ready_beside w) ∙ h) (own_not_twice f inj (ready w) (ready_own f w own))
+    (ready_shared w ∙ h) (own_not_twice f inj (ready w) (ready_own f w own))
 
 pub step_unshared : (f : List ℕ → Option ℕ) → Injective f → (s : Step) (w : World) → Own f w → w.shared ≡ false → (after s w).shared ≡ false
 unfolding after with_attempt

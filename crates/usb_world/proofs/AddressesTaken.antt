@@ -144,9 +144,6 @@ module _ (a : Attempt) (w : World) (h : HolderIn a w) (into : IsIn a) (n : ℕ) 
       no (sym d ∙ ap₂ (λ u v. same_number j u && same_path p v) (sym z.0) (sym z.1) ∙ ap₂ (λ u v. u && v) (self_number j) (self_path p))
 
   module _ (f : List ℕ → Option ℕ) (own : Own f w) where
-    own_ready : Own f (ready w)
-    own_ready = ready_own f w own
-
     abbrev g : List ℕ → Option ℕ
     g q = if same_path (suc j ∷ p) q then Some taken else f q
 
@@ -158,7 +155,7 @@ module _ (a : Attempt) (w : World) (h : HolderIn a w) (into : IsIn a) (n : ℕ) 
     kept_there i e d on =
         ap (λ v. option_map address_of (state_at v.roots i e)) (made_is a w h.made)
         ∙ ports_address a (damage_in (ready w)) k one.settled kind i e (others i e d)
-        ∙ own_ready (suc i ∷ e) (made_reach a (ready w) (suc i ∷ e) (data_calm a (damage_in (ready w)) k one.settled kind i e) (ap (λ v. reach_at v.roots i e) (sym (made_is a w h.made)) ∙ on))
+        ∙ ready_own f w own (suc i ∷ e) (made_reach a (ready w) (suc i ∷ e) (data_calm a (damage_in (ready w)) k one.settled kind i e) (ap (λ v. reach_at v.roots i e) (sym (made_is a w h.made)) ∙ on))
         ∙ ap (λ x. if x then Some taken else f (suc i ∷ e)) (sym d)
 
     own_after : Own g (after (attempt a) w)
@@ -185,5 +182,5 @@ module _ (a : Attempt) (w : World) (h : HolderIn a w) (into : IsIn a) (n : ℕ) 
             pick : (x : Bool) → same_path (suc j ∷ p) q ≡ x → (if x then Some (if ends then n else address_of s) else f q) ≡ f q
             pick false e = refl
             pick true e =
-                ap (λ x. Some (if x then n else address_of s)) y ∙ ap (λ x. Some x) own_state ∙ sym (holder_holds a.addr k one).at ∙ own_ready (suc j ∷ p) one.on
+                ap (λ x. Some (if x then n else address_of s)) y ∙ ap (λ x. Some x) own_state ∙ sym (holder_holds a.addr k one).at ∙ ready_own f w own (suc j ∷ p) one.on
                 ∙ ap f (sym (same_is (suc j ∷ p) q e))

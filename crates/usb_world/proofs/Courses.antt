@@ -1,5 +1,5 @@
 -- What a step of the world does to reachable, live and pending, and what whole courses do.
-use Rattle.std.proofs.Common.{◌≡◌, ℕ, zero, suc, Bool, ◌+◌, ◌&&◌, nat_le, length, if◌then◌else◌, ◌⊎◌, inl, inr, true, false, List, [], ◌∷◌, ◌++◌, Option, None, Some, refl, ap, sym, subst, ◌∙◌}
+use Rattle.std.proofs.Common.{◌≡◌, ℕ, zero, suc, Bool, ◌+◌, ◌&&◌, nat_le, length, if◌then◌else◌, ◌⊎◌, inl, inr, true, false, List, [], ◌∷◌, ◌++◌, Option, None, Some, refl, ap, sym, subst, ◌∙◌, append_assoc}
 use Rattle.usb_port.specs.declared.call.PortCall.{PortCall}
 use Rattle.usb_device.specs.declared.delivery.Content.TheVariants.{Whole}
 use Rattle.usb_device.specs.Spec.{Spec}
@@ -21,10 +21,10 @@ use Rattle.usb_world.specs.Paths.{live, pend, is_way}
 use Rattle.usb_world.specs.WayEffects.{IsNew}
 use Rattle.usb_world.specs.AttemptPackets.{IfOut, IsTokenFor, IsDataOut, IsAckOut, IsAttemptAt}
 use Rattle.usb_world.specs.World.{World}
-use Rattle.usb_world.specs.Steps.{happened, way_of, names_path, took, due_from, ready, damage_in, with_attempt, Step, attempt, root_call, event, report, after, Course, here, step}
+use Rattle.usb_world.specs.Steps.{happened, way_of, names_path, took, ready, damage_in, with_attempt, Step, attempt, root_call, event, report, after, Course, here, step}
 use Rattle.usb_world.specs.Courses.{NoneNames, Undisturbed, is_made, made_resets, made_spares, root_resets, root_spares, resets, spares_step, Reached, UndisturbedOrPends, NoReset, Spares}
 use Rattle.usb_world.proofs.Booleans.{no, both, decided}
-use Rattle.usb_world.proofs.LiftedSteps.{OverEvents, OverSteps, with_limit_told, with_call, happened_by, over_due, over_step, over_course, made_after}
+use Rattle.usb_world.proofs.LiftedSteps.{OverSteps, with_limit_told, with_call, happened_by, over_step, over_course, made_after}
 use Rattle.usb_world.proofs.PlugEvents.{event_reach, event_live, event_pend}
 use Rattle.usb_world.proofs.PortCalls.{call_new, call_reach, call_kept}
 use Rattle.usb_world.proofs.AttemptPackets.{attempt_reach, attempt_new, attempt_kept, sent_out}
@@ -33,10 +33,6 @@ use Rattle.usb_world.proofs.AttemptPackets.{attempt_reach, attempt_new, attempt_
 
 pub undisturbed_here : (w v : World) (p : List ℕ) → w.left ≡ v.left → v.devices ≡ w.devices → Undisturbed w v p
 undisturbed_here w v p e d = record { events = []; split = e; silent = tt; devices = d }
-
-append_assoc : (a b c : List Event) → (a ++ b) ++ c ≡ a ++ (b ++ c)
-append_assoc [] b c = refl
-append_assoc (x ∷ a) b c = ap (λ y. x ∷ y) (append_assoc a b c)
 
 none_append : (d : List Spec) (a b : List Event) (p : List ℕ) → NoneNames d a p → NoneNames d b p → NoneNames d (a ++ b) p
 none_append d [] b p h g = g
@@ -216,19 +212,16 @@ step_new (report l) w p h = no h
 abbrev pub StaysReached : List ℕ → World → World → Type 0
 StaysReached p w v = reach v.roots p ≡ true → (reach w.roots p ≡ true) × Undisturbed w v p
 
-reach_events : (p : List ℕ) → OverEvents (StaysReached p)
-reach_events p = record {
-  same = λ w h. (h, undisturbed_here w w p refl refl);
-  joined = λ w m v x y h.
-      let late : _ = y h in
-      let early : _ = x late.0 in (early.0, undisturbed_on w m v p early.1 late.1);
-  came = λ e es w l. took_reach e es w p l;
-}
-
 reach_steps : (p : List ℕ) → OverSteps (NoReset p) (StaysReached p)
 unfolding resets with_attempt
 reach_steps p = record {
-  events = reach_events p;
+  events = record {
+    same = λ w h. (h, undisturbed_here w w p refl refl);
+    joined = λ w m v x y h.
+        let late : _ = y h in
+        let early : _ = x late.0 in (early.0, undisturbed_on w m v p early.1 late.1);
+    came = λ e es w l. took_reach e es w p l;
+  };
   made = λ a w made k h. (
     made_reach a (ready w) p (ap (λ x. x && made_resets a (ready w) p) (sym made) ∙ k) h,
     undisturbed_here (ready w) (with_attempt a (ready w)) p refl refl,
@@ -237,9 +230,6 @@ reach_steps p = record {
       (root_reach c n w.roots p k h, undisturbed_here w (with_call c n w) p refl refl);
   refused = λ w h. (h, undisturbed_here w (with_limit_told w) p refl refl);
 }
-
-pub due_reach : (es : List Event) (w : World) (p : List ℕ) → w.left ≡ es → reach (due_from es w).roots p ≡ true → (reach w.roots p ≡ true) × Undisturbed w (due_from es w) p
-due_reach es w p l = over_due (reach_events p) es w l
 
 pub unreset_reach : (s : Step) (w : World) (p : List ℕ) → resets s w p ≡ false → reach (after s w).roots p ≡ true → (reach w.roots p ≡ true) × Undisturbed w (after s w) p
 unreset_reach s w p = over_step (reach_steps p) s w

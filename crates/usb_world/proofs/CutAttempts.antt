@@ -1,5 +1,5 @@
 -- Each device over an attempt that the bus gave up: it was made whole, and only its line was not written; or it changed no device.
-use Rattle.std.proofs.Common.{◌≡◌, ◌≢◌, ℕ, ◌==◌, ◌||◌, List, true, false, ◌⊎◌, inl, inr, Option, None, Some, Err, refl, sym, subst, ap, ◌∙◌}
+use Rattle.std.proofs.Common.{◌≡◌, ◌≢◌, ℕ, ◌||◌, List, false, inl, inr, Option, None, Some, Err, refl, sym, subst, ap, ◌∙◌}
 use Rattle.usb_device.specs.Delivery.{held, is_twice}
 use Rattle.usb_device.specs.Tree.{Ports, path_to, reach_on, state_on}
 use Rattle.usb_world.specs.declared.types.Attempt.{Attempt}
@@ -10,13 +10,11 @@ use Rattle.usb_world.specs.OneHolder.{IsMade}
 use Rattle.usb_world.specs.World.{World, IsAttempt, Attempted}
 use Rattle.usb_world.specs.Devices.{Relation, EachWas}
 use Rattle.usb_world.specs.Steps.{ready, damage_in, with_attempt, attempt, after, Left, at_event, at_packet, at_line, GaveUp, AttemptFails}
-use Rattle.usb_world.proofs.AddressesKept.{Stood, stood_events}
-use Rattle.usb_world.proofs.LiftedSteps.{over_ready, over_coming}
-use Rattle.usb_world.proofs.Booleans.{decided, neither}
-use Rattle.usb_world.proofs.DueEvents.{came_shared, ready_beside}
-use Rattle.usb_world.proofs.Equality.{same_equal}
-use Rattle.usb_world.proofs.MadeAttempts.{limited}
-use Rattle.usb_world.proofs.OneHolderAttempts.{made_is, ready_settled}
+use Rattle.usb_world.proofs.AddressesKept.{Stood, stood_events, ready_stood}
+use Rattle.usb_world.proofs.LiftedSteps.{MadeOrNot, attempt_cases, over_coming}
+use Rattle.usb_world.proofs.Booleans.{neither}
+use Rattle.usb_world.proofs.DueEvents.{came_shared, ready_shared}
+use Rattle.usb_world.proofs.OneHolderAttempts.{made_here, made_is, ready_settled}
 use Rattle.usb_world.proofs.UnsharedRefusals.{cut_alone}
 
 -- Events that came
@@ -41,9 +39,6 @@ pub data Cut (a : Attempt) (w v : World) : Type 0 where
   unmade : w.shared ≡ false → EachWas (λ j s x. x ≡ s) w v → Cut a w v
   made_whole : w.shared ≡ false → IsMade a w → (after (attempt a) w).shared ≡ false → (after (attempt a) w).roots ≡ v.roots → Cut a w v
 
-ready_shared : (w : World) → (ready w).shared ≡ w.shared
-ready_shared w = ap (λ v. v.shared) (ready_beside w)
-
 cut_at : (a : Attempt) (w x v : World) → x.roots ≡ v.roots → Cut a w x → Cut a w v
 cut_at a w x v e (unmade h each) = unmade h (each_at Same w x v e each)
 cut_at a w x v e (made_whole h m u r) = made_whole h m u (r ∙ e)
@@ -59,7 +54,7 @@ packet_cut a w x k e is single =
     let both : (ready w).shared || is_twice (held (ready w).roots) ≡ false = sym (ap (λ y. y.shared) is) ∙ single in
     unmade (sym (ready_shared w) ∙ (neither (ready w).shared (is_twice (held (ready w).roots)) both).0)
     (each_at Same w (ready w) x (sym (ap (λ y. y.roots) is ∙ e))
-    (each_stood w (ready w) (λ p. over_ready (stood_events p) w)))
+    (each_stood w (ready w) (ready_stood w)))
 
 module _ (a : Attempt) (w : World) (fits : IsAttempt a) (sound : w.fault ≡ None) (settled : IsSettled w.roots) where
   left_cut : (f : BusFault) (x : World) → w.attempts ≢ w.limit → Left a w f x → x.shared ≡ false → Cut a w x
@@ -79,13 +74,14 @@ module _ (a : Attempt) (w : World) (fits : IsAttempt a) (sound : w.fault ≡ Non
       cut_at a w g.left v (sym (ap (λ y. y.roots) g.told)) (left_cut f g.left g.below g.so_far (sym (ap (λ y. y.shared) g.told) ∙ single))
 
   limit_cut : (after (attempt a) w).shared ≡ false → Cut a w (after (attempt a) w)
-  limit_cut single = pick (decided (w.attempts == w.limit))
+  limit_cut single = pick (attempt_cases a w)
     where
-      pick : ((w.attempts == w.limit) ≡ true) ⊎ ((w.attempts == w.limit) ≡ false) → Cut a w (after (attempt a) w)
+      pick : MadeOrNot a w (after (attempt a) w) → Cut a w (after (attempt a) w)
       pick (inl e) =
-          unmade (sym (ap (λ y. y.shared) (limited a w sound e)) ∙ single)
-          (each_at Same w w (after (attempt a) w) (sym (ap (λ y. y.roots) (limited a w sound e))) (each_stood w w (λ p on. (on, refl))))
-      pick (inr e) = made_cut a w (record { sound = sound; within = λ l. cc (sym (same_equal w.attempts w.limit l) ∙ e); settled = settled }) single
+          unmade (sym (ap (λ y. y.shared) e) ∙ single)
+          (each_at Same w w (after (attempt a) w) (sym (ap (λ y. y.roots) e))
+          (each_stood w w (λ p on. (on, refl))))
+      pick (inr m) = made_cut a w (made_here a w m.0 settled) single
 
   pub cut_attempt : (f : BusFault) (v : World) → AttemptFails a w (Err f) v → v.shared ≡ false → Cut a w v
   cut_attempt LimitReached v e single = subst (Cut a w) (sym e) (limit_cut (ap (λ y. y.shared) (sym e) ∙ single))

@@ -17,8 +17,8 @@ use Rattle.usb_world.specs.Addresses.{is_setup}
 use Rattle.usb_world.specs.OneHolder.{token_way, payload_way, answer_way, reply_way, IsSetup, IsOut, IsIn, hears_attempt, IsMade, HolderIn}
 use Rattle.usb_world.specs.Devices.{Relation, Was, EachWas, Ways, DidIn, DidOut, DidSetup}
 use Rattle.usb_world.proofs.Booleans.{no, both, decided}
-use Rattle.usb_world.proofs.Courses.{due_reach, made_reach}
-use Rattle.usb_world.proofs.AddressesKept.{due_state}
+use Rattle.usb_world.proofs.Courses.{made_reach}
+use Rattle.usb_world.proofs.AddressesKept.{ready_stood}
 use Rattle.usb_world.proofs.AddressesInTransfers.{data_calm}
 use Rattle.usb_world.proofs.RootResets.{is_same, same_is}
 use Rattle.usb_world.proofs.OneDevice.{other_address, stands, state_stands}
@@ -108,19 +108,14 @@ module _ (a : Attempt) (w : World) (m : IsMade a w) (u : (after (attempt a) w).s
   on_ready : reach_on (ready w).roots j ≡ true
   on_ready = made_reach a (ready w) (path_to j) rest_made (ap (λ x. reach_on x.roots j) (sym (made_is a w m)) ∙ on)
 
-  on_before : reach_on w.roots j ≡ true
-  unfolding ready
-  on_before = (due_reach w.left w (path_to j) refl on_ready).0
-
-  as_before : state_on (ready w).roots j ≡ state_on w.roots j
-  unfolding ready
-  as_before = due_state w.left w (path_to j) on_ready
+  was_so : (reach_on w.roots j ≡ true) × (state_on (ready w).roots j ≡ state_on w.roots j)
+  was_so = ready_stood w (path_to j) on_ready
 
   -- what is so of a device that does not hold the address, and of the one that does
   module _ (R : Relation) (other : (s : State) → (address_of s == a.addr) ≡ false → v ≡ s → R j s v)
       (itself : (h : HolderIn a w) → state_on (after (attempt a) w).roots h.spot ≡ Some v → R h.spot h.own v) where
     was_of : (s : State) → state_on (ready w).roots j ≡ Some s → R j s v → Was R w j v
-    was_of s e x = record { before = s; on = on_before; stands = sym as_before ∙ e; so = x }
+    was_of s e x = record { before = s; on = was_so.0; stands = sym was_so.1 ∙ e; so = x }
 
     of_nobody : NobodyHolds a.addr (ready w).roots → (s : State) → state_on (ready w).roots j ≡ Some s → R j s v
     of_nobody n s e =

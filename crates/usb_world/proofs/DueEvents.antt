@@ -1,30 +1,24 @@
 -- What the events that come before an attempt, or as a step, leave of a world as it was.
-use Rattle.std.proofs.Common.{◌≡◌, List, [], ◌∷◌, refl, sym, ap, ◌∙◌}
+use Rattle.std.proofs.Common.{◌≡◌, List, [], ◌∷◌, refl, ap, ◌∙◌}
 use Rattle.usb_world.specs.declared.event.Event.{Event}
 use Rattle.usb_world.specs.World.{World}
-use Rattle.usb_world.specs.Steps.{took, took_first, due_from, ready, Coming}
-use Rattle.usb_world.proofs.LiftedSteps.{OverEvents, over_due, over_ready, over_coming, due_alike}
+use Rattle.usb_world.specs.Steps.{took, took_first, ready, Coming}
+use Rattle.usb_world.proofs.LiftedSteps.{OverEvents, over_ready, over_coming}
 
--- all is as it was but the ports, the events to come, how many came, and when the last one did
-abbrev pub SameBeside : World → World → Type 0
-SameBeside w v =
+-- a world but for its ports, the events to come, how many came, and when the last one did
+abbrev with_events_of : World → World → World
+with_events_of w v =
     record v { roots = w.roots; left = w.left; taken = w.taken; attempts_then = w.attempts_then }
-    ≡ w
+
+-- all else is as it was
+abbrev pub SameBeside : World → World → Type 0
+SameBeside w v = with_events_of w v ≡ w
 
 pub beside_events : OverEvents SameBeside
 unfolding took
 beside_events = record {
   same = λ w. refl;
-  joined = λ w m v x y.
-      ap
-      (λ (u : World).
-      record u {
-        roots = w.roots;
-        left = w.left;
-        taken = w.taken;
-        attempts_then = w.attempts_then;
-      }) y
-      ∙ x;
+  joined = λ w m v x y. ap (with_events_of w) y ∙ x;
   came = λ e events w l. refl;
 }
 
@@ -36,15 +30,8 @@ unfolding took
 first_fault [] w = refl
 first_fault (e ∷ events) w = refl
 
-pub first_shared : (es : List Event) (w : World) → (took_first es w).shared ≡ w.shared
-unfolding took
-first_shared [] w = refl
-first_shared (e ∷ es) w = refl
-
-pub due_shared : (es : List Event) (w : World) → (due_from es w).shared ≡ w.shared
-due_shared es w =
-    ap (λ v. v.shared) (sym (due_alike es w))
-    ∙ ap (λ v. v.shared) (over_due beside_events es (record w { left = es }) refl)
+pub ready_shared : (w : World) → (ready w).shared ≡ w.shared
+ready_shared w = ap (λ v. v.shared) (ready_beside w)
 
 pub came_shared : {w v : World} → Coming w v → v.shared ≡ w.shared
 came_shared c = ap (λ v. v.shared) (over_coming beside_events c)

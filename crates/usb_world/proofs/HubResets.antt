@@ -101,9 +101,6 @@ module _ (a : Attempt) (w : World) (h : HolderIn a w) (bytes : List ℕ) (is : I
   abbrev one : Holder a.addr k
   one = holder_in a w h
 
-  own_ready : Own f (ready w)
-  own_ready = ready_own f w own
-
   -- the device at a path has the address that it had
   abbrev Stays : ℕ → List ℕ → Type 0
   Stays i e = option_map address_of (state_at (after (attempt a) w).roots i e) ≡ f (suc i ∷ e)
@@ -118,7 +115,7 @@ module _ (a : Attempt) (w : World) (h : HolderIn a w) (bytes : List ℕ) (is : I
           ∙ ap (λ x. Some x) (setup_address s (row_of below) bytes (token_way a (damage_in (ready w)) (deep_at false p) s) (payload_way a (damage_in (ready w)) (deep_at false p) s) (answer_way a (damage_in (ready w)) k))
 
   hub_stays : Stays j p
-  hub_stays = hub_is ∙ ap (λ x. Some x) h.at ∙ sym (holder_holds a.addr k one).at ∙ own_ready (suc j ∷ p) h.on
+  hub_stays = hub_is ∙ ap (λ x. Some x) h.at ∙ sym (holder_holds a.addr k one).at ∙ ready_own f w own (suc j ∷ p) h.on
 
   other_stays : (i : ℕ) (e : List ℕ) → (same_number i j && same_path e p) ≡ false → made_resets a (ready w) (suc i ∷ e) ≡ false → reach_at k i e ≡ true → Stays i e
   unfolding resets
@@ -126,7 +123,7 @@ module _ (a : Attempt) (w : World) (h : HolderIn a w) (bytes : List ℕ) (is : I
       let v : Standing k i e = standing k i e on in
       ap (option_map address_of) (others_in a w h i e v.own differ v.at)
       ∙ ap (λ x. Some (address_of (reset_if x v.own))) (ap (λ x. is_made w.fault w && x) rest ∙ and_false (is_made w.fault w))
-      ∙ sym (ap (option_map address_of) v.at) ∙ own_ready (suc i ∷ e) on
+      ∙ sym (ap (option_map address_of) v.at) ∙ ready_own f w own (suc i ∷ e) on
 
   stays : (i : ℕ) (e : List ℕ) → made_resets a (ready w) (suc i ∷ e) ≡ false → reach_at (after (attempt a) w).roots i e ≡ true → Stays i e
   unfolding with_attempt

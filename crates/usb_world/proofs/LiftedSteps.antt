@@ -96,25 +96,6 @@ module _ {R : World → World → Type 0} (l : OverEvents R) where
   over_coming (nothing_yet w) = l.same w
   over_coming (next_came {w} {v} c due) = l.joined w v _ (over_coming c) (over_first v.left v refl)
 
-abbrev without_left : World → World
-without_left w = record w { left = [] }
-
--- what was left before changes nothing of what comes
-pub due_alike : (events : List Event) (w : World)
-    → without_left (due_from events (record w { left = events })) ≡ without_left (due_from events w)
-unfolding due_from took
-due_alike [] w = refl
-due_alike (x ∷ events) w = split (is_due x w)
-  where
-    later : World
-    later = due_from events (took x events w)
-
-    split : (b : Bool)
-        → without_left (if b then later else record w { left = x ∷ events })
-        ≡ without_left (if b then later else w)
-    split true = refl
-    split false = refl
-
 -- Attempts
 
 -- an attempt changes nothing, or only tells of the limit, or is made
@@ -149,12 +130,12 @@ made_sound w made = sound w.fault refl
 -- nothing but the fault changed, or the attempt was made
 abbrev pub MadeOrNot : Attempt → World → World → Type 0
 MadeOrNot a w v =
-    (record v { fault = w.fault } ≡ w) ⊎ ((w.fault ≡ None) × (v ≡ with_attempt a (ready w)))
+    (record v { fault = w.fault } ≡ w)
+    ⊎ ((is_made w.fault w ≡ true) × (v ≡ with_attempt a (ready w)))
 
 pub attempt_cases : (a : Attempt) (w : World) → MadeOrNot a w (after (attempt a) w)
 attempt_cases a w =
-    over_attempt (MadeOrNot a w) a w (λ _. (inl refl, inl refl))
-    (λ made. inr (made_sound w made, refl))
+    over_attempt (MadeOrNot a w) a w (λ _. (inl refl, inl refl)) (λ made. inr (made, refl))
 
 -- Steps
 

@@ -7,7 +7,7 @@ use Rattle.usb_world.specs.declared.types.BusFault.TheVariants.{LimitReached}
 use Rattle.usb_world.specs.Steps.{attempt, after, with_attempt, ready}
 use Rattle.usb_world.specs.World.{World, Made}
 use Rattle.usb_world.proofs.Booleans.{no, neither}
-use Rattle.usb_world.proofs.DueEvents.{ready_beside}
+use Rattle.usb_world.proofs.DueEvents.{ready_beside, ready_shared}
 use Rattle.usb_world.proofs.Equality.{unequal}
 use Rattle.usb_world.proofs.OneHolderAttempts.{at_limit}
 
@@ -38,4 +38,4 @@ pub made_unshared : (a : Attempt) (w : World) → Made w (after (attempt a) w) �
 unfolding with_attempt
 made_unshared a w made h =
     let x : _ = neither (ready w).shared (is_twice (held (ready w).roots)) (sym (ap (λ v. v.shared) (made_step a w made)) ∙ h) in
-    record { before = ap (λ v. v.shared) (sym (ready_beside w)) ∙ x.0; single = x.1 }
+    record { before = sym (ready_shared w) ∙ x.0; single = x.1 }

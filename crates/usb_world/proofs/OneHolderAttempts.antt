@@ -1,5 +1,5 @@
 -- A silent holder, attempts without damage, and the attempts of a world.
-use Rattle.std.proofs.Common.{◌≡◌, ℕ, suc, ◌+◌, ◌&&◌, if◌then◌else◌, Bool, true, false, List, [], ◌∷◌, ◌++◌, Option, None, Some, is_some, refl, ap, ap₂, sym, subst, ◌∙◌}
+use Rattle.std.proofs.Common.{◌≡◌, ℕ, suc, ◌+◌, ◌&&◌, not, if◌then◌else◌, Bool, true, false, List, [], ◌∷◌, ◌++◌, Option, None, Some, is_some, refl, ap, ap₂, sym, subst, ◌∙◌}
 use Rattle.arrayvec.specs.ArrayVec.{ArrayVec}
 use Rattle.usb_packet.specs.declared.Packet.{Packet}
 use Rattle.usb_packet.specs.declared.Packet.TheVariants.{Token}
@@ -35,7 +35,7 @@ use Rattle.usb_world.specs.Steps.{AnyStep, ready, damage_in, with_attempt, outco
 use Rattle.usb_world.specs.OneHolder.{way_to, way_back, token_way, answer_way, reply_way, out_alone, in_alone, IsSetup, IsOut, IsIn, hears_attempt, IsMade, HolderIn, payload_way, got}
 use Rattle.usb_world.proofs.Booleans.{no, neither}
 use Rattle.usb_world.proofs.StepInvariants.{settled_steps}
-use Rattle.usb_world.proofs.LiftedSteps.{over_ready}
+use Rattle.usb_world.proofs.LiftedSteps.{over_ready, made_sound}
 use Rattle.usb_world.proofs.OneHolder.{replied, outcome_unread, remembers, acts, rests, first, second, third, second_below, is_heard_in, is_state, token_is, none_is, in_same, asked, asked_reply, nobody, setup_one, out_one, in_one, setup_alone, Holder, ExchangedWithHolder}
 use Rattle.usb_world.proofs.Equality.{unequal, same_equal}
 use Rattle.usb_world.proofs.DueEvents.{ready_beside}
@@ -196,6 +196,17 @@ made_of a w h m = record { sound = m.sound; within = λ e. no (ap is_some (sym m
 
 pub made_true : (a : Attempt) (w : World) → IsMade a w → is_made w.fault w ≡ true
 made_true a w m = rw (m.sound, unequal w.attempts w.limit m.within) refl
+
+pub made_here : (a : Attempt) (w : World) → is_made w.fault w ≡ true → IsSettled w.roots
+    → IsMade a w
+made_here a w made settled = record {
+  sound = made_sound w made;
+  within = λ e.
+      let none : is_made w.fault w ≡ false =
+      ap (λ f. is_made f w) (made_sound w made) ∙ ap not (same_equal w.attempts w.limit e) in
+      cc (made, none);
+  settled = settled;
+}
 
 pub damage_ready : (w : World) → damage_in (ready w) ≡ damage_in w
 damage_ready w = ap damage_in (ready_beside w)

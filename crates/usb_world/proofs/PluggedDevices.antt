@@ -5,7 +5,7 @@ use Rattle.std.proofs.lemmas.List.Elements.{All-head, All-tail}
 use Rattle.std.proofs.lemmas.Option.{slice_get_cases}
 use Rattle.std.proofs.Math.Seq.{take-append_seam, drop-append_seam}
 use Rattle.usb_device.specs.Spec.{Spec}
-use Rattle.usb_device.specs.Tree.{Ports, replaced, changed}
+use Rattle.usb_device.specs.Tree.{Ports, called, replaced, changed}
 use Rattle.usb_device.specs.View.{state_there}
 use Rattle.usb_world.specs.declared.event.Action.{Action}
 use Rattle.usb_world.specs.declared.event.Action.TheVariants.{Plug, Unplug, Show, Send, Receive, Clear}
@@ -17,6 +17,7 @@ use Rattle.usb_world.specs.PlanCourses.{FollowsPlan, AtPorts, PlugsAtPort, spec_
 use Rattle.usb_world.specs.World.{World}
 use Rattle.usb_world.specs.Courses.{NoneNames, Undisturbed}
 use Rattle.usb_world.specs.Steps.{names_path, way_of, happened, with_plugged, took, ready, damage_in, with_attempt, after, AnyStep, Course, opening}
+use Rattle.usb_world.specs.Exchange.{ports_in}
 use Rattle.usb_world.specs.Paths.{is_way}
 use Rattle.usb_world.proofs.Booleans.{no, both}
 use Rattle.usb_world.proofs.LiftedSteps.{OverSteps, Keeps, keeps_events, happened_by, over_course}
@@ -40,21 +41,13 @@ module _ (J : World → Type 0) (by_event : (e : Event) (events : List Event) (w
   plan_steps = record {
     events = keeps_events J by_event;
     made = λ a w made k.
-        by_rest (ready w) _
-        (record {
-          left = refl;
-          taken = refl;
-          devices = refl;
-          shape = shape_attempt a (damage_in (ready w)) (ready w).roots;
-        });
+        let same : shape (ports_in a (damage_in (ready w)) (ready w).roots) ≡ shape (ready w).roots =
+        shape_attempt a (damage_in (ready w)) (ready w).roots in
+        by_rest (ready w) _ (record { left = refl; taken = refl; devices = refl; shape = same });
     root = λ c n w k.
-        by_rest w _
-        (record {
-          left = refl;
-          taken = refl;
-          devices = refl;
-          shape = shape_root c w.roots (n ∷ []);
-        });
+        let same : shape (changed (called c) w.roots (n ∷ [])) ≡ shape w.roots =
+        shape_root c w.roots (n ∷ []) in
+        by_rest w _ (record { left = refl; taken = refl; devices = refl; shape = same });
     refused = λ w. by_rest w _ (record { left = refl; taken = refl; devices = refl; shape = refl });
   }
 

@@ -14,8 +14,7 @@ use Rattle.usb_world.specs.OneHolder.{IsMade, HolderIn}
 use Rattle.usb_world.specs.Addresses.{is_setup}
 use Rattle.usb_world.specs.Paths.{address_of}
 use Rattle.usb_world.proofs.AddressesInTransfers.{data_calm}
-use Rattle.usb_world.proofs.AddressesKept.{stood_events}
-use Rattle.usb_world.proofs.LiftedSteps.{over_ready}
+use Rattle.usb_world.proofs.AddressesKept.{ready_stood}
 use Rattle.usb_world.proofs.AttemptPackets.{forgotten_ports}
 use Rattle.usb_world.proofs.Courses.{made_reach}
 use Rattle.usb_world.proofs.Holders.{one_path}
@@ -36,7 +35,7 @@ stays_reachable_in a w h =
 
 -- before the events that were due
 pub due_back : (w : World) (j : Spot) → reach_on (ready w).roots j ≡ true → (reach_on w.roots j ≡ true) × (state_on (ready w).roots j ≡ state_on w.roots j)
-due_back w j = over_ready (stood_events (path_to j)) w
+due_back w j = ready_stood w (path_to j)
 
 -- before IN and OUT
 pub data_back : (a : Attempt) (w : World) → IsMade a w → is_setup a.kind ≡ false → (j : Spot) → reach_on (after (attempt a) w).roots j ≡ true → reach_on (ready w).roots j ≡ true

@@ -21,10 +21,10 @@ use Rattle.usb_world.specs.AttemptPackets.{IsSettled}
 use Rattle.usb_world.specs.SanePorts.{IsSane}
 use Rattle.usb_world.specs.PlanData.{PlanData}
 use Rattle.usb_world.specs.World.{World}
-use Rattle.usb_world.specs.Steps.{happened, with_plugged, took, ready, damage_in, with_attempt, Step, after, AnyStep, Course, IsBetween, opening}
+use Rattle.usb_world.specs.Steps.{happened, with_plugged, took, ready, damage_in, with_attempt, Step, after, AnyStep, Course, here, step, IsBetween, opening}
 use Rattle.usb_world.proofs.SanePorts.{sane_path, sane_new_ports, sane_called, sane_replaced}
 use Rattle.usb_world.proofs.AttemptPackets.{attempt_settled, attempt_sane}
-use Rattle.usb_world.proofs.LiftedSteps.{OverSteps, Keeps, keeps_events, happened_by, over_ready, over_step, over_course}
+use Rattle.usb_world.proofs.LiftedSteps.{OverSteps, Keeps, with_call, with_limit_told, keeps_events, happened_by, over_ready, over_step, over_course}
 use Rattle.usb_world.proofs.States.{forgets}
 
 -- A device that remembers nothing, and all below it
@@ -179,30 +179,34 @@ settled_steps = record {
 pub settled_after : (s : Step) (w : World) → IsSettled w.roots → IsSettled (after s w).roots
 settled_after s w = over_step (settled_steps {K = AnyStep}) s w tt
 
+pub settled_course : {K : Step → World → Type 0} {w v : World} → Course K w v → IsSettled w.roots
+    → IsSettled v.roots
+settled_course c = over_course settled_steps c
+
+-- a course of steps that are so where no device remembers a packet
+pub settled_wider : {K L : Step → World → Type 0}
+    → ((s : Step) (w : World) → K s w → IsSettled w.roots → L s w) → {w v : World} → Course K w v
+    → IsSettled w.roots → Course L w v
+settled_wider f (here w) h = here w
+settled_wider f (step s {w} {v} k c) h =
+    step s (f s w k h) (settled_wider f c (settled_after s w h))
+
+between_by : (w : World) → IsSettled w.roots → IsSane w.roots → All IsSpec w.devices → IsBetween w
+between_by w settled sane ruled = record { settled = settled; sane = sane; ruled = ruled }
+
 pub between_steps : {K : Step → World → Type 0} → OverSteps K (Keeps IsBetween)
 unfolding took with_attempt
 between_steps = record {
-  events =
-      keeps_events IsBetween
-      (λ e es w l h.
-      record {
-        settled = settled_happened e.action w.devices w.roots h.settled;
-        sane = sane_happened e.action w.devices h.ruled w.roots h.sane;
-        ruled = h.ruled;
-      });
+  events = keeps_events IsBetween (λ e es w l h.
+      between_by (took e es w) (settled_happened e.action w.devices w.roots h.settled)
+      (sane_happened e.action w.devices h.ruled w.roots h.sane) h.ruled);
   made = λ a w made k h.
-      record {
-        settled = settled_ports a (damage_in (ready w)) (ready w).roots;
-        sane = sane_ports a (damage_in (ready w)) (ready w).roots h.sane;
-        ruled = h.ruled;
-      };
+      between_by (with_attempt a (ready w)) (settled_ports a (damage_in (ready w)) (ready w).roots)
+      (sane_ports a (damage_in (ready w)) (ready w).roots h.sane) h.ruled;
   root = λ c n w k h.
-      record {
-        settled = settled_called c w.roots (n ∷ []) h.settled;
-        sane = sane_called_at c w.roots (n ∷ []) h.sane;
-        ruled = h.ruled;
-      };
-  refused = λ w h. record { settled = h.settled; sane = h.sane; ruled = h.ruled };
+      between_by (with_call c n w) (settled_called c w.roots (n ∷ []) h.settled)
+      (sane_called_at c w.roots (n ∷ []) h.sane) h.ruled;
+  refused = λ w h. between_by (with_limit_told w) h.settled h.sane h.ruled;
 }
 
 pub between_ready : (w : World) → IsBetween w → IsBetween (ready w)
