@@ -4,6 +4,7 @@ pub mod NewEntries
 pub mod Endpoints
 pub mod EnteredFindings
 pub mod FittingPipes
+pub mod Ranges
 pub mod RemovedEntries
 pub mod Interface
 pub mod TransferFrames

@@ -1,7 +1,10 @@
 -- The next entry of a kind is the first one after the last path.
-use Rattle.std.proofs.Common.{◌≡◌, ◌≢◌, ◌∙◌, refl, sym, subst, true, false, Bool, ℕ, cond, List, [], ◌∷◌, ◌&&◌, Option, Some, None}
+use Rattle.std.proofs.Common.{◌≡◌, ◌≢◌, ◌∙◌, refl, sym, ap, subst, true, false, not, Bool, ℕ, cond}
+use Rattle.std.proofs.Common.{List, [], ◌∷◌, ◌&&◌, Option, Some, None}
 use Rattle.std.specs.Map.{lookup, keys_of}
 use Rattle.std.specs.BTreeMap.{is_at}
+use Rattle.std.specs.BTreeMap.Range.{entries_between, is_from_start}
+use Rattle.std.specs.declared.ops.Bound.TheVariants.{Unbounded}
 use Rattle.std.specs.Ordering.{is_lt}
 use Rattle.std.specs.Cmp.{eq_by_cmp_equiv}
 use Rattle.std.specs.Cmp.Lexicographic.{nat_list_cmp_total}
@@ -15,8 +18,14 @@ use Rattle.usb_port.specs.Order.{path_cmp}
 use Rattle.usb_enum.specs.declared.finding.Finding.{Finding}
 use Rattle.usb_table.proofs.Paths.{path_tied, path_itself}
 use Rattle.usb_table.specs.Entries.{Entries, Rises}
-use Rattle.usb_table.specs.Kinds.{is_after}
+use Rattle.usb_table.specs.Keys.{Slots, PathKeys, entries_of, finding_under}
+use Rattle.usb_table.specs.Kinds.{start_after}
 use Rattle.usb_table.specs.NextEntries.{ComesAfter, Stands, IsNext, IsLast}
+
+-- the path comes after the last one, where there is one
+abbrev pub is_after : Option (List ℕ) → List ℕ → Bool
+is_after None path = true
+is_after (Some last) path = is_lt (path_cmp last path)
 
 -- the path of the first entry of the kind after the last path
 abbrev pub first_from : (Finding → Bool) → Option (List ℕ) → Entries → Option (List ℕ)
@@ -96,3 +105,35 @@ next_is kind last (e ∷ es) path rises is =
 pub last_is : (kind : Finding → Bool) (last : Option (List ℕ)) (es : Entries) → first_from kind last es ≡ None → IsLast kind last es
 last_is kind last [] is = λ other s. absurd (cc s.found)
 last_is kind last (e ∷ es) is = last_step kind last e es (last_is kind last es) (is_after last e.0 && kind e.1) refl is
+
+-- ---- the entries behind the last path
+
+abbrev behind : Option (List ℕ) → PathKeys → PathKeys
+behind last paths = entries_between path_cmp (start_after last) Unbounded paths
+
+start_is : (last : Option (List ℕ)) (path : List ℕ)
+    → is_from_start path_cmp (start_after last) path ≡ is_after last path
+start_is None path = refl
+start_is (Some l) path = refl
+
+module _ (kind : Finding → Bool) (last : Option (List ℕ)) (found : Slots) where
+  first_of : PathKeys → Option (List ℕ)
+  first_of paths = first_from kind None (entries_of found paths)
+
+  behind_step : (e : List ℕ × ℕ) (rest : PathKeys) (more : Option (List ℕ)) → first_of rest ≡ more
+      → (b : Bool) → first_of (cond (b && not false) (e ∷ rest) rest)
+      ≡ cond (b && kind (finding_under found e.1)) (Some e.0) more
+  unfolding first_of
+  behind_step e rest more is true =
+      ap (λ (o : Option (List ℕ)). cond (kind (finding_under found e.1)) (Some e.0) o) is
+  behind_step e rest more is false = is
+
+  -- the first of the kind behind the last path is the first of the kind after it
+  pub first_behind : (paths : PathKeys) → first_from kind None (entries_of found (behind last paths))
+      ≡ first_from kind last (entries_of found paths)
+  unfolding first_of
+  first_behind [] = refl
+  first_behind (e ∷ paths) =
+      rw (← start_is last e.0)
+      (behind_step e (behind last paths) (first_from kind last (entries_of found paths))
+      (first_behind paths) (is_from_start path_cmp (start_after last) e.0))

@@ -1,7 +1,7 @@
 -- The kinds of entries that the host walks over.
-use Rattle.std.specs.Prelude.{ℕ, List, Bool, true, Option, Some, None}
-use Rattle.std.specs.Ordering.{is_lt}
-use Rattle.usb_port.specs.Order.{path_cmp}
+use Rattle.std.specs.Prelude.{ℕ, List, Bool, Option, Some, None}
+use Rattle.std.specs.declared.ops.Bound.{Bound}
+use Rattle.std.specs.declared.ops.Bound.TheVariants.{Excluded, Unbounded}
 use Rattle.usb_enum.specs.declared.finding.Finding.{Finding}
 use Rattle.usb_table.specs.declared.kind.Kind.{Kind}
 use Rattle.usb_table.specs.declared.kind.Kind.TheVariants.{Hub, Waiting}
@@ -11,7 +11,7 @@ abbrev pub fits : Kind → Finding → Bool
 fits Hub finding = is_hub finding
 fits Waiting finding = is_waiting finding
 
--- the path comes after the last one, where there is one
-abbrev pub is_after : Option (List ℕ) → List ℕ → Bool
-is_after None path = true
-is_after (Some last) path = is_lt (path_cmp last path)
+-- where the paths after the last one begin, or all where there is none
+abbrev pub start_after : Option (List ℕ) → Bound (List ℕ)
+start_after None = Unbounded
+start_after (Some last) = Excluded last

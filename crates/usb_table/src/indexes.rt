@@ -79,12 +79,11 @@ impl Indexes {
         ensures none { IfNone result
             (list_any (λ e. is_at_or_below e.0 path.now) self.now.by_path.entries ≡ false) }
     {
-        'entries: for (entry, _) in self.by_path.iter() {
-            if is_at_or_below(entry, path) {
-                return Some(entry.duplicate());
-            }
+        let (first, _) = self.by_path.range(path.duplicate()..).next()?;
+        if !is_at_or_below(first, path) {
+            return None;
         }
-        None
+        Some(first.duplicate())
     }
 }
 

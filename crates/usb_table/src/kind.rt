@@ -1,8 +1,9 @@
 //! The kinds of entries that the host walks over.
 ghost use Rattle.std.specs.Prelude.{◌≡◌, option_copied};
-ghost use Rattle.usb_table.specs.Kinds.{fits, is_after};
+ghost use Rattle.usb_table.specs.Kinds.{fits, start_after};
 
 use crate::found::{is_hub, is_waiting};
+use std::ops::Bound;
 use usb_enum::Finding;
 use usb_port::PortPath;
 
@@ -25,12 +26,12 @@ pub(crate) fn fits(kind: Kind, finding: &Finding) -> bool
     }
 }
 
-/// Whether a path comes after the last one, where there is one.
-pub(crate) fn is_after(last: Option<&PortPath>, path: &PortPath) -> bool
-    ensures { result ≡ is_after (option_copied last.entry) path.now }
+/// Where the paths after the last one begin, or all paths where there is none.
+pub(crate) fn start_after(last: Option<&PortPath>) -> Bound<PortPath>
+    ensures { result ≡ start_after (option_copied last.entry) }
 {
     match last {
-        Some(last) => last < path,
-        None => true,
+        Some(last) => Bound::Excluded(last.duplicate()),
+        None => Bound::Unbounded,
     }
 }

@@ -22,7 +22,7 @@ ghost use Rattle.usb_table.specs.Transfers.{PipesPolled, PipesSent, PipesReceive
 use crate::entry::Entry;
 use crate::found::address_number;
 use crate::indexes::Indexes;
-use crate::kind::{Kind, fits, is_after};
+use crate::kind::{Kind, fits, start_after};
 use crate::known::{is_below_hub, port_of_finding, root_port};
 use crate::{EndpointFault, KnownPort};
 use arrayvec::ArrayVec;
@@ -30,6 +30,7 @@ use slab::Slab;
 use std::alloc::{AllocError, Global};
 use std::collections::BTreeMap;
 use std::marker::Model;
+use std::ops::Bound;
 use usb_bus::Bus;
 use usb_enum::Finding;
 use usb_pipe::PipeFault;
@@ -175,8 +176,9 @@ impl DeviceTable {
         ensures none { IfNone result
             (IsLast (fits kind) (option_copied last.entry) self.now.entries) }
     {
-        'entries: for (path, key) in self.indexes.by_path.iter() {
-            if is_after(last, path) && fits(kind, self.entries[*key].finding()) {
+        let behind = (start_after(last), Bound::Unbounded);
+        'entries: for (path, key) in self.indexes.by_path.range(behind) {
+            if fits(kind, self.entries[*key].finding()) {
                 return Some(path.duplicate());
             }
         }

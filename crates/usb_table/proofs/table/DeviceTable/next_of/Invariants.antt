@@ -1,4 +1,4 @@
-use Rattle.std.proofs.Common.{◌≡◌}
+use Rattle.std.proofs.Common.{◌≡◌, None}
 use Rattle.std.specs.Prelude.{option_copied}
 use Rattle.slab.specs.Slab.{get}
 use Rattle.usb_table.specs.Keys.{entries_of, findings}
@@ -7,4 +7,7 @@ use Rattle.usb_table.proofs.NextEntries.{first_from}
 use Rattle.usb_table.proofs.table.DeviceTable.next_of.Given as goal
 
 abbrev pub invariant-entries : goal.invariant-entries
-invariant-entries l = first_from (fits l.kind) (option_copied l.last) (entries_of (findings (get l.self-inside.entries)) l.path-iterator) ≡ first_from (fits l.kind) (option_copied l.last) l.self.entries
+invariant-entries l =
+    first_from (fits l.kind) None
+    (entries_of (findings (get l.self-inside.entries)) l.path-iterator)
+    ≡ first_from (fits l.kind) (option_copied l.last) l.self.entries
