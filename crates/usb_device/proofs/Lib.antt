@@ -23,3 +23,4 @@ pub mod HolderIndexes
 pub mod HolderPaths
 pub mod ReachedPlaces
 pub mod AloneAttempts
+pub mod Hearings
