@@ -14,7 +14,8 @@ pid_of-with (One Stall) room = refl
 pid_of-with (One (Data toggle)) room = refl
 pid_of-with Collision room = refl
 
-pub heard_with-pid : (p : HeardPid) (room : Room) → heard_with (pid_of (heard_with p room)) room ≡ heard_with p room
+pub heard_with-pid : (p : HeardPid) (room : Room)
+    → heard_with (pid_of (heard_with p room)) room ≡ heard_with p room
 heard_with-pid p room = ap (λ x. heard_with x room) (pid_of-with p room)
 
 pub ruleset hearings = (pid_of-with, heard_with-pid)

@@ -1,4 +1,4 @@
--- A whole attempt at one device, of which nothing is damaged: the token, the host's data and its ACK (8.5).
+-- A whole attempt at one device, of which nothing is damaged: token, the host's data, ACK (8.5).
 use Rattle.std.specs.Prelude.{ℕ, nat_le, length, if◌then◌else◌, ◌&&◌, Bool, true, false, [], Option, None, Some}
 use Rattle.usb_packet.specs.declared.Packet.TheVariants as packet
 use Rattle.usb_device.specs.declared.answer.Answer.{Answer}
@@ -22,12 +22,14 @@ use Rattle.usb_device.specs.StoppedPackets.{IsRefused}
 
 -- the packets that the host sends beside its data
 abbrev pub token_sent : HostSide → Sent
-token_sent x = record { low = x.low; pre = x.pre; content = Whole (packet.Token x.kind x.addr x.ep) }
+token_sent x =
+    record { low = x.low; pre = x.pre; content = Whole (packet.Token x.kind x.addr x.ep) }
 
 abbrev pub ack_sent : HostSide → Sent
 ack_sent x = record { low = x.low; pre = x.pre; content = Whole packet.Ack }
 
--- a packet, or none, at a device: what it is then, its answer, what it asks of its ports, and that it refuses memory for it
+-- a packet, or none, at a device: what it is then, its answer, what it asks of its ports, and that
+-- it refuses memory for it
 abbrev pub sent_to : Option Sent → Bool → Plugged → Plugged
 sent_to None deep t = t
 sent_to (Some q) deep t = (taken_sent q deep t).1
@@ -61,7 +63,9 @@ after_data x o deep t = sent_to o deep (after_token x deep t)
 
 -- what is heard of both
 unfoldable pub heard_of_both : HostSide → Option Sent → Bool → Plugged → Heard
-heard_of_both x o deep t = both (heard_from (taken_sent (token_sent x) deep t).0) (heard_from (answer_from o deep (after_token x deep t)))
+heard_of_both x o deep t =
+    both (heard_from (taken_sent (token_sent x) deep t).0)
+    (heard_from (answer_from o deep (after_token x deep t)))
 
 abbrev pub heard_pid : Option AnswerPid → HeardPid
 heard_pid None = heard.Nothing
@@ -81,7 +85,9 @@ acknowledges x o deep t = is_taken x.max (heard_of_both x o deep t)
 
 -- the device after the host's ACK, where it sends one
 unfoldable pub after_reply : HostSide → Option Sent → Bool → Plugged → Plugged
-after_reply x o deep t = if acknowledges x o deep t then (taken_sent (ack_sent x) deep (after_data x o deep t)).1 else after_data x o deep t
+after_reply x o deep t =
+    if acknowledges x o deep t then (taken_sent (ack_sent x) deep (after_data x o deep t)).1 else
+    after_data x o deep t
 
 -- what became of it
 unfoldable pub side_of : HostSide → Option Sent → Bool → Plugged → DeviceSide
@@ -100,7 +106,14 @@ forgot t = record t { own = forgotten t.own }
 -- The same at a path, where a device is or is not.
 
 abbrev pub no_side : DeviceSide
-no_side = record { acknowledged = false; change_cleared = false; reached_kept = true; address_lost = false; address = None }
+no_side =
+    record {
+      acknowledged = false;
+      change_cleared = false;
+      reached_kept = true;
+      address_lost = false;
+      address = None;
+    }
 
 abbrev pub heard_at : HostSide → Option Sent → Bool → Option Plugged → Heard
 heard_at x o deep None = NoAnswer
@@ -117,7 +130,8 @@ RefusedAt x o deep (Some t) = RefusedFrom o deep (after_token x deep t)
 -- the device on a port, after something that changes it
 abbrev pub with_own : (Plugged → Plugged) → Place → Place
 with_own f (empty b) = empty b
-with_own f (full b s a) = full b (f (record { own = s; ports = a })).own (f (record { own = s; ports = a })).ports
+with_own f (full b s a) =
+    full b (f (record { own = s; ports = a })).own (f (record { own = s; ports = a })).ports
 
 -- after the attempt, and after one at whose data memory was refused
 abbrev pub left_in : HostSide → Option Sent → Bool → Place → Place

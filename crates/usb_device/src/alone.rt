@@ -81,7 +81,7 @@ impl Hearing {
 }
 
 impl HostSide {
-    /// Whether a device of a speed hears its token and its ACK, where it is `deep` on a port of a hub.
+    /// Whether a device of a speed hears its token and its ACK; it is `deep` on a port of a hub.
     fn is_heard(&self, deep: bool, low: bool) -> bool
         ensures { result ≡ is_heard (token_sent self.now) deep low }
     {
@@ -165,7 +165,8 @@ impl Device {
         heard: &mut Hearing,
         side: &mut DeviceSide,
     ) -> Result<(), AllocError>
-        ensures heard { OnOk result (heard.new ≡ heard_of_both attempt.now payload.now deep self.old) }
+        ensures heard { OnOk result
+            (heard.new ≡ heard_of_both attempt.now payload.now deep self.old) }
         ensures side { OnOk result (side.new ≡ side_of attempt.now payload.now deep self.old) }
         ensures after { OnOk result (self.new ≡ after_reply attempt.now payload.now deep self.old) }
         ensures err { OnErr result (self.new ≡ after_token attempt.now deep self.old) }
@@ -193,9 +194,11 @@ impl Device {
         heard: &mut Hearing,
         side: &mut DeviceSide,
     ) -> Result<(), AllocError>
-        ensures heard { OnOk result (heard.new ≡ heard_of_both attempt.now payload.now deep self.old) }
+        ensures heard { OnOk result
+            (heard.new ≡ heard_of_both attempt.now payload.now deep self.old) }
         ensures side { OnOk result (side.new ≡ side_of attempt.now payload.now deep self.old) }
-        ensures after { OnOk result (self.new ≡ forgot (after_reply attempt.now payload.now deep self.old)) }
+        ensures after { OnOk result
+            (self.new ≡ forgot (after_reply attempt.now payload.now deep self.old)) }
         ensures err { OnErr result (self.new ≡ forgot (after_token attempt.now deep self.old)) }
         ensures refused { OnErr result
             (RefusedFrom payload.now deep (after_token attempt.now deep self.old)) }
@@ -216,9 +219,9 @@ fn unheard(heard: &mut Hearing, side: &mut DeviceSide)
 }
 
 impl Ports {
-    /// A whole attempt at the device at a path alone, which is `deep` where it stands on a port of a
-    /// hub; `payload` is the host's data, for SETUP and OUT. What is heard of the answers is told, and
-    /// what became of it. After it the device remembers no packet.
+    /// A whole attempt at the device at a path alone, which is `deep` where it stands on a port of
+    /// a hub; `payload` is the host's data, for SETUP and OUT. What is heard of the answers is
+    /// told, and what became of it. After it the device remembers no packet.
     ///
     /// # Errors
     ///

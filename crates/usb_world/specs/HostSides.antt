@@ -1,4 +1,4 @@
--- What the host has to say in an attempt of which nothing is damaged, and what became of its device.
+-- What the host has to say in an attempt of which nothing is damaged, and what became of a device.
 use Rattle.std.specs.Prelude.{ℕ, nat_eq, ◌&&◌, Bool, Some}
 use Rattle.std.specs.Option.{option_eq}
 use Rattle.usb_device.specs.declared.alone.HostSide.{HostSide}
@@ -6,8 +6,9 @@ use Rattle.usb_device.specs.declared.alone.DeviceSide.{DeviceSide}
 use Rattle.usb_world.specs.declared.types.Attempt.{Attempt}
 
 abbrev pub host_side : Attempt → HostSide
-host_side a = record { low = a.low; pre = a.pre; kind = a.kind; addr = a.addr; ep = a.ep; max = a.max }
+host_side a =
+    record { low = a.low; pre = a.pre; kind = a.kind; addr = a.addr; ep = a.ep; max = a.max }
 
--- the device is at that address still, and what it asked of its ports leaves the same devices reached
+-- the device is at that address still, and what it asked of its ports leaves the same ones reached
 abbrev pub keeps_address : DeviceSide → ℕ → Bool
 keeps_address side n = side.reached_kept && option_eq nat_eq side.address (Some n)

@@ -161,8 +161,8 @@ fn exchange_at(
     Ok(keeps_address(&side, attempt.addr))
 }
 
-/// Whether a device that was at an address still is, and asked nothing of its ports that changes who
-/// is reached.
+/// Whether a device that was at an address still is, and asked nothing of its ports that changes
+/// who is reached.
 fn keeps_address(side: &DeviceSide, address: u8) -> bool
     ensures { result ≡ keeps_address side.now address }
 {
