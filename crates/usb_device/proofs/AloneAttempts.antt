@@ -12,11 +12,13 @@ either-leaves true true = refl
 either-leaves true false = refl
 either-leaves false y = refl
 
-pub effect_of-token : (x : HostSide) (deep : Bool) (s : State) → effect_of (token_sent x) deep s ≡ Leaves
+pub effect_of-token : (x : HostSide) (deep : Bool) (s : State)
+    → effect_of (token_sent x) deep s ≡ Leaves
 unfolding effect_of asks
 effect_of-token x deep s = either-leaves (hears (token_sent x) deep s) s.spec.silent
 
-pub effect_of-ack : (x : HostSide) (deep : Bool) (s : State) → effect_of (ack_sent x) deep s ≡ Leaves
+pub effect_of-ack : (x : HostSide) (deep : Bool) (s : State)
+    → effect_of (ack_sent x) deep s ≡ Leaves
 unfolding effect_of asks
 effect_of-ack x deep s = either-leaves (hears (ack_sent x) deep s) s.spec.silent
 

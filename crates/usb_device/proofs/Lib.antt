@@ -24,3 +24,4 @@ pub mod HolderPaths
 pub mod ReachedPlaces
 pub mod PartedIndexes
 pub mod AloneAttempts
+pub mod Hearings

@@ -1,4 +1,4 @@
--- A whole attempt at one device, of which nothing is damaged: the token, the host's data and its ACK (8.5).
+-- A whole attempt at one device, of which nothing is damaged: token, the host's data, ACK (8.5).
 use Rattle.std.specs.Prelude.{ℕ, nat_le, length, if◌then◌else◌, ◌&&◌, Bool, true, false, [], Option, None, Some}
 use Rattle.usb_packet.specs.declared.Packet.TheVariants as packet
 use Rattle.usb_device.specs.declared.answer.Answer.{Answer}
@@ -21,12 +21,14 @@ use Rattle.usb_device.specs.StoppedPackets.{IsRefused}
 
 -- the packets that the host sends beside its data
 abbrev pub token_sent : HostSide → Sent
-token_sent x = record { low = x.low; pre = x.pre; content = Whole (packet.Token x.kind x.addr x.ep) }
+token_sent x =
+    record { low = x.low; pre = x.pre; content = Whole (packet.Token x.kind x.addr x.ep) }
 
 abbrev pub ack_sent : HostSide → Sent
 ack_sent x = record { low = x.low; pre = x.pre; content = Whole packet.Ack }
 
--- a packet, or none, at a device: what it is then, its answer, what it asks of its ports, and that it refuses memory for it
+-- a packet, or none, at a device: what it is then, its answer, what it asks of its ports, and that
+-- it refuses memory for it
 abbrev pub sent_to : Option Sent → Bool → Plugged → Plugged
 sent_to None deep t = t
 sent_to (Some q) deep t = (taken_sent q deep t).1
@@ -55,12 +57,14 @@ after_ack s = (received s [] packet.Ack).1
 abbrev pub after_token : HostSide → Bool → Plugged → Plugged
 after_token x deep t = (taken_sent (token_sent x) deep t).1
 
-abbrev pub after_data : HostSide → Bool → Plugged → Plugged
-after_data x deep t = sent_to x.payload deep (after_token x deep t)
+abbrev pub after_data : HostSide → Option Sent → Bool → Plugged → Plugged
+after_data x o deep t = sent_to o deep (after_token x deep t)
 
 -- what is heard of both
-unfoldable pub heard_of_both : HostSide → Bool → Plugged → Heard
-heard_of_both x deep t = both (heard_from (taken_sent (token_sent x) deep t).0) (heard_from (answer_from x.payload deep (after_token x deep t)))
+unfoldable pub heard_of_both : HostSide → Option Sent → Bool → Plugged → Heard
+heard_of_both x o deep t =
+    both (heard_from (taken_sent (token_sent x) deep t).0)
+    (heard_from (answer_from o deep (after_token x deep t)))
 
 abbrev pub heard_pid : Option AnswerPid → HeardPid
 heard_pid None = heard.Nothing
@@ -75,20 +79,22 @@ is_taken max (One Nak) = false
 is_taken max (One Stall) = false
 is_taken max (One (Data toggle bytes)) = nat_le (length bytes.items) max
 
-abbrev pub acknowledges : HostSide → Bool → Plugged → Bool
-acknowledges x deep t = is_taken x.max (heard_of_both x deep t)
+abbrev pub acknowledges : HostSide → Option Sent → Bool → Plugged → Bool
+acknowledges x o deep t = is_taken x.max (heard_of_both x o deep t)
 
 -- the device after the host's ACK, where it sends one
-unfoldable pub after_reply : HostSide → Bool → Plugged → Plugged
-after_reply x deep t = if acknowledges x deep t then (taken_sent (ack_sent x) deep (after_data x deep t)).1 else after_data x deep t
+unfoldable pub after_reply : HostSide → Option Sent → Bool → Plugged → Plugged
+after_reply x o deep t =
+    if acknowledges x o deep t then (taken_sent (ack_sent x) deep (after_data x o deep t)).1 else
+    after_data x o deep t
 
 -- what became of it
-unfoldable pub side_of : HostSide → Bool → Plugged → DeviceSide
-side_of x deep t = record {
-  acknowledged = acknowledges x deep t;
-  effect = asked_from x.payload deep (after_token x deep t);
-  address_lost = acknowledges x deep t && awaits_address (after_reply x deep t).own;
-  address = Some (after_reply x deep t).own.registers.address;
+unfoldable pub side_of : HostSide → Option Sent → Bool → Plugged → DeviceSide
+side_of x o deep t = record {
+  acknowledged = acknowledges x o deep t;
+  effect = asked_from o deep (after_token x deep t);
+  address_lost = acknowledges x o deep t && awaits_address (after_reply x o deep t).own;
+  address = Some (after_reply x o deep t).own.registers.address;
 }
 
 -- the device forgets what it remembers
@@ -100,26 +106,27 @@ forgot t = record t { own = forgotten t.own }
 abbrev pub no_side : DeviceSide
 no_side = record { acknowledged = false; effect = Leaves; address_lost = false; address = None }
 
-abbrev pub heard_at : HostSide → Bool → Option Plugged → Heard
-heard_at x deep None = NoAnswer
-heard_at x deep (Some t) = heard_of_both x deep t
+abbrev pub heard_at : HostSide → Option Sent → Bool → Option Plugged → Heard
+heard_at x o deep None = NoAnswer
+heard_at x o deep (Some t) = heard_of_both x o deep t
 
-abbrev pub side_at : HostSide → Bool → Option Plugged → DeviceSide
-side_at x deep None = no_side
-side_at x deep (Some t) = side_of x deep t
+abbrev pub side_at : HostSide → Option Sent → Bool → Option Plugged → DeviceSide
+side_at x o deep None = no_side
+side_at x o deep (Some t) = side_of x o deep t
 
-abbrev pub RefusedAt : HostSide → Bool → Option Plugged → Type 0
-RefusedAt x deep None = ⊥
-RefusedAt x deep (Some t) = RefusedFrom x.payload deep (after_token x deep t)
+abbrev pub RefusedAt : HostSide → Option Sent → Bool → Option Plugged → Type 0
+RefusedAt x o deep None = ⊥
+RefusedAt x o deep (Some t) = RefusedFrom o deep (after_token x deep t)
 
 -- the device on a port, after something that changes it
 abbrev pub with_own : (Plugged → Plugged) → Place → Place
 with_own f (empty b) = empty b
-with_own f (full b s a) = full b (f (record { own = s; ports = a })).own (f (record { own = s; ports = a })).ports
+with_own f (full b s a) =
+    full b (f (record { own = s; ports = a })).own (f (record { own = s; ports = a })).ports
 
 -- after the attempt, and after one at whose data memory was refused
-abbrev pub left_in : HostSide → Bool → Place → Place
-left_in x deep = with_own (λ t. forgot (after_reply x deep t))
+abbrev pub left_in : HostSide → Option Sent → Bool → Place → Place
+left_in x o deep = with_own (λ t. forgot (after_reply x o deep t))
 
 abbrev pub cut_in : HostSide → Bool → Place → Place
 cut_in x deep = with_own (λ t. forgot (after_token x deep t))

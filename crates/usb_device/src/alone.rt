@@ -18,16 +18,14 @@ use usb_packet::TokenKind;
 /// What the host has to say in an attempt, of which nothing is damaged.
 ///
 /// `low` says that its token and its ACK are at low speed, `pre` that PRE goes before each of them.
-/// `payload` is its data, for SETUP and OUT. It takes data of at most `max` bytes, and then answers
-/// by its ACK.
-#[derive(Drop)]
-pub struct HostSide<'a> {
+/// It takes data of at most `max` bytes, and then answers by its ACK. Its own data stand beside.
+#[derive(Clone, Copy, Debug)]
+pub struct HostSide {
     pub low: bool,
     pub pre: bool,
     pub kind: TokenKind,
     pub addr: u8,
     pub ep: u8,
-    pub payload: Option<LentPacket<'a>>,
     pub max: u8,
 }
 
@@ -80,8 +78,8 @@ impl Hearing {
     }
 }
 
-impl HostSide<'_> {
-    /// Whether a device of a speed hears its token and its ACK, where it is `deep` on a port of a hub.
+impl HostSide {
+    /// Whether a device of a speed hears its token and its ACK; it is `deep` on a port of a hub.
     fn is_heard(&self, deep: bool, low: bool) -> bool
         ensures { result ≡ is_heard (token_sent self.now) deep low }
     {
@@ -96,7 +94,7 @@ impl HostSide<'_> {
 impl Device {
     /// The token. Of what was heard before, nothing is left.
     #[tactic(auto, unfolding(crate::specs::Delivery::answer_of), using(crate::proofs::AloneAttempts::calm))]
-    fn take_token(&mut self, attempt: &HostSide<'_>, deep: bool, heard: &mut Hearing)
+    fn take_token(&mut self, attempt: &HostSide, deep: bool, heard: &mut Hearing)
         ensures heard { heard.new
             ≡ heard_from (taken_sent (token_sent attempt.now) deep self.old).0 }
         ensures after { self.new ≡ after_token attempt.now deep self.old }
@@ -144,7 +142,7 @@ impl Device {
 
     /// The host's ACK.
     #[tactic(auto, unfolding(crate::specs::Delivery::answer_of, crate::specs::Rows::received), using(crate::proofs::AloneAttempts::calm))]
-    fn take_ack(&mut self, attempt: &HostSide<'_>, deep: bool)
+    fn take_ack(&mut self, attempt: &HostSide, deep: bool)
         ensures { self.new ≡ (taken_sent (ack_sent attempt.now) deep self.old).1 }
     {
         if attempt.is_heard(deep, self.is_low()) {
@@ -156,20 +154,22 @@ impl Device {
     #[tactic(auto, unfolding(crate::specs::AloneAttempts::heard_of_both, crate::specs::AloneAttempts::after_reply, crate::specs::AloneAttempts::side_of))]
     fn exchange(
         &mut self,
-        attempt: &HostSide<'_>,
+        attempt: &HostSide,
+        payload: &Option<LentPacket<'_>>,
         deep: bool,
         heard: &mut Hearing,
         side: &mut DeviceSide,
     ) -> Result<(), AllocError>
-        ensures heard { OnOk result (heard.new ≡ heard_of_both attempt.now deep self.old) }
-        ensures side { OnOk result (side.new ≡ side_of attempt.now deep self.old) }
-        ensures after { OnOk result (self.new ≡ after_reply attempt.now deep self.old) }
+        ensures heard { OnOk result
+            (heard.new ≡ heard_of_both attempt.now payload.now deep self.old) }
+        ensures side { OnOk result (side.new ≡ side_of attempt.now payload.now deep self.old) }
+        ensures after { OnOk result (self.new ≡ after_reply attempt.now payload.now deep self.old) }
         ensures err { OnErr result (self.new ≡ after_token attempt.now deep self.old) }
         ensures refused { OnErr result
-            (RefusedFrom attempt.now.payload deep (after_token attempt.now deep self.old)) }
+            (RefusedFrom payload.now deep (after_token attempt.now deep self.old)) }
     {
         self.take_token(attempt, deep, heard);
-        self.take_data(&attempt.payload, deep, heard, side)?;
+        self.take_data(payload, deep, heard, side)?;
         let acknowledged = heard.is_taken(attempt.max);
         if acknowledged {
             self.take_ack(attempt, deep);
@@ -183,19 +183,22 @@ impl Device {
     /// The same, and its end.
     fn attempt(
         &mut self,
-        attempt: &HostSide<'_>,
+        attempt: &HostSide,
+        payload: &Option<LentPacket<'_>>,
         deep: bool,
         heard: &mut Hearing,
         side: &mut DeviceSide,
     ) -> Result<(), AllocError>
-        ensures heard { OnOk result (heard.new ≡ heard_of_both attempt.now deep self.old) }
-        ensures side { OnOk result (side.new ≡ side_of attempt.now deep self.old) }
-        ensures after { OnOk result (self.new ≡ forgot (after_reply attempt.now deep self.old)) }
+        ensures heard { OnOk result
+            (heard.new ≡ heard_of_both attempt.now payload.now deep self.old) }
+        ensures side { OnOk result (side.new ≡ side_of attempt.now payload.now deep self.old) }
+        ensures after { OnOk result
+            (self.new ≡ forgot (after_reply attempt.now payload.now deep self.old)) }
         ensures err { OnErr result (self.new ≡ forgot (after_token attempt.now deep self.old)) }
         ensures refused { OnErr result
-            (RefusedFrom attempt.now.payload deep (after_token attempt.now deep self.old)) }
+            (RefusedFrom payload.now deep (after_token attempt.now deep self.old)) }
     {
-        let made = self.exchange(attempt, deep, heard, side);
+        let made = self.exchange(attempt, payload, deep, heard, side);
         self.own.attempt_over();
         made
     }
@@ -211,8 +214,9 @@ fn unheard(heard: &mut Hearing, side: &mut DeviceSide)
 }
 
 impl Ports {
-    /// A whole attempt at the device at a path alone, which is `deep` where it stands on a port of a
-    /// hub; what is heard of its answers. After it the device remembers no packet.
+    /// A whole attempt at the device at a path alone, which is `deep` where it stands on a port of
+    /// a hub; `payload` is the host's data, for SETUP and OUT. What is heard of the answers is
+    /// told, and what became of it. After it the device remembers no packet.
     ///
     /// # Errors
     ///
@@ -223,21 +227,22 @@ impl Ports {
     pub fn attempt_at(
         &mut self,
         path: &[u8],
-        attempt: &HostSide<'_>,
+        attempt: &HostSide,
+        payload: &Option<LentPacket<'_>>,
         deep: bool,
         heard: &mut Hearing,
         side: &mut DeviceSide,
     ) -> Result<(), AllocError>
         ensures heard { OnOk result (heard.new
-            ≡ heard_at attempt.now deep (device_there self.old path.now)) }
+            ≡ heard_at attempt.now payload.now deep (device_there self.old path.now)) }
         ensures side { OnOk result (side.new
-            ≡ side_at attempt.now deep (device_there self.old path.now)) }
+            ≡ side_at attempt.now payload.now deep (device_there self.old path.now)) }
         ensures ok { OnOk result
-            (self.new ≡ changed (left_in attempt.now deep) self.old path.now) }
+            (self.new ≡ changed (left_in attempt.now payload.now deep) self.old path.now) }
         ensures err { OnErr result
             (self.new ≡ changed (cut_in attempt.now deep) self.old path.now) }
         ensures refused { OnErr result
-            (RefusedAt attempt.now deep (device_there self.old path.now)) }
+            (RefusedAt attempt.now payload.now deep (device_there self.old path.now)) }
     {
         let Some((number, rest)) = path.split_first() else {
             unheard(heard, side);
@@ -248,7 +253,7 @@ impl Ports {
             unheard(heard, side);
             return Ok(());
         }
-        self.places[i - 1].attempt_at(rest, attempt, deep, heard, side)
+        self.places[i - 1].attempt_at(rest, attempt, payload, deep, heard, side)
     }
 }
 
@@ -258,21 +263,22 @@ impl Place {
     fn attempt_at(
         &mut self,
         path: &[u8],
-        attempt: &HostSide<'_>,
+        attempt: &HostSide,
+        payload: &Option<LentPacket<'_>>,
         deep: bool,
         heard: &mut Hearing,
         side: &mut DeviceSide,
     ) -> Result<(), AllocError>
         ensures heard { OnOk result (heard.new
-            ≡ heard_at attempt.now deep (plugged_in (stood self.old) path.now)) }
+            ≡ heard_at attempt.now payload.now deep (plugged_in (stood self.old) path.now)) }
         ensures side { OnOk result (side.new
-            ≡ side_at attempt.now deep (plugged_in (stood self.old) path.now)) }
+            ≡ side_at attempt.now payload.now deep (plugged_in (stood self.old) path.now)) }
         ensures ok { OnOk result (stood self.new
-            ≡ changed_in (left_in attempt.now deep) (stood self.old) path.now) }
+            ≡ changed_in (left_in attempt.now payload.now deep) (stood self.old) path.now) }
         ensures err { OnErr result (stood self.new
             ≡ changed_in (cut_in attempt.now deep) (stood self.old) path.now) }
         ensures refused { OnErr result
-            (RefusedAt attempt.now deep (plugged_in (stood self.old) path.now)) }
+            (RefusedAt attempt.now payload.now deep (plugged_in (stood self.old) path.now)) }
     {
         match &mut self.device {
             None => {
@@ -280,8 +286,10 @@ impl Place {
                 Ok(())
             }
             Some(device) => match path {
-                [] => device.attempt(attempt, deep, heard, side),
-                [_, ..] => device.ports.attempt_at(path, attempt, deep, heard, side),
+                [] => device.attempt(attempt, payload, deep, heard, side),
+                [_, ..] => device
+                    .ports
+                    .attempt_at(path, attempt, payload, deep, heard, side),
             },
         }
     }

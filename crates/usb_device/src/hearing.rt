@@ -1,7 +1,7 @@
 //! What is heard of the answers to a packet, as it comes.
 ghost use Rattle.std.specs.Prelude.{◌≡◌};
 ghost use Rattle.usb_device.specs.declared.delivery.Heard.TheVariants.{NoAnswer};
-ghost use Rattle.usb_device.specs.Hearings.{heard_with};
+ghost use Rattle.usb_device.specs.Hearings.{heard_with, pid_of};
 
 use crate::answer::AnswerPid;
 use crate::delivery::Heard;
@@ -47,11 +47,20 @@ impl Hearing {
         }
     }
 
-    /// The packet identifier that was heard, and the room: its bytes are those of data.
-    pub fn into_parts(self) -> (HeardPid, ArrayVec<u8, 64>)
-        ensures { heard_with result.0 result.1 ≡ self }
+    /// The packet identifier that was heard.
+    #[tactic(auto, using(crate::proofs::Hearings::hearings))]
+    pub fn pid(&self) -> HeardPid
+        ensures { result ≡ pid_of self.now }
     {
-        (self.pid, self.room)
+        self.pid
+    }
+
+    /// The room: its bytes are those of data.
+    #[tactic(auto, using(crate::proofs::Hearings::hearings))]
+    pub fn into_bytes(self) -> ArrayVec<u8, 64>
+        ensures { heard_with (pid_of self) result ≡ self }
+    {
+        self.room
     }
 
     /// What was heard.

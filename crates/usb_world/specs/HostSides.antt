@@ -1,15 +1,14 @@
--- What the host has to say in an attempt of which nothing is damaged, and what became of its device.
-use Rattle.std.specs.Prelude.{ℕ, nat_eq, ◌&&◌, Bool, Option, Some}
+-- What the host has to say in an attempt of which nothing is damaged, and what became of a device.
+use Rattle.std.specs.Prelude.{ℕ, nat_eq, ◌&&◌, Bool, Some}
 use Rattle.std.specs.Option.{option_eq}
 use Rattle.usb_device.specs.declared.alone.HostSide.{HostSide}
 use Rattle.usb_device.specs.declared.alone.DeviceSide.{DeviceSide}
 use Rattle.usb_device.specs.Holders.{keeps_others}
 use Rattle.usb_world.specs.declared.types.Attempt.{Attempt}
-use Rattle.usb_world.specs.declared.wire.Outgoing.{Outgoing}
-use Rattle.usb_world.specs.Exchange.{goes_out}
 
-abbrev pub host_side : Attempt → Option Outgoing → HostSide
-host_side a payload = record { low = a.low; pre = a.pre; kind = a.kind; addr = a.addr; ep = a.ep; payload = goes_out a payload; max = a.max }
+abbrev pub host_side : Attempt → HostSide
+host_side a =
+    record { low = a.low; pre = a.pre; kind = a.kind; addr = a.addr; ep = a.ep; max = a.max }
 
 -- the device is at that address still, and what it asked of its ports leaves the same devices reached,
 -- but for those on its port of a number and below

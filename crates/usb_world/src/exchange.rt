@@ -42,14 +42,14 @@ pub enum ExchangeAnswer {
 fn put_answer(heard: Hearing, answer: &mut ExchangeAnswer)
     ensures { answer.new ≡ heard_above heard }
 {
-    let (pid, bytes) = heard.into_parts();
-    match pid {
+    match heard.pid() {
         HeardPid::Nothing => *answer = ExchangeAnswer::Nothing,
         HeardPid::Collision => *answer = ExchangeAnswer::Collision,
         HeardPid::One(AnswerPid::Ack) => *answer = ExchangeAnswer::One(Packet::Ack),
         HeardPid::One(AnswerPid::Nak) => *answer = ExchangeAnswer::One(Packet::Nak),
         HeardPid::One(AnswerPid::Stall) => *answer = ExchangeAnswer::One(Packet::Stall),
         HeardPid::One(AnswerPid::Data(toggle)) => {
+            let bytes = heard.into_bytes();
             *answer = ExchangeAnswer::One(Packet::Payload { toggle, bytes });
         }
     }
@@ -151,9 +151,10 @@ fn exchange_whole(
     put_token(attempt, None, &mut exchange.token);
     put_payload(attempt, None, &mut exchange.payload);
     let mut heard = Hearing::nothing();
-    let host = host_side(attempt, &exchange.payload);
+    let host = host_side(attempt);
+    let data = some_goes_out(attempt, &exchange.payload);
     let mut side = DeviceSide::nobody();
-    roots.attempt_at(path, &host, is_deep(path), &mut heard, &mut side)?;
+    roots.attempt_at(path, &host, &data, is_deep(path), &mut heard, &mut side)?;
     put_answer(heard, &mut exchange.answer);
     exchange.answer_mark = Mark::Whole;
     let place = answer_place(&exchange.payload) + 1;
@@ -171,11 +172,9 @@ fn keeps_address(port: u8, side: &DeviceSide, address: u8) -> bool
     side.effect.keeps_others(port) && side.address == Some(address)
 }
 
-/// What the host has to say in an attempt of which nothing is damaged.
-fn host_side<'a>(attempt: &Attempt, payload: &'a Option<Outgoing>) -> HostSide<'a>
-    requires fields { IfSome payload.now (λ s. HasFields s.packet) }
-    requires bit { IfSome payload.now (λ s. has_its_bit s.mark s.packet ≡ true) }
-    ensures { result ≡ host_side attempt.now payload.now }
+/// What the host has to say beside its data.
+fn host_side(attempt: &Attempt) -> HostSide
+    ensures { result ≡ host_side attempt.now }
 {
     HostSide {
         low: attempt.low,
@@ -183,7 +182,6 @@ fn host_side<'a>(attempt: &Attempt, payload: &'a Option<Outgoing>) -> HostSide<'
         kind: attempt.kind,
         addr: attempt.addr,
         ep: attempt.ep,
-        payload: some_goes_out(attempt, payload),
         max: attempt.max,
     }
 }

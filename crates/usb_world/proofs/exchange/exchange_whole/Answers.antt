@@ -8,25 +8,33 @@ use Rattle.usb_world.proofs.Exchanges.{over_settled}
 use Rattle.usb_world.proofs.OneWalk.{CutShort, Walked, walk_over, walk_cut, walked_made, walked_kept, made_plugged, made_settled, cut_plugged}
 use Rattle.usb_world.proofs.exchange.exchange_whole.Goals as goal
 
-cut_short : (c : goal.After-from_residual) → CutShort c.args.attempt.now c.args.roots.now c.attempt_at.new.self c.args.path.now c.put_payload.new.payload
+cut_short : (c : goal.After-from_residual)
+    → CutShort c.args.attempt.now c.args.roots.now c.attempt_at.new.self c.args.path.now
+    c.put_payload.new.payload
 cut_short c = record {
   payload = c.put_payload.ensures.value;
   host = c.host_side-host.result;
+  data_out = c.some_goes_out-data.result;
   deep = c.is_deep.result;
   host_is = c.host_side-host.ensures;
+  data_is = c.some_goes_out-data.ensures;
   deep_is = c.is_deep.ensures;
   ports = c.in_err-attempt_at.ensures.err;
   refused = c.in_err-attempt_at.ensures.refused;
 }
 
 pub returns-in_err-attempt_at-clause-plugged : goal.returns-in_err-attempt_at-clause-plugged
-returns-in_err-attempt_at-clause-plugged c = cut_plugged c.args.attempt.now _ _ (walk_over _ _ _ _ _ c.requires.way c.requires.alone (cut_short c))
+returns-in_err-attempt_at-clause-plugged c =
+    cut_plugged c.args.attempt.now _ _
+    (walk_over _ _ _ _ _ c.requires.way c.requires.alone (cut_short c))
 
 pub returns-in_err-attempt_at-clause-settled : goal.returns-in_err-attempt_at-clause-settled
-returns-in_err-attempt_at-clause-settled c = over_settled _ _ (walk_over _ _ _ _ _ c.requires.way c.requires.alone (cut_short c))
+returns-in_err-attempt_at-clause-settled c =
+    over_settled _ _ (walk_over _ _ _ _ _ c.requires.way c.requires.alone (cut_short c))
 
 pub returns-in_err-attempt_at-clause-cut : goal.returns-in_err-attempt_at-clause-cut
-returns-in_err-attempt_at-clause-cut c = on_err c.from_residual.result (walk_cut _ _ _ _ _ c.requires.way c.requires.alone (cut_short c))
+returns-in_err-attempt_at-clause-cut c =
+    on_err c.from_residual.result (walk_cut _ _ _ _ _ c.requires.way c.requires.alone (cut_short c))
 
 abbrev made : (c : goal.After-keeps_address) → Exchange
 made c = record {
@@ -39,32 +47,47 @@ made c = record {
   change_cleared = c.clears_change-exchange.result;
 }
 
-walked : (c : goal.After-keeps_address) → Walked c.args.attempt.now c.args.roots.now c.attempt_at.new.self c.args.path.now (made c) c.attempt_at.new.heard c.attempt_at.new.side
+walked : (c : goal.After-keeps_address)
+    → Walked c.args.attempt.now c.args.roots.now c.attempt_at.new.self c.args.path.now (made c)
+    c.attempt_at.new.heard c.attempt_at.new.side
 walked c = record {
   token = c.put_token.ensures.value;
   payload = c.put_payload.ensures.value;
   host = c.host_side-host.result;
+  data_out = c.some_goes_out-data.result;
   deep = c.is_deep.result;
   host_is = c.host_side-host.ensures;
+  data_is = c.some_goes_out-data.ensures;
   deep_is = c.is_deep.ensures;
   heard = c.in_ok-attempt_at.ensures.heard;
   told = c.in_ok-attempt_at.ensures.side;
   ports = c.in_ok-attempt_at.ensures.ok;
   answer = c.put_answer.ensures;
   mark = refl;
-  reply = c.put_reply.ensures.value ∙ ap (λ n. marked_some None (n + 1) c.args.attempt.now.pre (ack_if c.attempt_at.new.side.acknowledged)) c.answer_place-place.ensures.value;
+  reply =
+      c.put_reply.ensures.value
+      ∙ ap
+      (λ n. marked_some None (n + 1) c.args.attempt.now.pre
+      (ack_if c.attempt_at.new.side.acknowledged))
+      c.answer_place-place.ensures.value;
   lost = refl;
   cleared = c.clears_change-exchange.ensures;
 }
 
 pub returns-clause-plugged : goal.returns-clause-plugged
-returns-clause-plugged c = made_plugged c.args.attempt.now _ _ (walked_made _ _ _ _ _ _ _ c.requires.way c.requires.alone (walked c)).ports
+returns-clause-plugged c =
+    made_plugged c.args.attempt.now _ _
+    (walked_made _ _ _ _ _ _ _ c.requires.way c.requires.alone (walked c)).ports
 
 pub returns-clause-settled : goal.returns-clause-settled
-returns-clause-settled c = made_settled c.args.attempt.now c.args.roots.now _ (walked_made _ _ _ _ _ _ _ c.requires.way c.requires.alone (walked c)).ports
+returns-clause-settled c =
+    made_settled c.args.attempt.now c.args.roots.now _
+    (walked_made _ _ _ _ _ _ _ c.requires.way c.requires.alone (walked c)).ports
 
 pub returns-clause-made : goal.returns-clause-made
 returns-clause-made c = walked_made _ _ _ _ _ _ _ c.requires.way c.requires.alone (walked c)
 
 pub returns-clause-kept : goal.returns-clause-kept
-returns-clause-kept c = λ kept. walked_kept c.args.port _ _ _ _ _ _ _ c.requires.way c.requires.alone (walked c) (sym c.keeps_address.ensures ∙ kept)
+returns-clause-kept c =
+    λ kept. walked_kept c.args.port _ _ _ _ _ _ _ c.requires.way c.requires.alone (walked c)
+    (sym c.keeps_address.ensures ∙ kept)
