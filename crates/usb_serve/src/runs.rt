@@ -240,6 +240,7 @@ impl<T: Trace> Runner<T> {
         ensures begun { IsBegun plan.now result.host.world }
         ensures going { result.over ≡ false }
     {
+        // for the checker: what holds of each plan
         let _events = plan.events();
         Runner {
             host: Host::new(alloc, bus),
