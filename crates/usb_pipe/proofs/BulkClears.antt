@@ -19,7 +19,7 @@ use Rattle.usb_device.specs.Request.{outcome, unhalts, on_endpoint}
 use Rattle.usb_device.specs.Transfer.{first_stage, ending}
 use Rattle.usb_device.specs.declared.bulk.EndpointState.{EndpointState}
 use Rattle.usb_device.specs.declared.bulk.ServedEndpoint.TheVariants.{Changes}
-use Rattle.usb_device.specs.Rows.{State, bulk_of, endpoint_state, with_endpoint_state, accepted}
+use Rattle.usb_device.specs.Rows.{State, bulk_of, with_endpoint_state, accepted}
 use Rattle.usb_device.specs.Progress.{IsSink, IsSource, level, StatusGiven, OnlyControl, OnlyStage}
 use Rattle.usb_world.specs.Courses.{is_harmless}
 use Rattle.usb_world.specs.World.{World}

@@ -12,8 +12,8 @@ use Rattle.usb_serve.specs.declared.runs.RunFault.TheVariants.{TraceFailed}
 use Rattle.usb_serve.specs.declared.serving.Mode.{Mode}
 use Rattle.usb_serve.specs.declared.serving.ServeFault.{ServeFault}
 use Rattle.usb_serve.specs.declared.serving.ServeFault.TheVariants as serve
-use Rattle.usb_serve.specs.Run.{IsCaused, Spent, run_fault}
-use Rattle.usb_serve.specs.ServeResults.{IsCausedInRun, report_fault}
+use Rattle.usb_serve.specs.Run.{IsCaused, Spent}
+use Rattle.usb_serve.specs.ServeResults.{report_fault}
 use Rattle.usb_serve.specs.Transcript.{RunsTo, StoppedRun, behind, on_the_way, unwritten, in_text, Transcript, begun, told}
 use Rattle.usb_serve.proofs.RunParts.{makes_spent, stops_spent}
 
@@ -29,21 +29,6 @@ untold_fault (Err fault) w caused other = λ is. other (subst (λ f. IsCaused f 
 
 pub untold_trace : {A : Type 0} (result : Result A RunFault) (w : World) → IfErr result (λ fault. IsCaused fault w) → w.fault ≢ Some bus.TraceFailed → result ≢ Err TraceFailed
 untold_trace {A} result w caused other is = subst (λ (r : Result A RunFault). IfErr r (λ fault. fault ≢ TraceFailed)) is (untold_fault result w caused other) refl
-
--- a line that was not written
-pub line_caused : (fault : BusFault) (w : World) → (w.fault ≡ Some bus.LimitReached → w.attempts ≡ w.limit) → w.fault ≡ Some fault → IsCaused (run_fault fault) w
-line_caused bus.LimitReached w at_limit is = (at_limit is, is)
-line_caused bus.Memory w at_limit is = tt
-line_caused bus.TraceFailed w at_limit is = is
-
-pub report_caused : (fault : BusFault) (w : World) → IsCaused (run_fault fault) w → IsCausedInRun (report_fault fault) w
-report_caused bus.LimitReached w caused = caused
-report_caused bus.Memory w caused = tt
-report_caused bus.TraceFailed w caused = caused
-
-pub put_caused : (result : Result (Unit {0}) BusFault) (old new : World) → (new.fault ≡ Some bus.LimitReached → new.attempts ≡ new.limit) → PutLine old result new → IfErr result (λ f. IsCaused (run_fault f) new)
-put_caused (Ok done) old new at_limit step = tt
-put_caused (Err fault) old new at_limit step = line_caused fault new at_limit (ap (λ (w : World). w.fault) step.ends)
 
 -- A line of report is cut only where the writer failed
 

@@ -90,8 +90,5 @@ moved_within a' a d p q z n most e h owes = omega (arith, h, owes)
 pub still_within : (a' a most : ℕ) → a' ≤ a + 0 → a ≤ most → a' ≤ most
 still_within a' a most h few = omega (arith, h, few)
 
-pub same_within : (a' a most : ℕ) → a' ≡ a → a ≤ most → a' ≤ most
-same_within a' a most h few = omega (arith, h, few)
-
 pub room_within : (x y r most : ℕ) → y ≤ r → x + r ≤ most → x + y ≤ most
 room_within x y r most less owes = omega (arith, less, owes)

@@ -18,7 +18,7 @@ const LISTING_END: &[u8] = b"end\n";
 /// A writer behind a buffer, which goes out when it is full and behind the last line of each listing.
 ///
 /// A write that fails ends it: every later one fails too, and nothing more goes to the writer.
-#[derive(Drop)]
+#[derive(Debug, Drop)]
 pub struct Output<W: Write + Drop> {
     buffer: BufWriter<W>,
     has_ended: bool,

@@ -29,7 +29,7 @@ use usb_host::{Host, HostFault, Round, Tree};
 use usb_port::PortPath;
 
 /// What a run made.
-#[derive(Drop)]
+#[derive(Debug, Drop)]
 pub enum Item {
     /// What the host had found, and how many events had been taken.
     Listing(Tree, u64),
@@ -133,7 +133,7 @@ fn round_fault(fault: HostFault) -> RunFault
 }
 
 /// What a whole run made: its items in order, and its counts.
-#[derive(Drop)]
+#[derive(Debug, Drop)]
 pub struct Report {
     /// What the run made, the first one first.
     pub items: Vec<Item>,
@@ -176,7 +176,7 @@ pub fn run(alloc: Global, plan: &Plan) -> Result<Report, RunFault>
 ///
 /// At no attempt did two devices that could be reached hold one address; and as long as the host goes on, each of them
 /// holds the address that the host has for it.
-#[derive(Drop)]
+#[derive(Debug, Drop)]
 pub struct Runner<T: Trace> {
     host: Host<SimBus<T>>,
     /// Nothing more is made.
@@ -240,6 +240,7 @@ impl<T: Trace> Runner<T> {
         ensures begun { IsBegun plan.now result.host.world }
         ensures going { result.over ≡ false }
     {
+        // for the checker: what holds of each plan
         let _events = plan.events();
         Runner {
             host: Host::new(alloc, bus),

@@ -8,7 +8,6 @@ use Rattle.usb_device.specs.Tree.{Spot}
 use Rattle.usb_device.specs.declared.request.Registers.{Registers}
 use Rattle.usb_device.specs.Transfer.{Stage, ending}
 use Rattle.usb_device.specs.Rows.{State, ends_with_address}
-use Rattle.usb_port.specs.declared.call.PortCall.{PortCall}
 use Rattle.usb_world.specs.declared.types.Attempt.{Attempt}
 use Rattle.usb_world.specs.declared.types.Outcome.{Outcome}
 use Rattle.usb_world.specs.declared.types.Outcome.TheVariants.{Payload}
