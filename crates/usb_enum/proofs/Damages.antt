@@ -5,7 +5,7 @@ use Rattle.usb_world.specs.World.{World}
 use Rattle.usb_transaction.specs.Failures.{NoThreeDamaged}
 use Rattle.usb_pipe.proofs.Interface.{never_three}
 use Rattle.usb_bus.specs.Traces.{WentOn}
-use Rattle.usb_enum.proofs.LiftedTraces.{OverFaults, over_traced}
+use Rattle.usb_bus.proofs.Interface.{OverFaults, over_traced}
 
 same_damages : OverFaults (λ w v. v.damages ≡ w.damages)
 unfolding took with_attempt

@@ -5,7 +5,7 @@ use Rattle.usb_world.specs.Steps.{took, ready, with_attempt}
 use Rattle.usb_world.specs.World.{World}
 use Rattle.usb_world.proofs.Interface.{neither}
 use Rattle.usb_bus.specs.Traces.{WentOn}
-use Rattle.usb_enum.proofs.LiftedTraces.{OverFaults, over_traced}
+use Rattle.usb_bus.proofs.Interface.{OverFaults, over_traced}
 
 unshared_back : OverFaults (λ w v. v.shared ≡ false → w.shared ≡ false)
 unfolding took with_attempt

@@ -30,7 +30,7 @@ use Rattle.usb_world.specs.PortRequests.{asks_no_port}
 use Rattle.usb_world.specs.RestingPorts.{AsksNothingOf}
 use Rattle.usb_world.specs.Steps.{Step, attempt, root_call, event, report, after, ready, with_attempt, Course, here, step}
 use Rattle.usb_world.specs.World.{World}
-use Rattle.usb_world.proofs.Interface.{Cut, cut_or_same, data_asks_nothing, decided, due_shared, each_in, each_joined, each_none, each_out, each_wider, faulted, limited, made_is, made_whole, neither, same_equal, unequal, unmade}
+use Rattle.usb_world.proofs.Interface.{Cut, MadeOrNot, attempt_cases, cut_or_same, data_asks_nothing, each_in, each_joined, each_none, each_out, each_wider, made_here, made_is, made_whole, neither, ready_shared, settled_after, settled_course, settled_wider, unequal, unmade}
 use Rattle.usb_backlog.specs.Marks.{Few, KeepsAll, PortMark}
 use Rattle.usb_backlog.proofs.Interface.{KeepsStep, all_none, data_allows, keeps-attempt, keeps-chain}
 use Rattle.usb_transaction.specs.Attempts.{IsOnly, GivenUp}
@@ -48,7 +48,7 @@ use Rattle.usb_pipe.specs.Moves.{SendsAt}
 use Rattle.usb_pipe.specs.Leaves.{WriteLeaves}
 use Rattle.usb_pipe.specs.Stages.{Writes}
 use Rattle.usb_pipe.proofs.Interface.{given_registers, harmless, poll_attempts, receive_attempts, send_attempts}
-use Rattle.usb_address.proofs.Interface.{Ran, attempt_settled, in_kept, out_kept}
+use Rattle.usb_address.proofs.Interface.{Ran, in_kept, out_kept}
 use Rattle.usb_hub.specs.Requests.{AllRest, Ordered}
 use Rattle.usb_hub.proofs.Interface.{each_leaves, order_elsewhere, write_backlog, write_rests, write_so}
 use Rattle.usb_enum.proofs.Interface.{ended}
@@ -103,25 +103,21 @@ record Stayed (w v : World) : Type 0 where
   each : EachWas RanAs w v
 
 made_single : (a : Attempt) (w : World) → IsMade a w → (after (attempt a) w).shared ≡ false → w.shared ≡ false
-unfolding with_attempt ready
-made_single a w m single = sym (due_shared w.left w) ∙ (neither _ _ (sym (ap (λ x. x.shared) (made_is a w m)) ∙ single)).0
+unfolding with_attempt
+made_single a w m single =
+    sym (ready_shared w) ∙ (neither _ _ (sym (ap (λ x. x.shared) (made_is a w m)) ∙ single)).0
 
 step_stays : (a : Attempt) (w : World) → IsFar a → IsSettled w.roots → (after (attempt a) w).shared ≡ false → Stayed w (after (attempt a) w)
-step_stays a w far settled single = pick w.fault refl
+step_stays a w far settled single = pick (attempt_cases a w)
   where
-    tried : w.fault ≡ None → ((w.attempts == w.limit) ≡ true) ⊎ ((w.attempts == w.limit) ≡ false) → Stayed w (after (attempt a) w)
-    tried sound (inl e) =
-        let is = limited a w sound e in
-        record { before = sym (ap (λ x. x.shared) is) ∙ single; each = each_at w w (after (attempt a) w) (sym (ap (λ x. x.roots) is)) (each_itself w) }
-    tried sound (inr e) =
-        let made : IsMade a w = record { sound = sound; within = λ l. cc (sym (same_equal w.attempts w.limit l) ∙ e); settled = settled } in
+    pick : MadeOrNot a w (after (attempt a) w) → Stayed w (after (attempt a) w)
+    pick (inl e) = record {
+      before = sym (ap (λ x. x.shared) e) ∙ single;
+      each = each_at w w (after (attempt a) w) (sym (ap (λ x. x.roots) e)) (each_itself w);
+    }
+    pick (inr m) =
+        let made : IsMade a w = made_here a w m.0 settled in
         record { before = made_single a w made single; each = each_far a w far made single }
-
-    pick : (o : Option BusFault) → w.fault ≡ o → Stayed w (after (attempt a) w)
-    pick None e = tried e (decided (w.attempts == w.limit))
-    pick (Some g) e =
-        let is = faulted a w g e in
-        record { before = sym (ap (λ x. x.shared) is) ∙ single; each = each_at w w (after (attempt a) w) (sym (ap (λ x. x.roots) is)) (each_itself w) }
 
 -- Over all attempts of a call
 
@@ -130,12 +126,6 @@ IsFarStep (attempt a) = IsFar a
 IsFarStep (root_call c n) = ⊥
 IsFarStep event = ⊥
 IsFarStep (report line) = ⊥
-
-step_settled : (s : Step) (w : World) → IsFarStep s → IsSettled w.roots → IsSettled (after s w).roots
-step_settled (attempt a) w far settled = attempt_settled a w settled
-step_settled (root_call c n) w far settled = absurd far
-step_settled event w far settled = absurd far
-step_settled (report line) w far settled = absurd far
 
 any_stays : (s : Step) (w : World) → IsFarStep s → IsSettled w.roots → (after s w).shared ≡ false → Stayed w (after s w)
 any_stays (attempt a) w far settled single = step_stays a w far settled single
@@ -156,31 +146,28 @@ any_keeps m v r few event w far settled = absurd far
 any_keeps m v r few (report line) w far settled = absurd far
 
 module _ (K : Step → World → Type 0) (far : (s : Step) (w : World) → K s w → IsFarStep s) where
-  course_settled : {w v : World} → Course K w v → IsSettled w.roots → IsSettled v.roots
-  course_settled (here w) settled = settled
-  course_settled (step s {w} {v} k c) settled = course_settled c (step_settled s w (far s w k) settled)
-
   course_stays : {w v : World} → Course K w v → IsSettled w.roots → v.shared ≡ false → Stayed w v
   course_stays (here w) settled single = record { before = single; each = each_itself w }
   course_stays (step s {w} {v} k c) settled single =
-      let rest = course_stays c (step_settled s w (far s w k) settled) single in
+      let rest = course_stays c (settled_after s w settled) single in
       let first = any_stays s w (far s w k) settled rest.before in
       record { before = first.before; each = each_then w (after s w) v first.each rest.each }
 
   course_rests : (x : List ℕ) {w v : World} → Course K w v → IsSettled w.roots → Course (AsksNothingOf x) w v
-  course_rests x (here w) settled = here w
-  course_rests x (step s {w} {v} k c) settled = step s (any_rests s w x (far s w k) settled) (course_rests x c (step_settled s w (far s w k) settled))
+  course_rests x c = settled_wider (λ s w k. any_rests s w x (far s w k)) c
 
   course_backlog : {w v : World} → Course K w v → IsSettled w.roots → KeepsAll w v
-  course_backlog c settled = record { all = λ ports m v r few. keeps-chain m v r few ports (steps_keep m v r few c settled) }
-    where
-      steps_keep : (m v r : PortMark) (few : Few v r) {w x : World} → Course K w x → IsSettled w.roots → Course (KeepsStep m v r few) w x
-      steps_keep m v r few (here w) settled = here w
-      steps_keep m v r few (step s {w} k c) settled = step s (any_keeps m v r few s w (far s w k) settled) (steps_keep m v r few c (step_settled s w (far s w k) settled))
+  course_backlog c settled = record {
+    all = λ ports m v r few.
+        keeps-chain m v r few ports
+        (settled_wider (λ s w k. any_keeps m v r few s w (far s w k)) c settled);
+  }
 
   cut_stays : (old : World) (fault : BusFault) (new : World) → GivenUp K old fault new → IsSettled old.roots → new.shared ≡ false → EachWas RanAs old new
   cut_stays old fault new g settled single =
-      pick (cut_or_same g.last g.mid fault new g.fits (course_settled g.course settled) g.refused g.fails single)
+      pick
+      (cut_or_same g.last g.mid fault new g.fits (settled_course g.course settled) g.refused g.fails
+      single)
     where
       pick : Cut g.last g.mid new → EachWas RanAs old new
       pick (unmade h each) =

@@ -1,5 +1,5 @@
 -- The attempts of a transaction: as a course of the world, what they keep of it, and over which damages errors run.
-use Rattle.std.proofs.Common.{◌≡◌, ◌≢◌, ℕ, zero, suc, ◌+◌, ◌<◌, ◌≤◌, List, [], ◌∷◌, false, Option, None, Some, Result, Ok, Err, refl, sym, subst, ◌∙◌, arith}
+use Rattle.std.proofs.Common.{◌≡◌, ◌≢◌, ℕ, zero, suc, ◌+◌, ◌<◌, ◌≤◌, List, [], ◌∷◌, false, Option, None, Some, Result, Ok, Err, refl, subst, ◌∙◌, arith}
 use Rattle.usb_packet.specs.declared.Toggle.{Toggle}
 use Rattle.usb_world.specs.declared.damage.Damage.{Damage}
 use Rattle.usb_world.specs.declared.types.Attempt.{Attempt}
@@ -8,8 +8,8 @@ use Rattle.usb_world.specs.declared.types.Outcome.{Outcome}
 use Rattle.usb_world.specs.AttemptPackets.{IsSettled}
 use Rattle.usb_world.specs.Wire.{damage_of}
 use Rattle.usb_world.specs.World.{World, Made}
-use Rattle.usb_world.specs.Steps.{Step, attempt, after, outcome_in, damage_in, ready, with_attempt, Course, here}
-use Rattle.usb_world.proofs.Interface.{Cut, course_then, cut_or_same, made_damages, made_step, made_unshared, made_whole, settled_ports, unmade}
+use Rattle.usb_world.specs.Steps.{Step, attempt, after, outcome_in, damage_in, Course, here}
+use Rattle.usb_world.proofs.Interface.{Cut, course_then, cut_or_same, made_damages, made_unshared, made_whole, settled_course, unmade}
 use Rattle.usb_transaction.specs.declared.heard_outcome.HeardOutcome.{HeardOutcome}
 use Rattle.usb_transaction.specs.declared.heard_outcome.HeardOutcome.TheVariants.{Moved, Refused, Lost}
 use Rattle.usb_transaction.specs.declared.fault.TransFault.{TransFault}
@@ -29,9 +29,7 @@ pub only_course : (a : Attempt) (outcomes : List Outcome) (old new : World) → 
 only_course a outcomes old new r = trail_course (λ w made. refl) r
 
 pub trail_settled : {a : Attempt} {old new : World} {outcomes : List Outcome} → Trail a old outcomes new → IsSettled old.roots → IsSettled new.roots
-unfolding with_attempt
-trail_settled start h = h
-trail_settled {a} (next w t made) h = subst (λ v. IsSettled v.roots) (sym (made_step a w made)) (settled_ports a (damage_in (ready w)) (ready w).roots)
+trail_settled {a} {old} {new} {outcomes} t = settled_course (only_course a outcomes old new t)
 
 -- no two reachable devices held one address before it
 pub trail_unshared : {a : Attempt} {old new : World} {outcomes : List Outcome} → Trail a old outcomes new → new.shared ≡ false → old.shared ≡ false

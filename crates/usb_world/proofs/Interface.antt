@@ -1,10 +1,10 @@
 -- The lemmas that crates above cite. All others are for this crate alone.
 pub use Rattle.usb_world.proofs.AddressesInTransfers.{course_keeps, data_calm, data_own}
-pub use Rattle.usb_world.proofs.AddressesKept.{own_not_twice, quiet_resets, ready_own, step_own, step_unshared, taken_state}
+pub use Rattle.usb_world.proofs.AddressesKept.{quiet_resets, ready_own, step_own, step_unshared, taken_state}
 pub use Rattle.usb_world.proofs.AddressesTaken.{seen, unseen}
 pub use Rattle.usb_world.proofs.AttemptLosses.{CountsNone, Counts, EndsWithAddress, StaysEndless, each_counts, got_it, got_none, in_clears, in_counts, loses, losses_as, out_counts, set_up_counts}
 pub use Rattle.usb_world.proofs.AttemptPackets.{CalmOut, ack_out, calm_sent, token_out}
-pub use Rattle.usb_world.proofs.Booleans.{and_false, and_none, and_of, both, decided, either_of, if_no, if_yes, neither, neither_of, no, not_true, or_left, or_nothing, or_right}
+pub use Rattle.usb_world.proofs.Booleans.{and_false, and_none, and_of, both, decided, either_of, if_no, if_yes, neither, no, not_true, or_left, or_nothing, or_right}
 pub use Rattle.usb_world.proofs.ChangeBits.{course_bits, made_port, root_port}
 pub use Rattle.usb_world.proofs.Counts.{RootCalled, came_spends, change_most, changes-set, clear_ends, clear_none, clears_change, clears_spend, happened_long, new_long, resets_spend, root_called, row_long, set_ends, set_none, spends_none, spends_then, spends_wider}
 pub use Rattle.usb_world.proofs.Courses.{course_joined, course_then, course_wider, goes, made_live, made_pend, made_reach, pending_persists, root_live, root_pend, same_device, step_new, step_pend, unreset_reach}
@@ -35,5 +35,5 @@ pub use Rattle.usb_world.proofs.RestingPorts.{rests_or_pends, stands_or_pends}
 pub use Rattle.usb_world.proofs.RootResets.{is_same, reset_distinct, reset_own, rest_own, same_is, taken_distinct}
 pub use Rattle.usb_world.proofs.SanePorts.{ports_counted, ports_stand, reach_live, sane_new_ports, sane_spec}
 pub use Rattle.usb_world.proofs.States.{unreset}
-pub use Rattle.usb_world.proofs.StepInvariants.{between_after, between_course, between_opening, between_ready, course_taken, ready_taken, sane_called_at, sane_happened, sane_ports, settled_after, settled_called, settled_course, settled_happened, settled_new, settled_ports, settled_wider}
+pub use Rattle.usb_world.proofs.StepInvariants.{between_after, between_course, between_opening, between_ready, course_taken, ready_taken, sane_called_at, sane_happened, sane_ports, settled_after, settled_called, settled_course, settled_happened, settled_new, settled_wider}
 pub use Rattle.usb_world.proofs.Ways.{at_or_below_way, way_apart, way_itself, way_parent, way_rest, way_shorter, way_trans}
