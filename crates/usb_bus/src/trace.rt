@@ -26,11 +26,15 @@ pub(crate) fn push_attempt(line: &mut Line, number: u64, pre: bool, exchange: &E
     line.push('\n');
 }
 
-fn pre_text(pre: bool) -> &'static str
-    ensures value { result.now ≡ pre_text pre }
-    ensures short { length result.now ≤ 4 }
+/// PRE, where it stands before a packet of the host.
+fn push_pre(line: &mut Line, pre: bool)
+    requires { length line.old.bytes ≤ 696 }
+    ensures text { line.new.bytes ≡ line.old.bytes ++ pre_text pre }
+    ensures few { length line.new.bytes ≤ length line.old.bytes + 4 }
 {
-    if pre { "PRE " } else { "" }
+    if pre {
+        line.push_str("PRE ");
+    }
 }
 
 /// A packet of the host.
@@ -39,7 +43,7 @@ fn push_host(line: &mut Line, pre: bool, packet: &Outgoing)
     ensures text { line.new.bytes ≡ line.old.bytes ++ host_text pre packet.now }
     ensures few { length line.new.bytes ≤ length line.old.bytes + 167 }
 {
-    line.push_str(pre_text(pre));
+    push_pre(line, pre);
     push_packet(line, &packet.packet);
     push_mark(line, packet.mark);
 }
