@@ -1,8 +1,8 @@
 //! A plugged device with all that is plugged below it.
-ghost use Rattle.std.specs.Prelude.{◌≡◌, ◌≤◌, length, None, IfOk, OnErr, true, is_some, option_map};
+ghost use Rattle.std.specs.Prelude.{◌≡◌, ◌≤◌, ◌&&◌, not, length, None, IfOk, OnErr, true, is_some, option_map};
 ghost use Rattle.std.specs.Option.{option_copied};
 ghost use Rattle.usb_port.specs.PortState.{status_of};
-ghost use Rattle.usb_device.specs.Rows.{sink_grows, awaits_address};
+ghost use Rattle.usb_device.specs.Rows.{sink_grows, awaits_address, ends_with_address, is_busy};
 ghost use Rattle.usb_device.specs.Tree.{new_device, first_ports, reset_whole, row_of, numbered, acted, child_of, with_child, without_child};
 ghost use Rattle.usb_device.specs.AnswerPids.{answer_with};
 ghost use Rattle.usb_device.specs.ReceivedBytes.{AnswersPacket, GrowsBy, received_by};
@@ -95,6 +95,14 @@ impl Device {
         ensures { result ≡ awaits_address self.now.own }
     {
         self.own.awaits_address()
+    }
+
+    /// Whether it gives the status stage of SET_ADDRESS at the next IN of endpoint 0 (9.4.6).
+    pub fn ends_with_address(&self) -> bool
+        ensures { result
+            ≡ (not (is_busy self.now.own) && ends_with_address self.now.own.stage) }
+    {
+        self.own.ends_with_address()
     }
 
     /// Whether it is a low-speed device; else it is a full-speed one.

@@ -170,10 +170,10 @@ fn awaits_ack(memory: RememberedPacket) -> bool
 
 impl Own {
     ghost use Rattle.usb_device.specs.StrayPackets.{is_for};
-    ghost use Rattle.std.specs.Prelude.{IfOk, OnErr, true, false, [], ◌∷◌};
+    ghost use Rattle.std.specs.Prelude.{IfOk, OnErr, true, false, not, ◌&&◌, [], ◌∷◌};
     ghost use Rattle.usb_device.specs.declared.transfer.InEndpoint.TheVariants as by;
     ghost use Rattle.usb_device.specs.Effect.{asks, asked_by_data, asked_by_setup};
-    ghost use Rattle.usb_device.specs.Rows.{State, received, unread, forgotten, awaits_address, fresh, reset_state, accepted, configured, begun, is_busy, nak_row, gives, in_row, status_row, out_row, ack_row, token_row, setup_row, payload_row, answered, unless_busy, endpoint_state, with_endpoint_state, bulk_of, rest_of, source_row, bulk_ack_row, acknowledged, sink_row, sinks, in_bulk_row, out_bulk_row, bulk_sinks, data_row, payload_sinks, sink_grows, is_other_out, after_memory, with_endpoints, in_other_row, changes_row, new_changes_row};
+    ghost use Rattle.usb_device.specs.Rows.{State, received, unread, forgotten, awaits_address, ends_with_address, fresh, reset_state, accepted, configured, begun, is_busy, nak_row, gives, in_row, status_row, out_row, ack_row, token_row, setup_row, payload_row, answered, unless_busy, endpoint_state, with_endpoint_state, bulk_of, rest_of, source_row, bulk_ack_row, acknowledged, sink_row, sinks, in_bulk_row, out_bulk_row, bulk_sinks, data_row, payload_sinks, sink_grows, is_other_out, after_memory, with_endpoints, in_other_row, changes_row, new_changes_row};
 
     /// A device that was just plugged; it shares its description.
     ///
@@ -242,6 +242,14 @@ impl Own {
                 Progress::Ending(Some(_))
             )
         )
+    }
+
+    /// Whether it gives the status stage of SET_ADDRESS at the next IN of endpoint 0 (9.4.6).
+    #[tactic(auto, unfolding(crate::specs::Rows::is_busy))]
+    pub fn ends_with_address(&self) -> bool
+        ensures { result ≡ (not (is_busy self.now) && ends_with_address self.now.stage) }
+    {
+        !self.is_busy() && matches!(self.progress, Progress::Ending(Some(_)))
     }
 
     /// A bus reset (9.1.1.3): the device has no address, no configuration and no transfer. What its

@@ -13,7 +13,7 @@ use crate::damage::Damage;
 use crate::exchange::{Exchange, exchange_along, is_whole, make_silence};
 use arrayvec::ArrayVec;
 use std::alloc::AllocError;
-use usb_device::{Holder, Holders, Ports, keeps_enable};
+use usb_device::{Device, Holder, Holders, Ports, keeps_enable};
 use usb_packet::TokenKind;
 use usb_port::PortCall;
 use usb_request::Setup;
@@ -52,7 +52,7 @@ pub fn make_exchange_by(
         make_silence(attempt, damage, exchange);
         return Ok(());
     }
-    match change_of(attempt) {
+    match change_of(attempt, roots, way(holders, attempt.addr)) {
         Change::Nothing => exchange_keeping(roots, holders, attempt, damage, exchange),
         Change::AtDevice => {
             let path = copied(way(holders, attempt.addr));
@@ -196,13 +196,22 @@ enum Change {
 
 /// An IN of endpoint 0 at address 0 may end SET_ADDRESS (9.4.6), and SET_CONFIGURATION turns all
 /// ports off (9.4.7).
-fn change_of(attempt: &Attempt) -> Change {
+fn change_of(attempt: &Attempt, roots: &Ports, way: &[u8]) -> Change {
     match (attempt.kind, &attempt.payload) {
-        (TokenKind::InTok, _) if attempt.addr == 0 && attempt.ep == 0 => Change::AtDevice,
+        (TokenKind::InTok, _) if attempt.addr == 0 && attempt.ep == 0 => {
+            change_of_status(roots.device_at(way))
+        }
         (TokenKind::SetupTok, Some((_, bytes))) => match bytes.as_slice().try_into() {
             Ok(bytes) => change_of_request(&Setup::from_bytes(bytes)),
             Err(_) => Change::Nothing,
         },
+        _ => Change::Nothing,
+    }
+}
+
+fn change_of_status(device: Option<&Device>) -> Change {
+    match device {
+        Some(device) if device.ends_with_address() => Change::AtDevice,
         _ => Change::Nothing,
     }
 }
