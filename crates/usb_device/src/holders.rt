@@ -109,8 +109,8 @@ impl Holders {
         true
     }
 
-    /// Makes it the index of a tree where it was that of the tree with nothing at a path: it puts in
-    /// the devices there and below.
+    /// Makes it the index of a tree where it was that of the tree with nothing at a path: it puts
+    /// in the devices there and below.
     pub fn note(&mut self, roots: &Ports, path: &[u8])
         requires { IsIndexWithout self.old roots.now path.now }
         ensures { IsIndexOf self.new roots.now }

@@ -73,8 +73,8 @@ pub fn make_exchange_by(
     }
 }
 
-/// Makes an attempt of which no change of the index is seen to come; where it may have changed, it is
-/// made anew.
+/// Makes an attempt of which no change of the index is seen to come; where it may have changed, it
+/// is made anew.
 fn exchange_keeping(
     roots: &mut Ports,
     holders: &mut Holders,
@@ -142,8 +142,8 @@ fn exchange_at(
     }
 }
 
-/// Makes an attempt at the device at a path that alone holds the address; who is reached on its port
-/// of a number, and below, may change.
+/// Makes an attempt at the device at a path that alone holds the address; who is reached on its
+/// port of a number, and below, may change.
 fn exchange_at_port(
     roots: &mut Ports,
     holders: &mut Holders,
