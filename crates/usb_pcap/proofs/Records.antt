@@ -1,13 +1,12 @@
 -- Records of packets, one behind the other.
-use Rattle.std.proofs.Common.{◌≡◌, ℕ, List, [], ◌∷◌, ◌++◌, length, Bool, true, false, refl, sym, ap, subst, ◌∙◌, append_assoc, append-nil}
+use Rattle.std.proofs.Common.{◌≡◌, ℕ, List, [], ◌∷◌, ◌++◌, length, Bool, true, refl, sym, ap, subst, ◌∙◌, append_assoc, append-nil}
 use Rattle.usb_packet.specs.declared.Packet.{Packet}
-use Rattle.usb_packet.specs.declared.Packet.TheVariants.{Pre}
 use Rattle.usb_packet.specs.Spelling.{Spells}
 use Rattle.usb_world.specs.declared.wire.Mark.{Mark}
 use Rattle.usb_world.specs.declared.wire.Mark.TheVariants.{Whole, Lost, PreLost, Flipped}
 use Rattle.usb_world.proofs.DamageEffects.{bit_within}
 use Rattle.usb_pcap.specs.Attempt.{may_be_marked}
-use Rattle.usb_pcap.specs.Record.{AppendsRecords, AreRecords, HasBit, IsRecord, damaged, own_mark, pre_mark, record_head}
+use Rattle.usb_pcap.specs.Record.{AppendsRecords, AreRecords, HasBit, IsRecord, damaged, own_mark, record_head}
 
 -- four parts, one after the other
 pub four_parts : (a b c d e w x y z : List ℕ) → b ≡ a ++ w → c ≡ b ++ x → d ≡ c ++ y → e ≡ d ++ z → e ≡ a ++ (w ++ x ++ y ++ z)
@@ -47,18 +46,6 @@ own_may pre Whole p h = refl
 own_may pre Lost p h = refl
 own_may pre PreLost p h = refl
 own_may pre (Flipped bit) p h = h
-
-pub pre_may : (m : Mark) → may_be_marked true (pre_mark m) Pre ≡ true
-pre_may Whole = refl
-pre_may Lost = refl
-pre_may PreLost = refl
-pre_may (Flipped bit) = refl
-
-pub answer_may : (m : Mark) (p : Packet) → may_be_marked false m p ≡ true → may_be_marked true m p ≡ true
-answer_may Whole p h = refl
-answer_may Lost p h = refl
-answer_may PreLost p h = refl
-answer_may (Flipped bit) p h = h
 
 -- a flipped bit of a packet is one of its bytes
 pub may-bit : (m : Mark) (p : Packet) (bytes : List ℕ) → may_be_marked true m p ≡ true → Spells bytes p → HasBit m bytes

@@ -9,7 +9,7 @@ use usb_packet::{Packet, TokenKind};
 use usb_world::{Exchange, ExchangeAnswer, Mark, Outgoing};
 
 /// An attempt, as its line in a trace tells it.
-#[derive(Drop)]
+#[derive(Debug, Drop)]
 pub struct TracedAttempt {
     /// Its number.
     pub number: u64,
