@@ -1,5 +1,5 @@
 -- What a port is after its change of connection was cleared and its status read, and after it was told to pass nothing on.
-use Rattle.std.proofs.Common.{◌≡◌, ◌⊎◌, inl, inr, ◌==◌, ◌&&◌, ℕ, Bool, true, false, List, [], ◌∷◌, ◌++◌, Option, None, Some, is_some, option_map, refl, ap, sym, subst, ◌∙◌}
+use Rattle.std.proofs.Common.{◌≡◌, ◌⊎◌, inl, inr, ◌&&◌, ℕ, Bool, true, false, List, [], ◌∷◌, ◌++◌, Option, None, Some, is_some, option_map, refl, ap, sym, subst, ◌∙◌}
 use Rattle.std.specs.Prelude.{IsSome}
 use Rattle.std.proofs.lemmas.Option.{same_Some}
 use Rattle.usb_port.specs.PortState.{PortState, is_attached}
@@ -11,7 +11,6 @@ use Rattle.usb_device.specs.Rows.{State}
 use Rattle.usb_device.specs.Tree.{Ports, Place, empty, full, port_of, called, place}
 use Rattle.usb_device.specs.View.{port_there, state_there}
 use Rattle.usb_world.specs.declared.types.Attempt.{Attempt}
-use Rattle.usb_world.specs.declared.types.BusFault.{BusFault}
 use Rattle.usb_world.specs.Courses.{spares_step}
 use Rattle.usb_world.specs.Paths.{live, pend, is_way}
 use Rattle.usb_world.specs.PortRequests.{AsksNothing}
@@ -19,7 +18,7 @@ use Rattle.usb_world.specs.RestingPorts.{RestsOrPends}
 use Rattle.usb_world.specs.SanePorts.{IsSane}
 use Rattle.usb_world.specs.Steps.{Step, attempt, root_call, event, report, after, with_attempt, ready, Course, here, step}
 use Rattle.usb_world.specs.World.{World}
-use Rattle.usb_world.proofs.Interface.{course_wider, made_pend, pending_persists, rests_or_pends, step_pend}
+use Rattle.usb_world.proofs.Interface.{MadeOrNot, attempt_cases, course_wider, kept_course, made_pend, made_sound, pending_persists, rests_or_pends, step_pend}
 use Rattle.usb_hub.specs.Moments.{PortTold, PortDone, ActsAt, met_by}
 use Rattle.usb_hub.specs.Requests.{AllRest}
 use Rattle.usb_hub.proofs.Interface.{StandsSo, StandsTold, done_stands, due_course, port_of_place, told_stands}
@@ -64,7 +63,7 @@ module _ (q : List ℕ) (n : ℕ) where
 
   attempt_meets : (a : Attempt) (w : World) → spares_step (attempt a) w q ≡ true → live w.roots p ≡ true → Meets (attempt a) w
   unfolding after spares_step ready
-  attempt_meets a w sp on = by_fault w.fault refl
+  attempt_meets a w sp on = cases (attempt_cases a w)
     where
       made : w.fault ≡ None → after (attempt a) w ≡ with_attempt a (ready w) → Meets (attempt a) w
       made sound is = pick (rests_or_pends p (due_course p w.left w refl sound) on)
@@ -77,13 +76,9 @@ module _ (q : List ℕ) (n : ℕ) where
           pick (inl y) = meets_live (attempt a) w (ready w).roots refl y.0
           pick (inr y) = above (pend_or_live (ready w).roots q n y)
 
-      by_limit : w.fault ≡ None → (b : Bool) → (w.attempts == w.limit) ≡ b → Meets (attempt a) w
-      by_limit sound true e = nothing (rw (sound, e) refl)
-      by_limit sound false e = made sound (rw (sound, e) refl)
-
-      by_fault : (x : Option BusFault) → w.fault ≡ x → Meets (attempt a) w
-      by_fault (Some g) e = nothing (rw e refl)
-      by_fault None e = by_limit e (w.attempts == w.limit) refl
+      cases : MadeOrNot a w (after (attempt a) w) → Meets (attempt a) w
+      cases (inl e) = nothing (ap (λ v. v.roots) e)
+      cases (inr m) = made (made_sound w m.0) m.1
 
   step_meets : (s : Step) (w : World) → spares_step s w q ≡ true → live w.roots p ≡ true → Meets s w
   step_meets (attempt a) w sp on = attempt_meets a w sp on
@@ -133,8 +128,7 @@ module _ (q : List ℕ) (n : ℕ) where
       by_meets (nothing same) = inl (subst (λ t. live t p ≡ true) (sym same) on)
 
   up_course : {w v : World} → Course (ActsAt p ClearConnectionChange) w v → Up w → Up v
-  up_course (here w) x = x
-  up_course (step s {w} {v} k more) x = up_course more (up_step s w k x)
+  up_course c = kept_course Up up_step c
 
   up_done : (old new : World) → PortDone p ClearConnectionChange old new → Up old → Up new
   up_done old new x h = up_rests (after x.last x.before) new x.since (up_step x.last x.before x.acts (up_course x.repeats h))

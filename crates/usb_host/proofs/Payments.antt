@@ -1,19 +1,18 @@
 -- A host at work, and how what parts of a round cost is joined.
-use Rattle.std.proofs.Common.{◌≡◌, ◌≤◌, ◌∙◌, refl, sym, ap, subst, arith, ℕ, ◌+◌, ◌*◌, List, Option, None, Some, Result, Ok, Err}
+use Rattle.std.proofs.Common.{◌≡◌, ◌≤◌, refl, sym, subst, arith, ℕ, ◌+◌, ◌*◌, Option, None, Some, Result, Ok, Err}
 use Rattle.std.specs.Prelude.{IfOk, IsErr}
 use Rattle.std.proofs.Math.Nat.{mul-le-mul_left}
 use Rattle.std.proofs.lemmas.List.Elements.{All-drop}
 use Rattle.usb_world.specs.declared.types.BusFault.{BusFault}
 use Rattle.usb_world.specs.PlanData.{PlanData}
 use Rattle.usb_world.specs.PlanCourses.{AtPorts, FollowsPlan, PlugsAtPort}
-use Rattle.usb_world.specs.Steps.{AnyStep, Course, after, opening}
+use Rattle.usb_world.specs.Steps.{AnyStep, Course, opening}
 use Rattle.usb_world.specs.World.{World}
 use Rattle.usb_world.proofs.Interface.{course_joined}
 use Rattle.usb_world.proofs.PluggedDevices.{events_went}
-use Rattle.usb_bus.specs.Traces.{Traced, still, attempted, called}
 use Rattle.usb_backlog.specs.Marks.{looks_by, strays_by, unmarked}
 use Rattle.usb_enum.specs.TextLengths.{HasPlanWithin}
-use Rattle.usb_enum.proofs.Interface.{went_course}
+use Rattle.usb_enum.proofs.Interface.{traced_faulted, went_course}
 use Rattle.usb_host.specs.Backlog.{hubs}
 use Rattle.usb_host.specs.Budget.{Costs, Pays, PaysPart, StopsWithin, Weights, WorksOn, event_weight, hub_weight, look_weight, stray_weight}
 use Rattle.usb_host.specs.Hosting.{Hosting}
@@ -51,18 +50,8 @@ works_on n c plan a b went x sound work = record {
 }
 
 -- behind a fault no attempt is made
-stays_faulted : {old : World} {t : Option (List ℕ)} {new : World} {s : Option (List ℕ)} → Traced old t new s → (f : BusFault) → old.fault ≡ Some f
-    → (new.attempts ≡ old.attempts) × (new.fault ≡ Some f)
-unfolding after
-stays_faulted still f is = (refl, is)
-stays_faulted {old} (attempted {w} {v} a result fits before made) f is =
-    let x : (w.attempts ≡ old.attempts) × (w.fault ≡ Some f) = stays_faulted before f is in
-    let same : v ≡ w = (made.counts.again f x.1).1 in
-    (ap (λ (u : World). u.attempts) same ∙ x.0, ap (λ (u : World). u.fault) same ∙ x.1)
-stays_faulted (called c port before) f is = stays_faulted before f is
-
 none_made : (n : ℕ) (a b : Hosting) → HostWent n a b → (f : BusFault) → a.world.fault ≡ Some f → b.world.attempts ≡ a.world.attempts
-none_made n a b went f is = (stays_faulted went.traced f is).0
+none_made n a b went f is = (traced_faulted went.traced f is).0
 
 -- What is paid
 

@@ -24,7 +24,7 @@ use Rattle.usb_world.specs.PlanData.{PlanData, IsPlan}
 use Rattle.usb_world.specs.PluggedDevices.{PluggedMap, device_indexed, index_at, plugged_after, plugged_by, plugged_without}
 use Rattle.usb_world.specs.Steps.{AnyStep, Course, opening}
 use Rattle.usb_world.specs.World.{World}
-use Rattle.usb_world.proofs.Interface.{both, course_joined, course_then, course_wider, decided, devices_left, or_left, or_right, way_itself}
+use Rattle.usb_world.proofs.Interface.{both, course_joined, course_taken, course_then, course_wider, decided, devices_left, or_left, or_right, way_itself}
 use Rattle.usb_address.proofs.Interface.{attached_there}
 use Rattle.usb_hub.specs.Moments.{PortDone, PortTold}
 use Rattle.usb_enum.specs.declared.cause.Cause.TheVariants.{Lost, NoAddress}
@@ -48,7 +48,6 @@ use Rattle.usb_host.specs.Service.{ClearsAndReads, DoneWhere}
 use Rattle.usb_host.proofs.Agreements.{lookup-insert_entry_elsewhere}
 use Rattle.usb_host.proofs.Balances.{accounts_listed, one}
 use Rattle.usb_host.proofs.BulkPipes.{device_found}
-use Rattle.usb_host.proofs.CalmPorts.{course_taken}
 use Rattle.usb_host.proofs.EntryClaims.{lookup-insert_entry_here}
 use Rattle.usb_host.proofs.Places.{finding-dropped, finding-kept, finding-none}
 

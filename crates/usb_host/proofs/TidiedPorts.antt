@@ -1,5 +1,5 @@
 -- What is known of a port, and of the ports below it, stays so as a change bit of its enable or reset is cleared.
-use Rattle.std.proofs.Common.{◌≡◌, ◌⊎◌, inl, inr, ◌==◌, ◌&&◌, ◌||◌, ℕ, suc, zero, Bool, true, false, List, [], ◌∷◌, ◌++◌, Option, None, Some, option_map, refl, ap, sym, subst, ◌∙◌, append-nil}
+use Rattle.std.proofs.Common.{◌≡◌, ◌⊎◌, inl, inr, ◌&&◌, ◌||◌, ℕ, suc, zero, true, false, List, [], ◌∷◌, ◌++◌, Option, None, Some, option_map, refl, ap, sym, subst, ◌∙◌, append-nil}
 use Rattle.std.specs.Prelude.{IsSome, IfSome}
 use Rattle.usb_port.specs.PortState.{PortState}
 use Rattle.usb_port.specs.declared.call.PortCall.{PortCall}
@@ -9,7 +9,6 @@ use Rattle.usb_device.specs.Rows.{State}
 use Rattle.usb_device.specs.Tree.{Ports, ended, vacant, taken, Place, empty, full, port_of, called, place, reach, reach_at, state_at, port_at}
 use Rattle.usb_device.specs.View.{port_there, state_there}
 use Rattle.usb_world.specs.declared.types.Attempt.{Attempt}
-use Rattle.usb_world.specs.declared.types.BusFault.{BusFault}
 use Rattle.usb_world.specs.Courses.{spares_step}
 use Rattle.usb_world.specs.Paths.{live, pend, is_way}
 use Rattle.usb_world.specs.PortRequests.{row_reached}
@@ -18,7 +17,7 @@ use Rattle.usb_world.specs.RestingPorts.{AsksNothingOf, StandsOrPends}
 use Rattle.usb_world.specs.Steps.{Step, attempt, root_call, event, report, after, with_attempt, ready, Course, here, step}
 use Rattle.usb_world.specs.WayEffects.{spares}
 use Rattle.usb_world.specs.World.{World}
-use Rattle.usb_world.proofs.Interface.{and_of, both, course_wider, either_of, made_live, made_pend, no, or_left, or_right, pending_persists, root_live, root_pend, stands, stands_or_pends, way_rest}
+use Rattle.usb_world.proofs.Interface.{MadeOrNot, and_of, attempt_cases, both, course_wider, either_of, made_live, made_pend, made_sound, no, or_left, or_right, pending_persists, root_live, root_pend, stands, stands_or_pends, way_rest}
 use Rattle.usb_hub.specs.Moments.{PortDone, ActsAt}
 use Rattle.usb_hub.proofs.Interface.{due_course, enabled_reach, port_of_place, row_reached-back, state_of_place}
 use Rattle.usb_enum.specs.declared.finding.Finding.{Finding}
@@ -251,7 +250,7 @@ module _ (t : Tidy) (q : List ℕ) (n : ℕ) where
 
   attempt_holds : (a : Attempt) (w : World) → ActsAt p (tidy_call t) (attempt a) w → row_reached (after (attempt a) w).roots q ≡ true → (r : List ℕ) → HoldsAt (p ++ r) w (after (attempt a) w)
   unfolding after spares_step ready
-  attempt_holds a w k row r = by_fault w.fault refl
+  attempt_holds a w k row r = cases (attempt_cases a w)
     where
       made : w.fault ≡ None → after (attempt a) w ≡ with_attempt a (ready w) → HoldsAt (p ++ r) w (after (attempt a) w)
       made sound is =
@@ -262,13 +261,9 @@ module _ (t : Tidy) (q : List ℕ) (n : ℕ) where
           (holds_then (p ++ r) w (ready w) (with_attempt a (ready w)) came
           (holds_by r (ready w) (with_attempt a (ready w)) (alike (ready w) (with_attempt a (ready w)) e (made_live a (ready w) p spares) (made_pend a (ready w) p spares) (subst (λ v. row_reached v.roots q ≡ true) is row))))
 
-      by_limit : w.fault ≡ None → (b : Bool) → (w.attempts == w.limit) ≡ b → HoldsAt (p ++ r) w (after (attempt a) w)
-      by_limit sound true e = holds_same (p ++ r) w (after (attempt a) w) (rw (sound, e) refl)
-      by_limit sound false e = made sound (rw (sound, e) refl)
-
-      by_fault : (x : Option BusFault) → w.fault ≡ x → HoldsAt (p ++ r) w (after (attempt a) w)
-      by_fault (Some g) e = holds_same (p ++ r) w (after (attempt a) w) (rw e refl)
-      by_fault None e = by_limit e (w.attempts == w.limit) refl
+      cases : MadeOrNot a w (after (attempt a) w) → HoldsAt (p ++ r) w (after (attempt a) w)
+      cases (inl e) = holds_same (p ++ r) w (after (attempt a) w) (ap (λ v. v.roots) e)
+      cases (inr m) = made (made_sound w m.0) m.1
 
   root_holds : (d : PortCall) (m : ℕ) (w : World) → ActsAt p (tidy_call t) (root_call d m) w → row_reached (after (root_call d m) w).roots q ≡ true → (r : List ℕ) → HoldsAt (p ++ r) w (after (root_call d m) w)
   unfolding after spares_step

@@ -19,7 +19,7 @@ use Rattle.usb_world.specs.PluggedDevices.{hub_ports}
 use Rattle.usb_world.specs.PortRequests.{row_reached}
 use Rattle.usb_world.specs.SanePorts.{IsSane}
 use Rattle.usb_world.specs.Steps.{ready}
-use Rattle.usb_world.proofs.Interface.{ports_counted, stands, way_parent}
+use Rattle.usb_world.proofs.Interface.{course_taken, ports_counted, ready_taken, stands, way_parent}
 use Rattle.usb_world.proofs.Ways.{reach_on_way}
 use Rattle.usb_hub.proofs.Interface.{port_of_place, sane_there, state_of_place}
 use Rattle.usb_descriptor.specs.Device.{device_head_of, configuration_count}
@@ -44,7 +44,7 @@ use Rattle.usb_host.specs.Budget.{ShowsChange, ShowsTold}
 use Rattle.usb_host.specs.Hosting.{Hosting}
 use Rattle.usb_host.specs.Soundness.{IsSound, IsTruthOf, known_supply}
 use Rattle.usb_host.proofs.Backlogs.{full_of, place_of, steady_place}
-use Rattle.usb_host.proofs.CalmPorts.{course_taken, ready_none, ready_taken}
+use Rattle.usb_host.proofs.CalmPorts.{ready_none}
 use Rattle.usb_host.proofs.Climbs.{parent_length}
 use Rattle.usb_host.proofs.Polls.{HubThere, facts_ports}
 use Rattle.usb_host.proofs.SettledListings.{reached_there}
