@@ -19,7 +19,8 @@ exchange_at-requires c =
       way =
           way_by_index n c.args.roots.now c.args.holders.now c.as_slice.result.now
           (omega (arith, c.requires.attempt.addr_fits)) c.requires.index
-          (c.as_slice.ensures.value ∙ c.copied-path.ensures ∙ c.way.ensures.value);
+          (c.as_slice.ensures.value ∙ c.copied-path.ensures
+          ∙ c.way-in-AtDevice.ensures.value);
     }
 
 pub exchange_at_port-requires : goal.exchange_at_port-requires
