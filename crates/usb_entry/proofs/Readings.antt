@@ -1,12 +1,12 @@
 -- How far a device's bytes are read.
 use Rattle.std.proofs.Common.{◌≡◌, ◌≢◌, ◌∙◌, sym, ap, refl, arith, ℕ, ◌+◌, ◌<◌, ◌≤◌, ◌-◌, List, [], ◌∷◌, ◌++◌, length, drop, append_assoc, length-append}
-use Rattle.std.proofs.lemmas.List.{append-nil, drop_all, drop_at, drop-drop, length-drop}
+use Rattle.std.proofs.lemmas.List.{append-nil, drop_at, drop-drop, length-drop}
 use Rattle.std.specs.List.{AllByRecursion}
 use Rattle.usb_descriptor.specs.Config.{joined}
 use Rattle.usb_descriptor.specs.Device.{configuration_count}
 use Rattle.usb_entry.specs.declared.fault.EntryFault.{EntryFault}
 use Rattle.usb_entry.specs.declared.fault.EntryFault.TheVariants.{NoName, Empty, Device, TooMany, Configuration, Missing, LeftOver, Write, Memory}
-use Rattle.usb_entry.specs.EntryData.{FrontConfig, BeginsWithDevice, HasEntryFault, IsDescriptor, IsEntry, IsText, NextFault, BreaksAt}
+use Rattle.usb_entry.specs.EntryData.{FrontConfig, BeginsWithDevice, HasEntryFault, IsDescriptor, IsText, NextFault, BreaksAt}
 
 -- the device descriptor and these configurations are read, up to the offset
 pub record ReadSoFar (bytes device : List ℕ) (configs : List (List ℕ)) (offset : ℕ) : Type 0 where
@@ -35,10 +35,6 @@ none_yet bytes device h = record {
   place = sym (ap length (append-nil device) ∙ h.is_device.size);
 }
 
-pub within_bytes : (bytes device : List ℕ) (configs : List (List ℕ)) (offset : ℕ) → ReadSoFar bytes device configs offset → offset ≤ length bytes
-within_bytes bytes device configs offset h =
-    omega (arith, ap length h.text, length-append (device ++ joined configs) (drop offset bytes), h.place)
-
 -- the front of one more, where something is left
 pub one_more : (bytes device : List ℕ) (configs : List (List ℕ)) (offset : ℕ) (config : List ℕ) → ReadSoFar bytes device configs offset
     → FrontConfig (drop offset bytes) config → length configs < configuration_count device → ReadSoFar bytes device (configs ++ config ∷ []) (offset + length config)
@@ -55,35 +51,8 @@ one_more bytes device configs offset config h new room =
       place = ap (λ n. n + length config) h.place ∙ sym (length-append (device ++ joined configs) config) ∙ ap length (sym front);
     }
 
--- all is read
-pub whole_entry : (bytes device : List ℕ) (configs : List (List ℕ)) (offset : ℕ) → ReadSoFar bytes device configs offset
-    → configuration_count device ≤ length configs → length bytes ≤ offset → IsEntry bytes (record { device = device; configs = configs })
-whole_entry bytes device configs offset h all end = record {
-  device = h.is_device;
-  few = h.few;
-  each = h.each;
-  count = omega (arith, h.within);
-  text = h.text ∙ ap (λ t. device ++ joined configs ++ t) (drop_all offset bytes end) ∙ append-nil (device ++ joined configs);
-}
-
 some_left : (offset : ℕ) (bytes : List ℕ) → offset < length bytes → drop offset bytes ≢ []
 some_left offset bytes lt e = absurd (omega (arith, length-drop offset bytes, ap length e))
-
-pub left_over : (bytes device : List ℕ) (configs : List (List ℕ)) (offset : ℕ) → ReadSoFar bytes device configs offset
-    → configuration_count device ≤ length configs → offset < length bytes → HasEntryFault bytes (LeftOver offset)
-left_over bytes device configs offset h all lt = record {
-  device = device;
-  configs = configs;
-  rest = drop offset bytes;
-  left = 0;
-  is_device = h.is_device;
-  few = h.few;
-  each = h.each;
-  count = omega (arith, h.within);
-  text = h.text;
-  place = h.place;
-  why = (refl, some_left offset bytes lt);
-}
 
 stops_at : (bytes device : List ℕ) (configs : List (List ℕ)) (offset at : ℕ) (Why : ℕ → List ℕ → Type 0) → ReadSoFar bytes device configs offset → at ≡ offset
     → length configs < configuration_count device → Why (configuration_count device - length configs) (drop offset bytes) → BreaksAt bytes at Why
