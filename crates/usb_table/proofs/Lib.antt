@@ -6,6 +6,7 @@ pub mod EnteredFindings
 pub mod FittingPipes
 pub mod RemovedEntries
 pub mod Interface
+pub mod TransferCounts
 pub mod TransferFrames
 pub mod KeptPipes
 pub mod Keys
