@@ -24,6 +24,16 @@ below_due hub n es port w least e =
     subst (λ (p : KnownPort). IsDue w p.port) (sym found.is) tt
 
 -- a port of the root
-pub root_stands : (modelled : Bool) (number : ℕ) (h : Hosting) → (modelled ≡ true → IsRootPort h.world number) → IsPortNumber number → Agrees h.entries h.addresses → IsPortAt modelled (number ∷ []) (record { port = Root number; supply = supply_of true false }) h
+pub root_stands : (modelled : Bool) (number : ℕ) (h : Hosting)
+    → (modelled ≡ true → IsRootPort h.world number) → IsPortNumber number
+    → Agrees h.entries h.addresses
+    → IsPortAt modelled (number ∷ [])
+    (record { port = Root number; supply = supply_of true false }) h
 unfolding parent_of port_on_hub
-root_stands modelled number h asked is agrees = record { is = (omega arith, omega arith, All-cons IsPortNumber number [] is (All-nil IsPortNumber)); known = refl; asked = asked; askable = is; agrees = agrees }
+root_stands modelled number h asked is agrees = record {
+  is = (omega arith, omega arith, All-cons IsPortNumber number [] is (All-nil IsPortNumber));
+  known = refl;
+  asked = asked;
+  askable = is;
+  agrees = agrees;
+}

@@ -90,14 +90,18 @@ served_any (Err (Bus fault)) a d on = tt
 served_any (Err Memory) a d on = tt
 
 -- the port stands where it stood, once what was on it is forgotten
-pub stands_kept : (modelled : Bool) (n : ℕ) (path : List ℕ) (port : KnownPort) (a b c : Hosting) → (modelled ≡ true → HostGoes n a b) → Rests a b → c ≡ record b { entries = c.entries; pipes = c.pipes; addresses = c.addresses } → c.entries ≡ without path b.entries
+pub stands_kept : (modelled : Bool) (n : ℕ) (path : List ℕ) (port : KnownPort) (a b c : Hosting)
+    → (modelled ≡ true → HostGoes n a b) → Rests a b
+    → c ≡ record b { entries = c.entries; pipes = c.pipes; addresses = c.addresses }
+    → c.entries ≡ without path b.entries
     → Agrees c.entries c.addresses → IsPortAt modelled path port a → IsPortAt modelled path port c
 stands_kept modelled n path port a b c g r others rest agrees s =
     let left : c.entries ≡ without path a.entries = rest ∙ ap (λ (x : Hosting). without path x.entries) r in
     record {
       is = s.is;
       known = ap (known_port path) left ∙ known_port-without path a.entries ∙ s.known;
-      asked = subst (λ w. IsAsked modelled w port.port) (sym (ap (λ (x : Hosting). x.world) others)) (asked_stays modelled n port.port a.world b.world (λ known. (g known).went.spends) s.asked);
+      asked = subst (λ w. IsAsked modelled w port.port) (sym (ap (λ (x : Hosting). x.world) others))
+          (asked_stays modelled n port.port a.world b.world (λ known. (g known).went.spends) s.asked);
       askable = s.askable;
       agrees = agrees;
     }

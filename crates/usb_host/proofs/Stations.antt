@@ -58,11 +58,20 @@ pub stands_at : (path : List ℕ) (port : KnownPort) (h : Hosting) → StandsAt 
 stands_at path port h s = at_known path h.entries port s.is s.askable (parent_of path) refl s.known
 
 -- a port that is known stands where the bus does what its world does
-pub placed : {modelled : Bool} {path : List ℕ} {port : KnownPort} {h : Hosting} → modelled ≡ true → IsPortAt modelled path port h → StandsAt path port h
-placed {modelled} {path} {port} {h} known s = record { is = s.is; known = s.known; there = asked_port modelled h.world port.port known s.asked; askable = s.askable; agrees = s.agrees }
+pub placed : {modelled : Bool} {path : List ℕ} {port : KnownPort} {h : Hosting} → modelled ≡ true
+    → IsPortAt modelled path port h → StandsAt path port h
+placed {modelled} {path} {port} {h} known s = record {
+  is = s.is;
+  known = s.known;
+  there = asked_port modelled h.world port.port known s.asked;
+  askable = s.askable;
+  agrees = s.agrees;
+}
 
 -- and it stands where it stood while the host keeps what it knows
-pub placed_on : (modelled : Bool) (n : ℕ) (path : List ℕ) (port : KnownPort) (a b : Hosting) → Rests a b → (modelled ≡ true → HostWent n a b) → IsPortAt modelled path port a → IsPortAt modelled path port b
+pub placed_on : (modelled : Bool) (n : ℕ) (path : List ℕ) (port : KnownPort) (a b : Hosting)
+    → Rests a b → (modelled ≡ true → HostWent n a b) → IsPortAt modelled path port a
+    → IsPortAt modelled path port b
 placed_on modelled n path port a b r went s = record {
   is = s.is;
   known = ap (λ (h : Hosting). known_port path h.entries) r ∙ s.known;

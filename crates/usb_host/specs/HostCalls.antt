@@ -16,7 +16,7 @@ use Rattle.usb_host.specs.Transfers.{ClearedAt, ReceivedAt, SentAt}
 use Rattle.usb_host.specs.declared.fault.HostFault.{HostFault}
 use Rattle.usb_host.specs.declared.host.Round.{Round}
 
--- `new`: the root ports of a bus in this world, with this trace, were given power, and no device is known
+-- `new`: the root ports of a bus in this world, with this trace, have power; no device is known
 pub record NewTells (w : World) (t : Option (List ℕ)) (host : Hosting) : Type 0 where
   pub opens : host ≡ opening_host w t
   pub traced : Traced w t host.world host.trace
@@ -24,7 +24,8 @@ pub record NewTells (w : World) (t : Option (List ℕ)) (host : Hosting) : Type 
   pub sound : IsUntouched w → IsUnpowered w → IsSound host
 
 -- `round`
-pub record RoundTells (old : Hosting) (result : Result Round HostFault) (new : Hosting) : Type 0 where
+pub record RoundTells (old : Hosting) (result : Result Round HostFault) (new : Hosting)
+    : Type 0 where
   pub stopped : StopsAsRound old result new
   pub went : HostWent round_bound old new
   pub told : IfErr result (λ fault. RoundTold fault new.world)
@@ -32,7 +33,8 @@ pub record RoundTells (old : Hosting) (result : Result Round HostFault) (new : H
   pub keeps : RoundKeeps old result new
 
 -- a call for a transfer
-pub record TransferTells {A : Type 0} (most : ℕ) (Did : Hosting → Result A HostFault → Hosting → Type 0)
+pub record TransferTells {A : Type 0} (most : ℕ)
+    (Did : Hosting → Result A HostFault → Hosting → Type 0)
     (old : Hosting) (result : Result A HostFault) (new : Hosting) : Type 0 where
   pub stopped : StopsAsTransfer old result new
   pub went : HostWent most old new
