@@ -1,4 +1,4 @@
-ghost use Rattle.std.specs.Prelude.{◌≡◌, ◌≤◌, ℕ, List, Option, None};
+ghost use Rattle.std.specs.Prelude.{◌≡◌, ◌≤◌, ℕ, List, Option, None, Bool, true};
 ghost use Rattle.usb_port.specs.PortState.{status_of};
 ghost use Rattle.usb_port.specs.Calls.{IsSetFeature, IsClearFeature};
 ghost use Rattle.usb_world.specs.World.{World, IsAttempt, IsRootPort, root_port_at, roots_of};
@@ -14,6 +14,9 @@ use crate::{Attempt, BusFault, Outcome};
 /// Whoever implements this has the whole host half. A bus around another one can; of a real controller the contract
 /// cannot be proved, since nothing says what it will answer (`docs/PORTING.md`).
 pub trait Bus {
+    /// Whether the bus does what its world does.
+    ghost modelled: { Bool };
+
     /// The world that the bus stands for.
     ///
     /// As long as no fault was told, each port is sane: what is attached is what is plugged there, an enabled port is
@@ -64,4 +67,7 @@ pub trait Bus {
         ensures call { ClearsRoot port feature (world self.old) (world self.new) }
         ensures silent { trace self.new ≡ trace self.old }
         ensures sane { (world self.old).fault ≡ None → IsSane (world self.old).roots };
+
+    /// Each bus does: the clauses above say so of it.
+    ghost known: { modelled ≡ true };
 }

@@ -1,5 +1,5 @@
 -- A port below a hub is the hub's.
-use Rattle.std.proofs.Common.{◌≡◌, refl, subst, arith, true, false, ℕ, ◌≤◌, List, [], ◌∷◌, ◌++◌, length, Option, Some, sym}
+use Rattle.std.proofs.Common.{◌≡◌, refl, subst, arith, Bool, true, false, ℕ, ◌≤◌, List, [], ◌∷◌, ◌++◌, length, Option, Some, sym}
 use Rattle.std.proofs.lemmas.List.Elements.{All-cons, All-nil}
 use Rattle.usb_world.specs.World.{World, IsRootPort}
 use Rattle.std.specs.Map.{lookup}
@@ -15,7 +15,7 @@ use Rattle.usb_resources.specs.Power.{supply_of}
 use Rattle.usb_port.specs.Path.{IsPortNumber}
 use Rattle.usb_host.specs.Agreement.{Agrees}
 use Rattle.usb_host.specs.Hosting.{Hosting}
-use Rattle.usb_host.specs.Ports.{IsDue, StandsAt}
+use Rattle.usb_host.specs.Ports.{IsDue, IsPortAt}
 
 pub below_due : (hub : List ℕ) (n : ℕ) (es : Entries) (port : KnownPort) (w : World) → 1 ≤ length hub → known_port (hub ++ n ∷ []) es ≡ Some port → IsDue w port.port
 below_due hub n es port w least e =
@@ -24,6 +24,16 @@ below_due hub n es port w least e =
     subst (λ (p : KnownPort). IsDue w p.port) (sym found.is) tt
 
 -- a port of the root
-pub root_stands : (number : ℕ) (h : Hosting) → IsRootPort h.world number → IsPortNumber number → Agrees h.entries h.addresses → StandsAt (number ∷ []) (record { port = Root number; supply = supply_of true false }) h
+pub root_stands : (modelled : Bool) (number : ℕ) (h : Hosting)
+    → (modelled ≡ true → IsRootPort h.world number) → IsPortNumber number
+    → Agrees h.entries h.addresses
+    → IsPortAt modelled (number ∷ [])
+    (record { port = Root number; supply = supply_of true false }) h
 unfolding parent_of port_on_hub
-root_stands number h there is agrees = record { is = (omega arith, omega arith, All-cons IsPortNumber number [] is (All-nil IsPortNumber)); known = refl; there = there; askable = is; agrees = agrees }
+root_stands modelled number h asked is agrees = record {
+  is = (omega arith, omega arith, All-cons IsPortNumber number [] is (All-nil IsPortNumber));
+  known = refl;
+  asked = asked;
+  askable = is;
+  agrees = agrees;
+}

@@ -13,6 +13,7 @@ use Rattle.usb_world.specs.World.{World}
 use Rattle.usb_world.proofs.Interface.{way_rest}
 use Rattle.usb_address.specs.Claims.{Claims}
 use Rattle.usb_hub.specs.Addresses.{IsAt}
+use Rattle.usb_hub.proofs.Interface.{asked_port, asked_stays}
 use Rattle.usb_enum.specs.declared.fault.EnumFault.{EnumFault}
 use Rattle.usb_enum.specs.declared.fault.EnumFault.TheVariants.{ParentLost, Bus, Memory}
 use Rattle.usb_enum.specs.declared.finding.Finding.{Finding}
@@ -20,11 +21,13 @@ use Rattle.usb_enum.specs.Stop.{FaultAt}
 use Rattle.usb_table.specs.declared.known.KnownPort.{KnownPort}
 use Rattle.usb_table.specs.Entries.{Entries}
 use Rattle.usb_table.specs.Keys.{address_in}
-use Rattle.usb_table.specs.KnownPorts.{root_port, port_below, port_found, is_below_hub, IsAskable}
+use Rattle.usb_table.specs.KnownPorts.{known_port, root_port, port_below, port_found, is_below_hub, IsAskable}
 use Rattle.usb_table.proofs.Interface.{FoundPort, port_found-some}
+use Rattle.usb_host.specs.Agreement.{Agrees}
 use Rattle.usb_host.specs.Hosting.{Hosting}
 use Rattle.usb_host.specs.Ownership.{claims}
-use Rattle.usb_host.specs.Ports.{StandsAt, StandsNowhere, Broke}
+use Rattle.usb_host.specs.Ports.{IsPortAt, StandsAt, StandsNowhere, Broke}
+use Rattle.usb_host.specs.Progress.{HostWent, Rests}
 
 pub root_alone : (path : List ℕ) → 1 ≤ length path → parent_of path ≡ None → path ≡ port_on_hub path ∷ []
 unfolding parent_of port_on_hub
@@ -53,6 +56,29 @@ at_known path es port is askable (Some hub) above e =
 
 pub stands_at : (path : List ℕ) (port : KnownPort) (h : Hosting) → StandsAt path port h → IsAt (claims h.entries) port.port path
 stands_at path port h s = at_known path h.entries port s.is s.askable (parent_of path) refl s.known
+
+-- a port that is known stands where the bus does what its world does
+pub placed : {modelled : Bool} {path : List ℕ} {port : KnownPort} {h : Hosting} → modelled ≡ true
+    → IsPortAt modelled path port h → StandsAt path port h
+placed {modelled} {path} {port} {h} known s = record {
+  is = s.is;
+  known = s.known;
+  there = asked_port modelled h.world port.port known s.asked;
+  askable = s.askable;
+  agrees = s.agrees;
+}
+
+-- and it stands where it stood while the host keeps what it knows
+pub placed_on : (modelled : Bool) (n : ℕ) (path : List ℕ) (port : KnownPort) (a b : Hosting)
+    → Rests a b → (modelled ≡ true → HostWent n a b) → IsPortAt modelled path port a
+    → IsPortAt modelled path port b
+placed_on modelled n path port a b r went s = record {
+  is = s.is;
+  known = ap (λ (h : Hosting). known_port path h.entries) r ∙ s.known;
+  asked = asked_stays modelled n port.port a.world b.world (λ known. (went known).spends) s.asked;
+  askable = s.askable;
+  agrees = subst (λ (h : Hosting). Agrees h.entries h.addresses) (sym r) s.agrees;
+}
 
 -- a root port is a register, and never fails
 pub lost_above : (path : List ℕ) (es : Entries) (port : KnownPort) (w : World) → FaultAt port.port ParentLost w → (above : Option (List ℕ)) → parent_of path ≡ above → port_below above (port_on_hub path) es ≡ Some port → IsSome above

@@ -5,6 +5,7 @@ pub mod Bounds
 pub mod Budget
 pub mod BulkPipes
 pub mod PortHandling
+pub mod HostCalls
 pub mod Hosting
 pub mod Ownership
 pub mod Plugs

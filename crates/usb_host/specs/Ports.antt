@@ -1,5 +1,5 @@
 -- What the host does at a port.
-use Rattle.std.specs.Prelude.{◌≡◌, ◌≢◌, ◌+◌, ◌<◌, ⊤, ℕ, List, true, false, None, Some, IsSome, Result, Ok, Err, MatchResult}
+use Rattle.std.specs.Prelude.{◌≡◌, ◌≢◌, ◌+◌, ◌<◌, ⊤, ℕ, Bool, List, true, false, None, Some, IsSome, Result, Ok, Err, MatchResult}
 use Rattle.std.specs.Map.{lookup}
 use Rattle.std.specs.BTreeMap.{is_at, insert_entry}
 use Rattle.usb_port.specs.Order.{path_cmp, parent_of, port_on_hub}
@@ -7,7 +7,7 @@ use Rattle.usb_port.specs.Path.{IsPath}
 use Rattle.usb_world.specs.World.{World, Failed, root_port_at, roots_of}
 use Rattle.usb_hub.specs.declared.port.HubPort.{HubPort}
 use Rattle.usb_hub.specs.declared.port.HubPort.TheVariants.{Root, External}
-use Rattle.usb_hub.specs.Port.{IsPort}
+use Rattle.usb_hub.specs.Port.{IsAsked, IsPort}
 use Rattle.usb_resources.specs.Pool.{IsFull}
 use Rattle.usb_enum.specs.declared.cause.Cause.TheVariants.{NoAddress}
 use Rattle.usb_enum.specs.declared.fault.EnumFault.{EnumFault}
@@ -35,6 +35,14 @@ pub record StandsAt (path : List ℕ) (port : KnownPort) (h : Hosting) : Type 0 
   pub is : IsPath path
   pub known : known_port path h.entries ≡ Some port
   pub there : IsPort h.world port.port
+  pub askable : IsAskable port.port
+  pub agrees : Agrees h.entries h.addresses
+
+-- the same, where what the bus has is said of one that does what its world does
+pub record IsPortAt (modelled : Bool) (path : List ℕ) (port : KnownPort) (h : Hosting) : Type 0 where
+  pub is : IsPath path
+  pub known : known_port path h.entries ≡ Some port
+  pub asked : IsAsked modelled h.world port.port
   pub askable : IsAskable port.port
   pub agrees : Agrees h.entries h.addresses
 

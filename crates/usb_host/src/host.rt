@@ -1,19 +1,9 @@
 //! The host of a bus, and what its callers may ask of it.
-ghost use Rattle.std.specs.Prelude.{◌≡◌, ◌≢◌, ◌≤◌, ◌<◌, ◌+◌, ◌*◌, ◌↔◌, true, false, length, IsTrue, IsErrOf, OnOk, IfOk, IfErr, IsErr, Ok, Err};
+ghost use Rattle.std.specs.Prelude.{◌≡◌, true, IfOk, IfErr};
 ghost use Rattle.std.specs.Borrow.{Lends, sem};
-ghost use Rattle.usb_world.specs.World.{World};
-ghost use Rattle.usb_bus.specs.Traces.{Traced};
-ghost use Rattle.usb_transaction.specs.Transactions.{transaction_bound};
 ghost use Rattle.usb_host.specs.Agreement.{Agrees};
-ghost use Rattle.usb_host.specs.Bounds.{round_bound, clear_bound};
-ghost use Rattle.usb_host.specs.Budget.{RoundKeeps};
-ghost use Rattle.usb_host.specs.Hosting.{Hosting, opening_host};
-ghost use Rattle.usb_host.specs.Progress.{HostWent};
-ghost use Rattle.usb_host.specs.Ownership.{Owning, IsUntouched};
-ghost use Rattle.usb_host.specs.Service.{DidParts};
-ghost use Rattle.usb_host.specs.Soundness.{IsSound, IsUnpowered, TransferKeeps};
-ghost use Rattle.usb_host.specs.ToldFaults.{RoundTold, TransferTold, StopsAsRound, StopsAsTransfer, host_told, is_final};
-ghost use Rattle.usb_host.specs.Transfers.{SentAt, ReceivedAt, ClearedAt};
+ghost use Rattle.usb_host.specs.HostCalls.{ClearTells, NewTells, ReceiveTells, RoundTells, SendTells};
+ghost use Rattle.usb_host.specs.ToldFaults.{StopsAsRound, StopsAsTransfer, host_told, is_final};
 
 use crate::{HostFault, Tree};
 use std::alloc::Global;
@@ -72,10 +62,7 @@ impl<B: Bus> Host<B> {
 
     /// The host of a bus, which knows of no device. Each root port is given power.
     pub fn new(alloc: Global, bus: B) -> Host<B>
-        ensures opens { result ≡ opening_host (B.world bus) (B.trace bus) }
-        ensures traced { Traced (B.world bus) (B.trace bus) result.world result.trace }
-        ensures owning { IsUntouched (B.world bus) → Owning result }
-        ensures sound { IsUntouched (B.world bus) → IsUnpowered (B.world bus) → IsSound result }
+        ensures { B.modelled ≡ true → NewTells (B.world bus) (B.trace bus) result }
     {
         let mut bus = bus;
         let roots = bus.root_ports();
@@ -152,10 +139,7 @@ impl<B: Bus> Host<B> {
     /// more steps and `Memory` where memory was refused; the host then stops.
     pub fn round(&mut self) -> Result<Round, HostFault>
         ensures stopped { StopsAsRound self.old result self.new }
-        ensures went { HostWent round_bound self.old self.new }
-        ensures told { IfErr result (λ fault. RoundTold fault self.new.world) }
-        ensures did { IfOk result (λ round. DidParts round self.old self.new) }
-        ensures keeps { RoundKeeps self.old result self.new }
+        ensures tells { B.modelled ≡ true → RoundTells self.old result self.new }
     {
         if self.stopped {
             return Err(HostFault::Stopped);
@@ -175,10 +159,7 @@ impl<B: Bus> Host<B> {
     /// tells it. `Bus` where the bus makes no more steps; the host then stops.
     pub fn send(&mut self, path: &PortPath, bytes: &[u8]) -> Result<(), HostFault>
         ensures stopped { StopsAsTransfer self.old result self.new }
-        ensures went { HostWent (transaction_bound * length bytes.now) self.old self.new }
-        ensures told { IfErr result (λ fault. TransferTold fault self.new.world) }
-        ensures sent { SentAt path.now bytes.now self.old result self.new }
-        ensures keeps { TransferKeeps self.old self.new }
+        ensures tells { B.modelled ≡ true → SendTells path.now bytes.now self.old result self.new }
     {
         if self.stopped {
             return Err(HostFault::Stopped);
@@ -196,10 +177,7 @@ impl<B: Bus> Host<B> {
     /// As those of `send`, and `Memory` where the bytes find no room; the host then stops.
     pub fn receive(&mut self, path: &PortPath, packets: u16) -> Result<Vec<u8>, HostFault>
         ensures stopped { StopsAsTransfer self.old result self.new }
-        ensures went { HostWent (transaction_bound * packets) self.old self.new }
-        ensures told { IfErr result (λ fault. TransferTold fault self.new.world) }
-        ensures received { ReceivedAt path.now packets self.old result self.new }
-        ensures keeps { TransferKeeps self.old self.new }
+        ensures tells { B.modelled ≡ true → ReceiveTells path.now packets self.old result self.new }
     {
         if self.stopped {
             return Err(HostFault::Stopped);
@@ -217,10 +195,7 @@ impl<B: Bus> Host<B> {
     /// As those of `send`; `NoEndpoint` where the device has neither endpoint.
     pub fn clear_halt(&mut self, path: &PortPath) -> Result<(), HostFault>
         ensures stopped { StopsAsTransfer self.old result self.new }
-        ensures went { HostWent clear_bound self.old self.new }
-        ensures told { IfErr result (λ fault. TransferTold fault self.new.world) }
-        ensures cleared { ClearedAt path.now self.old result self.new }
-        ensures keeps { TransferKeeps self.old self.new }
+        ensures tells { B.modelled ≡ true → ClearTells path.now self.old result self.new }
     {
         if self.stopped {
             return Err(HostFault::Stopped);

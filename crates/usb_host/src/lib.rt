@@ -3,6 +3,10 @@
 //!
 //! # What is proved
 //!
+//! What names a world or a trace is said of a bus that does what its world does (`modelled` of `usb_bus::Bus`): all that
+//! one call tells stands in `usb_host/specs/HostCalls.antt`. What names none is said over any bus: when a host stops, that
+//! a stopped one changes nothing, that its entries rise and agree with its addresses.
+//!
 //! Each round that worked made an attempt or left less to do, a quiet one changed nothing that is known and found no
 //! change at a root port; at most so many attempts; a hub that is dropped is listed as lost with nothing below it;
 //! after Bus or Memory every `round`, `send`, `receive` and `clear_halt` answers Stopped and changes nothing; each

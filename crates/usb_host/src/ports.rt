@@ -4,7 +4,7 @@ ghost use Rattle.std.specs.BTreeMap.{insert_entry};
 ghost use Rattle.usb_port.specs.Order.{path_cmp};
 ghost use Rattle.usb_port.specs.Path.{IsPath, IsPortNumber};
 ghost use Rattle.usb_world.specs.World.{IsRootPort, root_port_at};
-ghost use Rattle.usb_hub.specs.Port.{IsPort};
+ghost use Rattle.usb_hub.specs.Port.{IsAsked};
 ghost use Rattle.usb_resources.specs.Pool.{IsFull};
 ghost use Rattle.usb_enum.specs.Bounds.{widest_enumeration, read_bound};
 ghost use Rattle.usb_enum.specs.Stop.{FaultAt};
@@ -16,7 +16,7 @@ ghost use Rattle.usb_host.specs.Bounds.{clearing_bound, look_bound, drop_bound, 
 ghost use Rattle.usb_host.specs.Agreement.{Agrees};
 ghost use Rattle.usb_host.specs.PortHandling.{Watches, Tidies, ServesSound, Looks, FindsSound, DisablesOnWay, Climbs};
 ghost use Rattle.usb_host.specs.Ownership.{KeepsOwned, KeepsPort, DropsHub};
-ghost use Rattle.usb_host.specs.Ports.{StandsAt, StandsNowhere, IsDue, Waits, Served, Shown, Gains, Broke, EndsAs, Entered, Forgets};
+ghost use Rattle.usb_host.specs.Ports.{IsPortAt, StandsNowhere, IsDue, Waits, Served, Shown, Gains, Broke, EndsAs, Entered, Forgets};
 ghost use Rattle.usb_host.specs.Progress.{HostGoes, AddsNoWork, Rests};
 ghost use Rattle.usb_host.specs.Service.{ClearsPort, DropsOne, FinishesAt, HandlesNumber, HandlesPort, LooksAnew, LooksOnceMore, ServesPort, TidiesTold};
 ghost use Rattle.usb_host.specs.Soundness.{KeepsSound, DropsSound, PartKeeps};
@@ -36,23 +36,24 @@ use usb_table::{KnownPort, address_of};
 impl<B: Bus> Host<B> {
     /// Whether the connection of a root port has changed.
     pub(crate) fn has_changed(&self, number: u8) -> bool
-        requires { IsRootPort self.now.world number }
-        ensures { result ≡ (root_port_at self.now.world number).connection_changed }
+        requires { B.modelled ≡ true → IsRootPort self.now.world number }
+        ensures { B.modelled ≡ true
+            → result ≡ (root_port_at self.now.world number).connection_changed }
     {
         PortStatus::from_bytes(self.bus.root_status(number)).connection_changed
     }
 
     /// Handles a root port.
     pub(crate) fn handle_root(&mut self, number: u8) -> Result<(), HostFault>
-        requires port { IsRootPort self.old.world number }
+        requires port { B.modelled ≡ true → IsRootPort self.old.world number }
         requires number { IsPortNumber number }
-        ensures goes { HostGoes handling_bound self.old self.new }
-        ensures told { IfErr result (λ fault. PartTold fault self.new.world) }
-        ensures handles { HandlesPort (number ∷ [])
+        ensures goes { B.modelled ≡ true → HostGoes handling_bound self.old self.new }
+        ensures told { B.modelled ≡ true → IfErr result (λ fault. PartTold fault self.new.world) }
+        ensures handles { B.modelled ≡ true → HandlesPort (number ∷ [])
             ((root_port_at self.old.world number).connection_changed ≡ true)
             self.old result self.new }
-        ensures owned { KeepsOwned self.old result self.new }
-        ensures sound { KeepsSound self.old result self.new }
+        ensures owned { B.modelled ≡ true → KeepsOwned self.old result self.new }
+        ensures sound { B.modelled ≡ true → KeepsSound self.old result self.new }
     {
         // for the checker: the entries and the addresses agree
         let _table = &self.table;
@@ -66,11 +67,12 @@ impl<B: Bus> Host<B> {
     /// Handles a port of a hub, where that is known and has the port.
     pub(crate) fn handle_below(&mut self, hub: &PortPath, number: u8) -> Result<Round, HostFault>
         requires { IsPath hub.now }
-        ensures goes { HostGoes handling_bound self.old self.new }
-        ensures told { IfErr result (λ fault. PartTold fault self.new.world) }
-        ensures handles { HandlesNumber hub.now number self.old result self.new }
-        ensures owned { KeepsOwned self.old result self.new }
-        ensures sound { KeepsSound self.old result self.new }
+        ensures goes { B.modelled ≡ true → HostGoes handling_bound self.old self.new }
+        ensures told { B.modelled ≡ true → IfErr result (λ fault. PartTold fault self.new.world) }
+        ensures handles { B.modelled ≡ true
+            → HandlesNumber hub.now number self.old result self.new }
+        ensures owned { B.modelled ≡ true → KeepsOwned self.old result self.new }
+        ensures sound { B.modelled ≡ true → KeepsSound self.old result self.new }
     {
         let mut path = hub.duplicate();
         if !path.push(number) {
@@ -87,10 +89,11 @@ impl<B: Bus> Host<B> {
     pub(crate) fn look_once_more(&mut self, path: &PortPath) -> Result<Round, HostFault>
         requires { Waits path.now self.old }
         ensures path { IsPath path.now }
-        ensures goes { HostGoes handling_bound self.old self.new }
-        ensures told { IfErr result (λ fault. PartTold fault self.new.world) }
-        ensures looks { IfOk result (λ round. LooksOnceMore path.now round self.old self.new) }
-        ensures keeps { PartKeeps self.old result self.new }
+        ensures goes { B.modelled ≡ true → HostGoes handling_bound self.old self.new }
+        ensures told { B.modelled ≡ true → IfErr result (λ fault. PartTold fault self.new.world) }
+        ensures looks { B.modelled ≡ true
+            → IfOk result (λ round. LooksOnceMore path.now round self.old self.new) }
+        ensures keeps { B.modelled ≡ true → PartKeeps self.old result self.new }
     {
         // for the checker: a path has one to seven numbers
         let _numbers = path.numbers();
@@ -104,8 +107,8 @@ impl<B: Bus> Host<B> {
 
     /// The port at a path, where it is one of the root or of a hub that is known.
     fn port_at(&self, path: &PortPath) -> Option<KnownPort>
-        ensures some { IfSome result (λ port. StandsAt path.now port self.now) }
-        ensures none { IfNone result (StandsNowhere path.now self.now) }
+        ensures some { IfSome result (λ port. IsPortAt B.modelled path.now port self.now) }
+        ensures none { B.modelled ≡ true → IfNone result (StandsNowhere path.now self.now) }
     {
         // for the checker: a path has one to seven numbers
         let _numbers = path.numbers();
@@ -118,13 +121,13 @@ impl<B: Bus> Host<B> {
 
     /// Handles a port. Where a request to its hub fails, that hub is dropped.
     fn handle(&mut self, path: &PortPath, port: KnownPort) -> Result<(), HostFault>
-        requires { StandsAt path.now port self.old }
-        ensures goes { HostGoes handling_bound self.old self.new }
-        ensures told { IfErr result (λ fault. PartTold fault self.new.world) }
-        ensures handles { HandlesPort path.now (IsDue self.old.world port.port)
-            self.old result self.new }
-        ensures owned { KeepsOwned self.old result self.new }
-        ensures sound { KeepsSound self.old result self.new }
+        requires { IsPortAt B.modelled path.now port self.old }
+        ensures goes { B.modelled ≡ true → HostGoes handling_bound self.old self.new }
+        ensures told { B.modelled ≡ true → IfErr result (λ fault. PartTold fault self.new.world) }
+        ensures handles { B.modelled ≡ true
+            → HandlesPort path.now (IsDue self.old.world port.port) self.old result self.new }
+        ensures owned { B.modelled ≡ true → KeepsOwned self.old result self.new }
+        ensures sound { B.modelled ≡ true → KeepsSound self.old result self.new }
     {
         let served = self.serve(path, port);
         self.finish(path, served)
@@ -132,12 +135,12 @@ impl<B: Bus> Host<B> {
 
     /// Drops the hub of a port, where a request to it failed.
     fn finish(&mut self, path: &PortPath, served: Result<(), EnumFault>) -> Result<(), HostFault>
-        requires { IfErr served (λ fault. Broke path.now fault self.old.world) }
-        ensures goes { HostGoes drop_bound self.old self.new }
-        ensures told { IfErr result (λ fault. PartTold fault self.new.world) }
-        ensures holds { AddsNoWork self.old self.new }
+        requires { B.modelled ≡ true → IfErr served (λ fault. Broke path.now fault self.old.world) }
+        ensures goes { B.modelled ≡ true → HostGoes drop_bound self.old self.new }
+        ensures told { B.modelled ≡ true → IfErr result (λ fault. PartTold fault self.new.world) }
+        ensures holds { B.modelled ≡ true → AddsNoWork self.old self.new }
         ensures ends { EndsAs served result }
-        ensures finishes { FinishesAt path.now served self.old result self.new }
+        ensures finishes { B.modelled ≡ true → FinishesAt path.now served self.old result self.new }
     {
         match served {
             Ok(()) => Ok(()),
@@ -154,13 +157,14 @@ impl<B: Bus> Host<B> {
     /// Where the connection of a port has changed, what is there is forgotten and found anew; else
     /// what an earlier reset or error left is cleared.
     fn serve(&mut self, path: &PortPath, port: KnownPort) -> Result<(), EnumFault>
-        requires { StandsAt path.now port self.old }
-        ensures goes { HostGoes serving_bound self.old self.new }
-        ensures told { IfErr result (λ fault. FaultAt port.port fault self.new.world) }
-        ensures owned { KeepsPort path.now self.old result self.new }
-        ensures sound { ServesSound path.now self.old result self.new }
-        ensures serves { ServesPort path.now (IsDue self.old.world port.port)
-            self.old result self.new }
+        requires { IsPortAt B.modelled path.now port self.old }
+        ensures goes { B.modelled ≡ true → HostGoes serving_bound self.old self.new }
+        ensures told { B.modelled ≡ true
+            → IfErr result (λ fault. FaultAt port.port fault self.new.world) }
+        ensures owned { B.modelled ≡ true → KeepsPort path.now self.old result self.new }
+        ensures sound { B.modelled ≡ true → ServesSound path.now self.old result self.new }
+        ensures serves { B.modelled ≡ true
+            → ServesPort path.now (IsDue self.old.world port.port) self.old result self.new }
     {
         let status = self.status(port.port)?;
         if status.connection_changed {
@@ -172,13 +176,14 @@ impl<B: Bus> Host<B> {
 
     /// The status of a port.
     fn status(&mut self, port: HubPort) -> Result<PortStatus, EnumFault>
-        requires port { IsPort self.old.world port }
+        requires port { IsAsked B.modelled self.old.world port }
         requires askable { IsAskable port }
-        ensures goes { HostGoes (read_bound 4) self.old self.new }
-        ensures told { IfErr result (λ fault. FaultAt port fault self.new.world) }
+        ensures goes { B.modelled ≡ true → HostGoes (read_bound 4) self.old self.new }
+        ensures told { B.modelled ≡ true
+            → IfErr result (λ fault. FaultAt port fault self.new.world) }
         ensures rests { Rests self.old self.new }
-        ensures shown { Shown port result self.old.world self.new.world }
-        ensures watches { Watches port self.old.world result self.new.world }
+        ensures shown { B.modelled ≡ true → Shown port result self.old.world self.new.world }
+        ensures watches { B.modelled ≡ true → Watches port self.old.world result self.new.world }
     {
         Ok(port_status(self.alloc, &mut self.bus, port)?)
     }
@@ -186,12 +191,13 @@ impl<B: Bus> Host<B> {
     /// Clears what an earlier reset or error left of a port whose connection has not changed.
     #[tactic(auto, using(usb_address::proofs::Interface::keeps_then))]
     fn tidy(&mut self, port: HubPort, status: PortStatus) -> Result<(), EnumFault>
-        requires { IsPort self.old.world port }
-        ensures goes { HostGoes (2 * write_bound) self.old self.new }
-        ensures told { IfErr result (λ fault. FaultAt port fault self.new.world) }
+        requires { IsAsked B.modelled self.old.world port }
+        ensures goes { B.modelled ≡ true → HostGoes (2 * write_bound) self.old self.new }
+        ensures told { B.modelled ≡ true
+            → IfErr result (λ fault. FaultAt port fault self.new.world) }
         ensures rests { Rests self.old self.new }
-        ensures tidies { Tidies port self.old.world result self.new.world }
-        ensures clears { TidiesTold port status self.old result self.new }
+        ensures tidies { B.modelled ≡ true → Tidies port self.old.world result self.new.world }
+        ensures clears { B.modelled ≡ true → TidiesTold port status self.old result self.new }
     {
         if status.enable_changed {
             clear_port(&mut self.bus, port, C_PORT_ENABLE)?;
@@ -205,13 +211,15 @@ impl<B: Bus> Host<B> {
     /// Forgets what was found at a port, and finds what is there now. The change is cleared before
     /// the status is read, so that no later change is lost.
     fn look(&mut self, path: &PortPath, port: KnownPort) -> Result<(), EnumFault>
-        requires { StandsAt path.now port self.old }
-        ensures goes { HostGoes look_bound self.old self.new }
-        ensures told { IfErr result (λ fault. FaultAt port.port fault self.new.world) }
-        ensures served { IsDue self.old.world port.port ⊎ Waits path.now self.old
+        requires { IsPortAt B.modelled path.now port self.old }
+        ensures goes { B.modelled ≡ true → HostGoes look_bound self.old self.new }
+        ensures told { B.modelled ≡ true
+            → IfErr result (λ fault. FaultAt port.port fault self.new.world) }
+        ensures served { B.modelled ≡ true
+            → IsDue self.old.world port.port ⊎ Waits path.now self.old
             → Served result self.old self.new }
-        ensures looks { Looks path.now self.old result self.new }
-        ensures anew { LooksAnew path.now self.old result self.new }
+        ensures looks { B.modelled ≡ true → Looks path.now self.old result self.new }
+        ensures anew { B.modelled ≡ true → LooksAnew path.now self.old result self.new }
     {
         let status = self.clear_change(port.port)?;
         self.forget(path);
@@ -223,13 +231,15 @@ impl<B: Bus> Host<B> {
 
     /// Clears a port's change of connection, reads its status, and disables it where it is enabled.
     fn clear_change(&mut self, port: HubPort) -> Result<PortStatus, EnumFault>
-        requires port { IsPort self.old.world port }
+        requires port { IsAsked B.modelled self.old.world port }
         requires askable { IsAskable port }
-        ensures goes { HostGoes clearing_bound self.old self.new }
-        ensures told { IfErr result (λ fault. FaultAt port fault self.new.world) }
+        ensures goes { B.modelled ≡ true → HostGoes clearing_bound self.old self.new }
+        ensures told { B.modelled ≡ true
+            → IfErr result (λ fault. FaultAt port fault self.new.world) }
         ensures rests { Rests self.old self.new }
-        ensures gains { IsDue self.old.world port → Gains result self.old.world self.new.world }
-        ensures clears { ClearsPort port self.old.world result self.new.world }
+        ensures gains { B.modelled ≡ true
+            → IsDue self.old.world port → Gains result self.old.world self.new.world }
+        ensures clears { B.modelled ≡ true → ClearsPort port self.old.world result self.new.world }
     {
         clear_port(&mut self.bus, port, C_PORT_CONNECTION)?;
         let status = port_status(self.alloc, &mut self.bus, port)?;
@@ -241,13 +251,14 @@ impl<B: Bus> Host<B> {
 
     /// Enters what is found at a port, of which nothing is known.
     fn discover(&mut self, path: &PortPath, port: KnownPort) -> Result<(), EnumFault>
-        requires port { StandsAt path.now port self.old }
+        requires port { IsPortAt B.modelled path.now port self.old }
         requires away { has_at path.now self.old.entries ≡ false }
-        ensures goes { HostGoes widest_enumeration self.old self.new }
-        ensures told { IfErr result (λ fault. FaultAt port.port fault self.new.world) }
+        ensures goes { B.modelled ≡ true → HostGoes widest_enumeration self.old self.new }
+        ensures told { B.modelled ≡ true
+            → IfErr result (λ fault. FaultAt port.port fault self.new.world) }
         ensures entered { Entered path.now self.old result self.new }
-        ensures owned { KeepsPort path.now self.old result self.new }
-        ensures sound { FindsSound path.now self.old result self.new }
+        ensures owned { B.modelled ≡ true → KeepsPort path.now self.old result self.new }
+        ensures sound { B.modelled ≡ true → FindsSound path.now self.old result self.new }
     {
         let finding = enumerate(
             self.alloc,
@@ -263,11 +274,11 @@ impl<B: Bus> Host<B> {
     /// Drops a hub that failed: its port is disabled, what stood there and below is forgotten, and
     /// it is listed as lost. Where its port cannot be disabled, its own hub is dropped in its place.
     pub(crate) fn drop_hub(&mut self, hub: PortPath) -> Result<(), HostFault>
-        ensures goes { HostGoes drop_bound self.old self.new }
-        ensures told { IfErr result (λ fault. PartTold fault self.new.world) }
-        ensures counts { DropsOne hub self.old result self.new }
-        ensures owned { DropsHub hub self.old result self.new }
-        ensures sound { DropsSound hub self.old result self.new }
+        ensures goes { B.modelled ≡ true → HostGoes drop_bound self.old self.new }
+        ensures told { B.modelled ≡ true → IfErr result (λ fault. PartTold fault self.new.world) }
+        ensures counts { B.modelled ≡ true → DropsOne hub self.old result self.new }
+        ensures owned { B.modelled ≡ true → DropsHub hub self.old result self.new }
+        ensures sound { B.modelled ≡ true → DropsSound hub self.old result self.new }
     {
         let lost = self.disable_upward(hub)?;
         // for the checker: a path has one to seven numbers
@@ -278,11 +289,11 @@ impl<B: Bus> Host<B> {
 
     /// Disables the port at a path, or the nearest one above it that can be disabled.
     fn disable_upward(&mut self, first: PortPath) -> Result<PortPath, HostFault>
-        ensures goes { HostGoes drop_bound self.old self.new }
-        ensures told { IfErr result (λ fault. PartTold fault self.new.world) }
+        ensures goes { B.modelled ≡ true → HostGoes drop_bound self.old self.new }
+        ensures told { B.modelled ≡ true → IfErr result (λ fault. PartTold fault self.new.world) }
         ensures rests { Rests self.old self.new }
         ensures known { IfOk result (λ path. IsSome (known_port path self.old.entries)) }
-        ensures climbs { Climbs first self.old result self.new }
+        ensures climbs { B.modelled ≡ true → Climbs first self.old result self.new }
     {
         // for the checker: a path has one to seven numbers
         let _numbers = first.numbers();
@@ -300,12 +311,12 @@ impl<B: Bus> Host<B> {
 
     /// Disables the port at a path, and says whether it could.
     fn disable(&mut self, path: &PortPath) -> Result<bool, HostFault>
-        ensures goes { HostGoes write_bound self.old self.new }
-        ensures told { IfErr result (λ fault. PartTold fault self.new.world) }
+        ensures goes { B.modelled ≡ true → HostGoes write_bound self.old self.new }
+        ensures told { B.modelled ≡ true → IfErr result (λ fault. PartTold fault self.new.world) }
         ensures rests { Rests self.old self.new }
         ensures known { IfOk result (λ done. IsTrue done
             → IsSome (known_port path.now self.old.entries)) }
-        ensures disables { DisablesOnWay path.now self.old result self.new }
+        ensures disables { B.modelled ≡ true → DisablesOnWay path.now self.old result self.new }
     {
         let Some(port) = self.port_at(path) else {
             return Ok(false);

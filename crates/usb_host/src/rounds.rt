@@ -36,11 +36,11 @@ impl<B: Bus> Host<B> {
     /// The root ports, the hubs, and the devices that wait.
     #[tactic(auto, using(crate::proofs::Owners::stays_then, crate::proofs::Owners::single_then))]
     pub(crate) fn parts(&mut self) -> Result<Round, HostFault>
-        ensures goes { HostGoes round_bound self.old self.new }
-        ensures told { IfErr result (λ fault. PartTold fault self.new.world) }
-        ensures did { IfOk result (λ round. Did round self.old self.new) }
-        ensures parts { WentByParts self.old result self.new }
-        ensures keeps { PartsKeep self.old result self.new }
+        ensures goes { B.modelled ≡ true → HostGoes round_bound self.old self.new }
+        ensures told { B.modelled ≡ true → IfErr result (λ fault. PartTold fault self.new.world) }
+        ensures did { B.modelled ≡ true → IfOk result (λ round. Did round self.old self.new) }
+        ensures parts { B.modelled ≡ true → WentByParts self.old result self.new }
+        ensures keeps { B.modelled ≡ true → PartsKeep self.old result self.new }
     {
         let roots = self.serve_roots()?;
         let hubs = self.serve_hubs()?;
@@ -51,11 +51,11 @@ impl<B: Bus> Host<B> {
     /// Handles each root port whose connection has changed, by rising number.
     #[tactic(auto, using(crate::proofs::Owners::single_then))]
     fn serve_roots(&mut self) -> Result<Round, HostFault>
-        ensures goes { HostGoes roots_bound self.old self.new }
-        ensures told { IfErr result (λ fault. PartTold fault self.new.world) }
-        ensures did { IfOk result (λ round. Did round self.old self.new) }
-        ensures roots { ServesEach self.old result self.new }
-        ensures keeps { PartKeeps self.old result self.new }
+        ensures goes { B.modelled ≡ true → HostGoes roots_bound self.old self.new }
+        ensures told { B.modelled ≡ true → IfErr result (λ fault. PartTold fault self.new.world) }
+        ensures did { B.modelled ≡ true → IfOk result (λ round. Did round self.old self.new) }
+        ensures roots { B.modelled ≡ true → ServesEach self.old result self.new }
+        ensures keeps { B.modelled ≡ true → PartKeeps self.old result self.new }
     {
         let mut round = Round::Quiet;
         let roots = self.bus.root_ports();
@@ -70,11 +70,11 @@ impl<B: Bus> Host<B> {
 
     /// Polls each hub that is known, by rising path, and handles the ports of which it tells.
     fn serve_hubs(&mut self) -> Result<Round, HostFault>
-        ensures goes { HostGoes hubs_bound self.old self.new }
-        ensures told { IfErr result (λ fault. PartTold fault self.new.world) }
-        ensures did { IfOk result (λ round. Did round self.old self.new) }
-        ensures keeps { HubsKeep self.old result self.new }
-        ensures polls { ServesHubs self.old result self.new }
+        ensures goes { B.modelled ≡ true → HostGoes hubs_bound self.old self.new }
+        ensures told { B.modelled ≡ true → IfErr result (λ fault. PartTold fault self.new.world) }
+        ensures did { B.modelled ≡ true → IfOk result (λ round. Did round self.old self.new) }
+        ensures keeps { B.modelled ≡ true → HubsKeep self.old result self.new }
+        ensures polls { B.modelled ≡ true → ServesHubs self.old result self.new }
     {
         let mut round = Round::Quiet;
         let mut last: Option<PortPath> = None;
@@ -89,10 +89,10 @@ impl<B: Bus> Host<B> {
     fn serve_hub(&mut self, hub: &PortPath) -> Result<Round, HostFault>
         requires { IsSome (hub_facts_at hub.now self.old.entries) }
         ensures path { IsPath hub.now }
-        ensures goes { HostGoes hub_poll_bound self.old self.new }
-        ensures told { IfErr result (λ fault. PartTold fault self.new.world) }
-        ensures polls { ServesHub hub.now self.old result self.new }
-        ensures keeps { HubKeeps hub.now self.old result self.new }
+        ensures goes { B.modelled ≡ true → HostGoes hub_poll_bound self.old self.new }
+        ensures told { B.modelled ≡ true → IfErr result (λ fault. PartTold fault self.new.world) }
+        ensures polls { B.modelled ≡ true → ServesHub hub.now self.old result self.new }
+        ensures keeps { B.modelled ≡ true → HubKeeps hub.now self.old result self.new }
     {
         // for the checker: a path has one to seven numbers
         let _numbers = hub.numbers();
@@ -114,11 +114,11 @@ impl<B: Bus> Host<B> {
     #[tactic(auto, using(crate::proofs::Owners::single_then))]
     fn serve_told(&mut self, hub: &PortPath, bits: u8) -> Result<(), HostFault>
         requires { IsPath hub.now }
-        ensures goes { HostGoes told_bound self.old self.new }
-        ensures told { IfErr result (λ fault. PartTold fault self.new.world) }
-        ensures holds { OnOk result (AddsNoWork self.old self.new) }
-        ensures keeps { PartKeeps self.old result self.new }
-        ensures serves { ServesTold hub.now bits self.old result self.new }
+        ensures goes { B.modelled ≡ true → HostGoes told_bound self.old self.new }
+        ensures told { B.modelled ≡ true → IfErr result (λ fault. PartTold fault self.new.world) }
+        ensures holds { B.modelled ≡ true → OnOk result (AddsNoWork self.old self.new) }
+        ensures keeps { B.modelled ≡ true → PartKeeps self.old result self.new }
+        ensures serves { B.modelled ≡ true → ServesTold hub.now bits self.old result self.new }
     {
         'ports: for number in 1..8u8 {
             if bits >> number & 1 == 1 {
@@ -130,12 +130,12 @@ impl<B: Bus> Host<B> {
 
     /// Looks again at each device that waits for an address, by rising path, while one is free.
     fn look_again(&mut self) -> Result<Round, HostFault>
-        ensures goes { HostGoes looks_bound self.old self.new }
-        ensures told { IfErr result (λ fault. PartTold fault self.new.world) }
-        ensures did { IfOk result (λ round. Did round self.old self.new) }
-        ensures keeps { LooksKeep self.old result self.new }
-        ensures looks { IfOk result (λ round. IsSound self.old
-            → EachLookedAgain round self.old self.new) }
+        ensures goes { B.modelled ≡ true → HostGoes looks_bound self.old self.new }
+        ensures told { B.modelled ≡ true → IfErr result (λ fault. PartTold fault self.new.world) }
+        ensures did { B.modelled ≡ true → IfOk result (λ round. Did round self.old self.new) }
+        ensures keeps { B.modelled ≡ true → LooksKeep self.old result self.new }
+        ensures looks { B.modelled ≡ true
+            → IfOk result (λ round. IsSound self.old → EachLookedAgain round self.old self.new) }
     {
         let mut round = Round::Quiet;
         let mut last: Option<PortPath> = None;

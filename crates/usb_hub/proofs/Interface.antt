@@ -6,7 +6,7 @@ pub use Rattle.usb_hub.proofs.Devices.{same_stays, stays-registers, stays-spec, 
 pub use Rattle.usb_hub.proofs.AddressesKept.{set_keeps}
 pub use Rattle.usb_hub.proofs.Backlogs.{write_backlog}
 pub use Rattle.usb_hub.proofs.Orders.{order_elsewhere}
-pub use Rattle.usb_hub.proofs.Ports.{port_stays, reset_went}
+pub use Rattle.usb_hub.proofs.Ports.{asked_port, asked_stays, port_stays, reset_went}
 pub use Rattle.usb_hub.proofs.PoweredPorts.{none_of, powered_stands, row_reached-back, sane_there, state_of_place}
 pub use Rattle.usb_hub.proofs.RestingRequests.{write_rests}
 pub use Rattle.usb_hub.proofs.Settings.{each_leaves, write_so}

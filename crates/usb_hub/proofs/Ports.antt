@@ -10,7 +10,7 @@ use Rattle.usb_world.proofs.Interface.{RootCalled, change_most, changes-set, cle
 use Rattle.usb_bus.specs.Traces.{Traced, WentOn}
 use Rattle.usb_hub.specs.declared.port.HubPort.{HubPort}
 use Rattle.usb_hub.specs.declared.port.HubPort.TheVariants.{Root, External}
-use Rattle.usb_hub.specs.Port.{IsPort, order_bound, TakesNoTime, RootSet, RootCleared, SetWent, PortSet, PortCleared}
+use Rattle.usb_hub.specs.Port.{IsAsked, IsPort, order_bound, TakesNoTime, RootSet, RootCleared, SetWent, PortSet, PortCleared}
 
 quiet : (number : ℕ) (p : PortState) (old new : World) → RootCalled number p old new → TakesNoTime old new
 quiet number p old new c = record {
@@ -55,6 +55,14 @@ root_cleared number feature old new is named row = record {
 pub port_stays : (n : ℕ) (port : HubPort) (old new : World) → Spends n old new → IsPort old port → IsPort new port
 port_stays n (Root number) old new s is = (is.0, omega (arith, is.1, s.roots))
 port_stays n (External hub port) old new s is = is
+
+pub asked_port : (modelled : Bool) (w : World) (port : HubPort) → modelled ≡ true → IsAsked modelled w port → IsPort w port
+asked_port modelled w (Root number) known asked = asked known
+asked_port modelled w (External hub port) known asked = asked
+
+pub asked_stays : (modelled : Bool) (n : ℕ) (port : HubPort) (old new : World) → (modelled ≡ true → Spends n old new) → IsAsked modelled old port → IsAsked modelled new port
+asked_stays modelled n (Root number) old new s asked = λ known. port_stays n (Root number) old new (s known) (asked known)
+asked_stays modelled n (External hub port) old new s asked = asked
 
 -- the same of a port that is one of the root
 pub port_set-root : (port : HubPort) (number feature : ℕ) (old new : World) → port ≡ Root number → IsPort old port → IsSetFeature feature → SetsRoot number feature old new → PortSet port feature old (Ok tt) new

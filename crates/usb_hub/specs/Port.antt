@@ -1,5 +1,5 @@
 -- What the calls on a port leave.
-use Rattle.std.specs.Prelude.{◌≡◌, ℕ, ◌+◌, ◌≤◌, List, Option, true, Result, Ok, IsOk}
+use Rattle.std.specs.Prelude.{◌≡◌, ℕ, ◌+◌, ◌≤◌, Bool, List, Option, true, Result, Ok, IsOk}
 use Rattle.usb_request.specs.Features.{PORT_RESET, C_PORT_CONNECTION}
 use Rattle.usb_port.specs.Path.{IsPortNumber}
 use Rattle.usb_port.specs.Status.{seen, status_in}
@@ -19,6 +19,11 @@ use Rattle.usb_hub.specs.Requests.{Told, Ordered}
 abbrev pub IsPort : World → HubPort → Type 0
 IsPort w (Root number) = IsRootPort w number
 IsPort w (External hub port) = IsTarget hub × IsPortNumber port
+
+-- the same where the bus does what its world does; of another only what a hub may have
+abbrev pub IsAsked : Bool → World → HubPort → Type 0
+IsAsked modelled w (Root number) = modelled ≡ true → IsRootPort w number
+IsAsked modelled w (External hub port) = IsTarget hub × IsPortNumber port
 
 -- the most attempts of a status and of an order; a root port is a register
 abbrev pub status_bound : HubPort → ℕ

@@ -89,6 +89,8 @@ impl<B: Bus> CountedBus<B> {
 /// Its world and its trace are those of the bus below, so the contract of each call is the one that the call below
 /// keeps; and all that is proved of a host over any bus is so over this one.
 impl<B: Bus> Bus for CountedBus<B> {
+    ghost modelled = { B.modelled };
+
     ghost world = { λ counted. B.world counted.bus };
 
     ghost trace = { λ counted. B.trace counted.bus };
@@ -123,4 +125,6 @@ impl<B: Bus> Bus for CountedBus<B> {
     fn root_clear(&mut self, port: u8, feature: u16) {
         self.bus.root_clear(port, feature);
     }
+
+    ghost known = { B.known };
 }

@@ -29,6 +29,10 @@ pub record Bulk : Type 0 where
   pub toggle : Toggle  -- of the next packet
   pub condition : Condition
 
+-- the pipe as it was made
+abbrev pub bulk_made : Bulk → Bulk
+bulk_made pipe = record pipe { toggle = Zero; condition = Ready }
+
 abbrev pub is_ready : Condition → Bool
 is_ready Ready = true
 is_ready Halted = false

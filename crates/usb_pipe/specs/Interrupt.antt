@@ -2,6 +2,7 @@
 use Rattle.std.specs.Prelude.{◌≡◌, ◌≢◌, ℕ, ◌≤◌, length, Option, Some, None, Result, Ok, Err, IfOk, IfSome, MatchResult}
 use Rattle.arrayvec.specs.ArrayVec.{ArrayVec}
 use Rattle.usb_packet.specs.declared.Toggle.{Toggle}
+use Rattle.usb_packet.specs.declared.Toggle.TheVariants.{Zero}
 use Rattle.usb_world.specs.World.{World}
 use Rattle.usb_transaction.specs.declared.target.Target.{Target}
 use Rattle.usb_transaction.specs.HeardOutcomes.{toggle_after}
@@ -16,6 +17,10 @@ pub record Interrupt : Type 0 where
   pub target : Target  -- with the endpoint's maximum
   pub ep : ℕ
   pub toggle : Toggle  -- of the next packet
+
+-- the pipe as it was made
+abbrev pub interrupt_made : Interrupt → Interrupt
+interrupt_made pipe = record pipe { toggle = Zero }
 
 -- a poll failed, and the transaction of its IN with it
 pub record NoPoll (pipe : Interrupt) (old : World) (why : PipeFault) (new : World) : Type 0 where

@@ -46,7 +46,7 @@ impl BulkPipe {
     ghost use Rattle.usb_bus.specs.Traces.{Went};
     ghost use Rattle.usb_transaction.specs.Transactions.{IsTarget, transaction_bound};
     ghost use Rattle.usb_pipe.specs.declared.condition.Condition.TheVariants.{Ready};
-    ghost use Rattle.usb_pipe.specs.Bulk.{Bulk, Cleared};
+    ghost use Rattle.usb_pipe.specs.Bulk.{Bulk, Cleared, bulk_made};
     ghost use Rattle.usb_pipe.specs.Control.{write_bound};
     ghost use Rattle.usb_pipe.specs.End.{packet_target};
     ghost use Rattle.usb_pipe.specs.Transfers.{BulkSend, BulkReceive, BulkClear};
@@ -90,6 +90,7 @@ impl BulkPipe {
     /// bytes was taken, too. It never answers `Memory`.
     pub fn send<B: Bus>(&mut self, bus: &mut B, bytes: &[u8]) -> Result<(), PipeFault>
         requires writes { self.old.is_in ≡ false }
+        ensures same { bulk_made self.new ≡ bulk_made self.old }
         ensures went { Went B.world B.trace
             (transaction_bound * div_ceil (length bytes.now) self.old.max) bus.old bus.new }
         ensures transfer { BulkSend bytes.now self.old
@@ -123,6 +124,7 @@ impl BulkPipe {
         packets: u16,
     ) -> Result<Vec<u8>, PipeFault>
         requires reads { self.old.is_in ≡ true }
+        ensures same { bulk_made self.new ≡ bulk_made self.old }
         ensures went { Went B.world B.trace (transaction_bound * packets) bus.old bus.new }
         ensures transfer { BulkReceive packets self.old
             (B.world bus.old) result self.new (B.world bus.new) }
@@ -157,6 +159,7 @@ impl BulkPipe {
     /// the device may have cleared its halt; `Bus` where the bus makes no more steps. It never
     /// answers `Broken` or `Memory`.
     pub fn clear_halt<B: Bus>(&mut self, bus: &mut B) -> Result<(), PipeFault>
+        ensures same { bulk_made self.new ≡ bulk_made self.old }
         ensures went { Went B.world B.trace write_bound bus.old bus.new }
         ensures transfer { BulkClear self.old
             (B.world bus.old) result self.new (B.world bus.new) }
@@ -168,6 +171,7 @@ impl BulkPipe {
     }
 
     fn request_clear<B: Bus>(&mut self, bus: &mut B) -> Result<(), PipeFault>
+        ensures same { bulk_made self.new ≡ bulk_made self.old }
         ensures went { Went B.world B.trace write_bound bus.old bus.new }
         ensures clears { Cleared self.old (B.world bus.old) result self.new (B.world bus.new) }
     {

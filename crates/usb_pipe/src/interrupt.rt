@@ -34,7 +34,7 @@ impl InterruptPipe {
     ghost use Rattle.usb_bus.specs.Traces.{Went};
     ghost use Rattle.usb_transaction.specs.Transactions.{IsTarget, transaction_bound};
     ghost use Rattle.usb_pipe.specs.End.{packet_target};
-    ghost use Rattle.usb_pipe.specs.Interrupt.{Interrupt};
+    ghost use Rattle.usb_pipe.specs.Interrupt.{Interrupt, interrupt_made};
     ghost use Rattle.usb_pipe.specs.Transfers.{InterruptPoll};
 
     /// A pipe to an endpoint, 1 to 15, with its maximum packet, 1 to 64 bytes.
@@ -61,6 +61,7 @@ impl InterruptPipe {
     /// `Stalled` at STALL, `Busy` at the 256th repeat, `NoAnswer` after three errors running, `Bus`
     /// where the bus makes no more steps. It never answers `Broken` or `Memory`.
     pub fn poll<B: Bus>(&mut self, bus: &mut B) -> Result<Option<ArrayVec<u8, 64>>, PipeFault>
+        ensures same { interrupt_made self.new ≡ interrupt_made self.old }
         ensures went { Went B.world B.trace transaction_bound bus.old bus.new }
         ensures transfer { InterruptPoll self.old
             (B.world bus.old) result self.new (B.world bus.new) }

@@ -23,7 +23,8 @@ use Rattle.usb_host.specs.declared.fault.HostFault.{HostFault}
 use Rattle.usb_host.specs.declared.fault.HostFault.TheVariants as host
 use Rattle.usb_host.specs.ToldFaults.{IsOfPipe, RoundTold, TransferTold, is_final}
 use Rattle.usb_bus.specs.Traces.{Traced}
-use Rattle.usb_serve.specs.RunSegments.{Knows, OneRound, RoundTells}
+use Rattle.usb_host.specs.HostCalls.{RoundTells}
+use Rattle.usb_serve.specs.RunSegments.{Knows, OneRound}
 use Rattle.usb_serve.proofs.RunParts.{round_running}
 use Rattle.usb_host.specs.declared.host.Round.{Round}
 use Rattle.usb_serve.specs.Run.{IsCaused, RunsOn, round_fault, run_fault}

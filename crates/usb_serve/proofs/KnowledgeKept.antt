@@ -20,7 +20,8 @@ use Rattle.usb_host.proofs.Interface.{accounted, settled_matches, sound_event, s
 use Rattle.usb_serve.specs.declared.runs.Item.{Item}
 use Rattle.usb_serve.specs.RunSegments.{Arrives, Comes, Knows, LeavesSettled, Ran, idle, changed, Reaches, Rounds, none, more, Settled, Settles}
 use Rattle.usb_serve.specs.Transcript.{AppendsText, Makes, asked, last}
-use Rattle.usb_serve.specs.Transfers.{IsItemOf, TransferTells}
+use Rattle.usb_host.specs.HostCalls.{TransferTells}
+use Rattle.usb_serve.specs.Transfers.{IsItemOf}
 use Rattle.usb_serve.proofs.RunCourses.{Onward, called_onward, comes_onward, settles_onward}
 use Rattle.usb_serve.proofs.RunParts.{item_called, round_called, round_running, rounds_called}
 

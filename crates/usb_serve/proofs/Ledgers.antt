@@ -31,9 +31,11 @@ use Rattle.usb_host.proofs.Interface.{plugs_opening, plugs_same}
 use Rattle.usb_plan.specs.Attempts.{moved, moved_in}
 use Rattle.usb_serve.specs.declared.runs.Item.{Item}
 use Rattle.usb_serve.specs.declared.runs.RunFault.{RunFault}
-use Rattle.usb_serve.specs.RunSegments.{Comes, RoundTells}
+use Rattle.usb_host.specs.HostCalls.{RoundTells}
+use Rattle.usb_serve.specs.RunSegments.{Comes}
 use Rattle.usb_serve.specs.ServedRuns.{Opens}
-use Rattle.usb_serve.specs.Transfers.{IsItemOf, StopsAt, TransferTells}
+use Rattle.usb_host.specs.HostCalls.{TransferTells}
+use Rattle.usb_serve.specs.Transfers.{IsItemOf, StopsAt}
 use Rattle.usb_serve.proofs.EventsLeft.{moved_left, ports_left}
 use Rattle.usb_serve.proofs.KnowledgeKept.{came_stays}
 use Rattle.usb_serve.proofs.PlanWeights.{looks_by-opening, strays_by-opening, totals_within, weights}

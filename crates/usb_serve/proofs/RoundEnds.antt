@@ -5,7 +5,7 @@ use Rattle.usb_host.specs.declared.host.Round.{Round}
 use Rattle.usb_host.specs.declared.host.Round.TheVariants.{Worked, Quiet}
 use Rattle.usb_host.specs.Hosting.{Hosting}
 use Rattle.usb_host.specs.Progress.{Advances, Remains, idle_work}
-use Rattle.usb_serve.specs.RunSegments.{RoundTells}
+use Rattle.usb_host.specs.HostCalls.{RoundTells}
 
 -- what is left to do, and the attempts and the events that may still come
 abbrev pub rounds_left : Hosting → ℕ

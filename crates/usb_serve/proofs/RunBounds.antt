@@ -9,7 +9,8 @@ use Rattle.usb_host.specs.Hosting.{Hosting}
 use Rattle.usb_serve.specs.declared.runs.Item.{Item}
 use Rattle.usb_serve.specs.declared.runs.RunFault.{RunFault}
 use Rattle.usb_serve.specs.declared.serving.Mode.{Mode}
-use Rattle.usb_serve.specs.RunSegments.{Arrives, Comes, EndsSettling, Ran, idle, changed, Reaches, RoundTells, Rounds, none, more, Settles, Unsettled}
+use Rattle.usb_host.specs.HostCalls.{RoundTells}
+use Rattle.usb_serve.specs.RunSegments.{Arrives, Comes, EndsSettling, Ran, idle, changed, Reaches, Rounds, none, more, Settles, Unsettled}
 use Rattle.usb_serve.specs.Transcript.{AppendsText, CutsText, Makes, asked, last, RunsTo, StoppedRun, behind, on_the_way, unwritten, in_text, Stops, in_round, at_event, in_item, in_last, Transcript, begun, told}
 use Rattle.usb_serve.specs.Transfers.{IsItemOf, StopsAt}
 

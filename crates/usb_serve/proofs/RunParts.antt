@@ -17,9 +17,11 @@ use Rattle.usb_host.specs.Progress.{HostWent, Rests}
 use Rattle.usb_serve.specs.declared.runs.Item.{Item}
 use Rattle.usb_serve.specs.declared.runs.RunFault.{RunFault}
 use Rattle.usb_serve.specs.Run.{Spent}
-use Rattle.usb_serve.specs.RunSegments.{Arrives, Ran, idle, changed, Reaches, RoundTells, Rounds, none, more, Settled, Settles, Settling, Unsettled}
+use Rattle.usb_host.specs.HostCalls.{RoundTells}
+use Rattle.usb_serve.specs.RunSegments.{Arrives, Ran, idle, changed, Reaches, Rounds, none, more, Settled, Settles, Settling, Unsettled}
 use Rattle.usb_serve.specs.Transcript.{Makes, asked, last, Stops, in_round, at_event, in_item, in_last}
-use Rattle.usb_serve.specs.Transfers.{Does, IsItemOf, StopsAt, TransferTells}
+use Rattle.usb_host.specs.HostCalls.{TransferTells}
+use Rattle.usb_serve.specs.Transfers.{Does, IsItemOf, StopsAt}
 
 -- Calls of the host
 

@@ -18,7 +18,8 @@ use Rattle.usb_host.specs.ToldFaults.{host_told}
 use Rattle.usb_host.specs.Transfers.{HandsOn, table_in}
 use Rattle.usb_serve.specs.declared.runs.RunFault.{RunFault}
 use Rattle.usb_serve.specs.declared.transfer.TransferFault.{TransferFault}
-use Rattle.usb_serve.specs.Transfers.{ClearTells, ReceiveTells, SendTells, Transfers, transfer_ended, failed, sent_count}
+use Rattle.usb_host.specs.HostCalls.{ClearTells, ReceiveTells, SendTells}
+use Rattle.usb_serve.specs.Transfers.{Transfers, transfer_ended, failed, sent_count}
 
 -- What is told of an answer of the table's
 

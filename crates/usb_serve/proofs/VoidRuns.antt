@@ -7,7 +7,8 @@ use Rattle.usb_world.specs.World.{changes, root_row, to_come}
 use Rattle.usb_host.specs.declared.fault.HostFault.{HostFault}
 use Rattle.usb_host.specs.declared.host.Round.{Round}
 use Rattle.usb_host.specs.Hosting.{Hosting}
-use Rattle.usb_serve.specs.RunSegments.{Comes, RoundTells}
+use Rattle.usb_host.specs.HostCalls.{RoundTells}
+use Rattle.usb_serve.specs.RunSegments.{Comes}
 use Rattle.usb_serve.specs.ServedRuns.{Opens}
 use Rattle.usb_serve.proofs.PlanWeights.{changes-opening}
 use Rattle.usb_serve.proofs.RunBounds.{Carries}

@@ -1,5 +1,5 @@
 -- How a run goes up to its next item: the host settles, then an event comes.
-use Rattle.std.specs.Prelude.{◌≡◌, false, Option, None, Some, Result, Ok, Err, IfOk, IfErr}
+use Rattle.std.specs.Prelude.{◌≡◌, false, Option, None, Some, Result, Ok, Err}
 use Rattle.usb_world.specs.declared.event.Due.{Due}
 use Rattle.usb_world.specs.declared.event.Due.TheVariants.{Changed}
 use Rattle.usb_world.specs.declared.types.BusFault.{BusFault}
@@ -9,13 +9,10 @@ use Rattle.usb_host.specs.declared.fault.HostFault.{HostFault}
 use Rattle.usb_host.specs.declared.host.Round.{Round}
 use Rattle.usb_host.specs.declared.host.Round.TheVariants.{Quiet}
 use Rattle.usb_host.specs.Agreement.{Agrees}
-use Rattle.usb_host.specs.Bounds.{round_bound}
+use Rattle.usb_host.specs.HostCalls.{RoundTells}
 use Rattle.usb_host.specs.Hosting.{Hosting}
-use Rattle.usb_host.specs.Progress.{HostWent, Rests}
-use Rattle.usb_host.specs.Service.{DidParts}
-use Rattle.usb_host.specs.Budget.{RoundKeeps}
+use Rattle.usb_host.specs.Progress.{Rests}
 use Rattle.usb_host.specs.Soundness.{Causes, IsAtRest, IsFairTo, IsSound}
-use Rattle.usb_host.specs.ToldFaults.{RoundTold, StopsAsRound}
 use Rattle.usb_serve.specs.declared.runs.RunFault.{RunFault}
 use Rattle.usb_serve.specs.Run.{round_fault}
 
@@ -34,14 +31,6 @@ pub record Settled (h : Hosting) : Type 0 where
   pub matches : IsFairTo h.world h.world → Matches h.world h.entries
 
 -- Rounds
-
--- all that one call of `round` tells
-pub record RoundTells (old : Hosting) (result : Result Round HostFault) (new : Hosting) : Type 0 where
-  pub stopped : StopsAsRound old result new
-  pub went : HostWent round_bound old new
-  pub told : IfErr result (λ fault. RoundTold fault new.world)
-  pub did : IfOk result (λ round. DidParts round old new)
-  pub keeps : RoundKeeps old result new
 
 -- a round failed, and this ends the run
 pub record RoundFails (old : Hosting) (fault : RunFault) (new : Hosting) : Type 0 where

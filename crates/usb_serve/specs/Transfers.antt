@@ -1,5 +1,5 @@
 -- What a run makes of an event that has come, and what a transfer comes to.
-use Rattle.std.specs.Prelude.{◌≡◌, ℕ, ◌*◌, List, length, Option, Some, None, Result, Ok, Err, IfErr}
+use Rattle.std.specs.Prelude.{◌≡◌, ℕ, List, length, Option, Some, None, Result, Ok, Err}
 use Rattle.std.specs.Global.{Vec}
 use Rattle.usb_world.specs.declared.event.Due.{Due}
 use Rattle.usb_world.specs.declared.event.Due.TheVariants.{Changed, Show, Send, Receive, Clear}
@@ -7,13 +7,8 @@ use Rattle.usb_pipe.specs.declared.fault.PipeFault.{PipeFault}
 use Rattle.usb_pipe.specs.declared.fault.PipeFault.TheVariants as pipe
 use Rattle.usb_host.specs.declared.fault.HostFault.{HostFault}
 use Rattle.usb_host.specs.declared.fault.HostFault.TheVariants as host
-use Rattle.usb_transaction.specs.Transactions.{transaction_bound}
-use Rattle.usb_host.specs.Bounds.{clear_bound}
+use Rattle.usb_host.specs.HostCalls.{ClearTells, ReceiveTells, SendTells}
 use Rattle.usb_host.specs.Hosting.{Hosting}
-use Rattle.usb_host.specs.Progress.{HostWent}
-use Rattle.usb_host.specs.Soundness.{TransferKeeps}
-use Rattle.usb_host.specs.ToldFaults.{StopsAsTransfer, TransferTold}
-use Rattle.usb_host.specs.Transfers.{SentAt, ReceivedAt, ClearedAt}
 use Rattle.usb_serve.specs.declared.runs.Item.{Item}
 use Rattle.usb_serve.specs.declared.runs.Item.TheVariants.{Sent, Received, Cleared}
 use Rattle.usb_serve.specs.declared.runs.RunFault.{RunFault}
@@ -54,23 +49,6 @@ sent_count count (Ok done) = Ok count
 sent_count count (Err fault) = Err fault
 
 -- One call
-
--- all that one call for a transfer tells
-pub record TransferTells {A : Type 0} (most : ℕ) (Did : Hosting → Result A HostFault → Hosting → Type 0) (old : Hosting) (result : Result A HostFault) (new : Hosting) : Type 0 where
-  pub stopped : StopsAsTransfer old result new
-  pub went : HostWent most old new
-  pub told : IfErr result (λ fault. TransferTold fault new.world)
-  pub did : Did old result new
-  pub keeps : TransferKeeps old new
-
-abbrev pub SendTells : List ℕ → List ℕ → Hosting → Result (Unit {0}) HostFault → Hosting → Type 0
-SendTells path bytes = TransferTells (transaction_bound * length bytes) (SentAt path bytes)
-
-abbrev pub ReceiveTells : List ℕ → ℕ → Hosting → Result (Vec ℕ) HostFault → Hosting → Type 0
-ReceiveTells path packets = TransferTells (transaction_bound * packets) (ReceivedAt path packets)
-
-abbrev pub ClearTells : List ℕ → Hosting → Result (Unit {0}) HostFault → Hosting → Type 0
-ClearTells path = TransferTells clear_bound (ClearedAt path)
 
 -- the host made one call, and this is told of it
 pub record Transfers {A : Type 0} (Tells : Hosting → Result A HostFault → Hosting → Type 0) (old : Hosting) (told : Result A TransferFault) (new : Hosting) : Type 0 where

@@ -25,11 +25,11 @@
 //! - A run is a *transcript* (`usb_serve/specs/Transcript.antt`) of hosts, one after the other: it begins at a host
 //!   whose root ports were just given power and whose knowledge is sound (`Opens`). Before each event the host settles:
 //!   rounds one after the other, of which the last alone is quiet with no event taken in it (`Settles`,
-//!   `specs/RunSegments.antt`; of each round all that `Host::round` tells, its parts too: `RoundTells`). It then has
-//!   *settled* (`Settled`): it goes on, what it knows is so, nothing is left to do as long as its bus is at work, and
-//!   where damage was fair it lists what is plugged. Then one event comes (`Arrives`). So no event comes before its
-//!   host has settled, and two plugs are never taken at once (`proofs/Refused.antt` shows it of the first two plugs of
-//!   a run).
+//!   `specs/RunSegments.antt`; of each round all that `Host::round` tells, its parts too: `RoundTells` of usb_host). It
+//!   then has *settled* (`Settled`): it goes on, what it knows is so, nothing is left to do as long as its bus is at
+//!   work, and where damage was fair it lists what is plugged. Then one event comes (`Arrives`). So no event comes
+//!   before its host has settled, and two plugs are never taken at once (`proofs/Refused.antt` shows it of the first
+//!   two plugs of a run).
 //! - An event that asks nothing is followed by settling (`Ran`). One that asks for a listing is answered at once, and
 //!   one that asks for a transfer by that one call and no round (`Makes`); a last listing stands behind all events. The
 //!   moments of listings and transfers are the transcript's own hosts, in its order. `Runner::next_item` and

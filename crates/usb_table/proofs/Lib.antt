@@ -7,6 +7,7 @@ pub mod FittingPipes
 pub mod Ranges
 pub mod RemovedEntries
 pub mod Interface
+pub mod TransferCounts
 pub mod TransferFrames
 pub mod KeptPipes
 pub mod Keys

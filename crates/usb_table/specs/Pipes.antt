@@ -2,14 +2,16 @@
 use Rattle.std.specs.Prelude.{◌≡◌, ⊤, ℕ, ◌≤◌, Bool, true, false, Option, Some, None, is_some, if◌then◌else◌}
 use Rattle.usb_descriptor.specs.Choice.{status_endpoint_of}
 use Rattle.usb_packet.specs.declared.Toggle.TheVariants.{Zero}
-use Rattle.usb_pipe.specs.Bulk.{Bulk}
+use Rattle.usb_pipe.specs.Bulk.{Bulk, bulk_made}
 use Rattle.usb_pipe.specs.End.{packet_target}
-use Rattle.usb_pipe.specs.Interrupt.{Interrupt}
+use Rattle.usb_pipe.specs.Interrupt.{Interrupt, interrupt_made}
 use Rattle.usb_pipe.specs.declared.condition.Condition.TheVariants.{Ready}
 use Rattle.usb_enum.specs.declared.finding.Accepted.{Accepted}
 use Rattle.usb_enum.specs.declared.finding.Finding.{Finding}
 use Rattle.usb_enum.specs.declared.finding.Finding.TheVariants.{Device, Refused}
 use Rattle.usb_enum.specs.Device.{target_of, configuration_of}
+use Rattle.std.specs.Option.{option_map}
+use Rattle.usb_table.specs.declared.pipes.BulkPipes.{BulkPipes}
 use Rattle.usb_table.specs.declared.pipes.Pipes.{Pipes}
 use Rattle.usb_table.specs.declared.pipes.Pipes.TheVariants.{Hub, Function, Absent}
 use Rattle.usb_table.specs.Findings.{accepted_device_of, out_endpoint, in_endpoint}
@@ -50,6 +52,16 @@ ArePipesIf (Some device) below_hub pipes = ArePipesTo device below_hub pipes
 -- the pipes to what was found
 abbrev pub ArePipesOf : Finding → Bool → Pipes → Type 0
 ArePipesOf finding = ArePipesIf (accepted_device_of (Some finding))
+
+-- Pipes as they were made
+
+abbrev pub both_made : BulkPipes → BulkPipes
+both_made pipes = record { out = option_map bulk_made pipes.out; into = option_map bulk_made pipes.into }
+
+abbrev pub pipes_made : Pipes → Pipes
+pipes_made (Hub pipe) = Hub (interrupt_made pipe)
+pipes_made (Function pipes) = Function (both_made pipes)
+pipes_made Absent = Absent
 
 -- Pipes that were just made: none has moved a packet
 

@@ -1,10 +1,10 @@
 //! What stands at a port, with the host's pipes to it.
-ghost use Rattle.std.specs.Prelude.{◌≡◌, ◌*◌};
+ghost use Rattle.std.specs.Prelude.{◌≡◌, ◌*◌, true};
 ghost use Rattle.usb_bus.specs.Traces.{Traced, Went};
 ghost use Rattle.usb_pipe.specs.Control.{write_bound};
 ghost use Rattle.usb_transaction.specs.Transactions.{transaction_bound};
 ghost use Rattle.usb_table.specs.Findings.{IsSoundFinding};
-ghost use Rattle.usb_table.specs.Pipes.{ArePipesOf, new_pipes};
+ghost use Rattle.usb_table.specs.Pipes.{ArePipesOf, new_pipes, pipes_made};
 ghost use Rattle.usb_table.specs.Transfers.{PollTook, PipesPolled, PipesSent, PipesReceived, PipesCleared};
 
 use crate::EndpointFault;
@@ -71,10 +71,11 @@ impl Entry {
     /// Asks a hub's status endpoint once; `None` of anything else.
     pub fn poll<B: Bus>(&mut self, bus: &mut B) -> Result<Option<ArrayVec<u8, 64>>, PipeFault>
         ensures same { self.new.finding ≡ self.old.finding }
-        ensures went { Went B.world B.trace transaction_bound bus.old bus.new }
-        ensures ends { PollTook (B.world bus.old) result (B.world bus.new) }
-        ensures polled { PipesPolled self.old.pipes
-            (B.world bus.old) result self.new.pipes (B.world bus.new) }
+        ensures made { pipes_made self.new.pipes ≡ pipes_made self.old.pipes }
+        ensures went { B.modelled ≡ true → Went B.world B.trace transaction_bound bus.old bus.new }
+        ensures ends { B.modelled ≡ true → PollTook (B.world bus.old) result (B.world bus.new) }
+        ensures polled { B.modelled ≡ true
+            → PipesPolled self.old.pipes (B.world bus.old) result self.new.pipes (B.world bus.new) }
     {
         match &mut self.pipes {
             Pipes::Hub(pipe) => pipe.poll(bus),
@@ -85,9 +86,10 @@ impl Entry {
     /// Sends bytes to a function's bulk OUT endpoint.
     pub fn send<B: Bus>(&mut self, bus: &mut B, bytes: &[u8]) -> Result<(), EndpointFault>
         ensures same { self.new.finding ≡ self.old.finding }
-        ensures traced { Traced
-            (B.world bus.old) (B.trace bus.old) (B.world bus.new) (B.trace bus.new) }
-        ensures sent { PipesSent self.old.pipes bytes.now
+        ensures made { pipes_made self.new.pipes ≡ pipes_made self.old.pipes }
+        ensures traced { B.modelled ≡ true
+            → Traced (B.world bus.old) (B.trace bus.old) (B.world bus.new) (B.trace bus.new) }
+        ensures sent { B.modelled ≡ true → PipesSent self.old.pipes bytes.now
             (B.world bus.old) result self.new.pipes (B.world bus.new) }
     {
         match &mut self.pipes {
@@ -105,9 +107,10 @@ impl Entry {
         packets: u16,
     ) -> Result<Vec<u8>, EndpointFault>
         ensures same { self.new.finding ≡ self.old.finding }
-        ensures traced { Traced
-            (B.world bus.old) (B.trace bus.old) (B.world bus.new) (B.trace bus.new) }
-        ensures received { PipesReceived self.old.pipes packets
+        ensures made { pipes_made self.new.pipes ≡ pipes_made self.old.pipes }
+        ensures traced { B.modelled ≡ true
+            → Traced (B.world bus.old) (B.trace bus.old) (B.world bus.new) (B.trace bus.new) }
+        ensures received { B.modelled ≡ true → PipesReceived self.old.pipes packets
             (B.world bus.old) result self.new.pipes (B.world bus.new) }
     {
         match &mut self.pipes {
@@ -120,8 +123,9 @@ impl Entry {
     /// Clears the halts of a function's bulk endpoints.
     pub fn clear_halt<B: Bus>(&mut self, bus: &mut B) -> Result<(), EndpointFault>
         ensures same { self.new.finding ≡ self.old.finding }
-        ensures went { Went B.world B.trace (2 * write_bound) bus.old bus.new }
-        ensures cleared { PipesCleared self.old.pipes
+        ensures made { pipes_made self.new.pipes ≡ pipes_made self.old.pipes }
+        ensures went { B.modelled ≡ true → Went B.world B.trace (2 * write_bound) bus.old bus.new }
+        ensures cleared { B.modelled ≡ true → PipesCleared self.old.pipes
             (B.world bus.old) result self.new.pipes (B.world bus.new) }
     {
         match &mut self.pipes {

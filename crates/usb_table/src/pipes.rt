@@ -1,11 +1,13 @@
 //! The host's pipes to a device.
 ghost use Rattle.std.specs.Prelude.{◌≡◌, false, true, is_some, IfSome, ◌*◌};
+ghost use Rattle.std.specs.Option.{option_map};
 ghost use Rattle.usb_bus.specs.Traces.{Traced, Went};
 ghost use Rattle.usb_descriptor.specs.Choice.{IsUsable, status_endpoint_of};
 ghost use Rattle.usb_enum.specs.Device.{configuration_of};
+ghost use Rattle.usb_pipe.specs.Bulk.{bulk_made};
 ghost use Rattle.usb_pipe.specs.Control.{write_bound};
 ghost use Rattle.usb_table.specs.Findings.{IsSoundDevice, at_full_speed};
-ghost use Rattle.usb_table.specs.Pipes.{ArePipesTo, IsPipe, IsStatusPipe};
+ghost use Rattle.usb_table.specs.Pipes.{ArePipesTo, IsPipe, IsStatusPipe, both_made};
 ghost use Rattle.usb_table.specs.Pipes.{new_pipes_to, new_status, new_bulk};
 ghost use Rattle.usb_table.specs.declared.pipes.Pipes.TheVariants.{Hub};
 ghost use Rattle.usb_table.specs.Transfers.{SentBy, ReceivedBy, ClearedBy, ClearedInTurn};
@@ -88,10 +90,11 @@ pub(crate) fn send_through<B: Bus>(
     bytes: &[u8],
 ) -> Result<(), EndpointFault>
     requires { IfSome pipe.old (λ p. p.is_in ≡ false) }
-    ensures traced { Traced
-        (B.world bus.old) (B.trace bus.old) (B.world bus.new) (B.trace bus.new) }
-    ensures sent { SentBy pipe.old bytes.now
-        (B.world bus.old) result pipe.new (B.world bus.new) }
+    ensures made { option_map bulk_made pipe.new ≡ option_map bulk_made pipe.old }
+    ensures traced { B.modelled ≡ true
+        → Traced (B.world bus.old) (B.trace bus.old) (B.world bus.new) (B.trace bus.new) }
+    ensures sent { B.modelled ≡ true
+        → SentBy pipe.old bytes.now (B.world bus.old) result pipe.new (B.world bus.new) }
 {
     match pipe {
         Some(pipe) => Ok(pipe.send(bus, bytes)?),
@@ -107,10 +110,11 @@ pub(crate) fn receive_through<B: Bus>(
     packets: u16,
 ) -> Result<Vec<u8>, EndpointFault>
     requires { IfSome pipe.old (λ p. p.is_in ≡ true) }
-    ensures traced { Traced
-        (B.world bus.old) (B.trace bus.old) (B.world bus.new) (B.trace bus.new) }
-    ensures received { ReceivedBy pipe.old packets
-        (B.world bus.old) result pipe.new (B.world bus.new) }
+    ensures made { option_map bulk_made pipe.new ≡ option_map bulk_made pipe.old }
+    ensures traced { B.modelled ≡ true
+        → Traced (B.world bus.old) (B.trace bus.old) (B.world bus.new) (B.trace bus.new) }
+    ensures received { B.modelled ≡ true
+        → ReceivedBy pipe.old packets (B.world bus.old) result pipe.new (B.world bus.new) }
 {
     match pipe {
         Some(pipe) => Ok(pipe.receive(alloc, bus, packets)?),
@@ -120,8 +124,10 @@ pub(crate) fn receive_through<B: Bus>(
 
 /// Clears the halt of a pipe's endpoint, if there is one.
 fn clear_through<B: Bus>(pipe: &mut Option<BulkPipe>, bus: &mut B) -> Result<(), PipeFault>
-    ensures went { Went B.world B.trace write_bound bus.old bus.new }
-    ensures cleared { ClearedBy pipe.old (B.world bus.old) result pipe.new (B.world bus.new) }
+    ensures made { option_map bulk_made pipe.new ≡ option_map bulk_made pipe.old }
+    ensures went { B.modelled ≡ true → Went B.world B.trace write_bound bus.old bus.new }
+    ensures cleared { B.modelled ≡ true
+        → ClearedBy pipe.old (B.world bus.old) result pipe.new (B.world bus.new) }
 {
     match pipe {
         Some(pipe) => pipe.clear_halt(bus),
@@ -132,9 +138,10 @@ fn clear_through<B: Bus>(pipe: &mut Option<BulkPipe>, bus: &mut B) -> Result<(),
 impl BulkPipes {
     /// Clears the halt of both endpoints, of the one that writes first.
     pub fn clear_halt<B: Bus>(&mut self, bus: &mut B) -> Result<(), EndpointFault>
-        ensures went { Went B.world B.trace (2 * write_bound) bus.old bus.new }
-        ensures cleared { ClearedInTurn self.old
-            (B.world bus.old) result self.new (B.world bus.new) }
+        ensures made { both_made self.new ≡ both_made self.old }
+        ensures went { B.modelled ≡ true → Went B.world B.trace (2 * write_bound) bus.old bus.new }
+        ensures cleared { B.modelled ≡ true
+            → ClearedInTurn self.old (B.world bus.old) result self.new (B.world bus.new) }
     {
         if self.out.is_none() && self.into.is_none() {
             return Err(EndpointFault::NoEndpoint);

@@ -1,5 +1,5 @@
 //! What stands at each port.
-ghost use Rattle.std.specs.Prelude.{◌≡◌, ◌*◌, ℕ, List, length, false, option_copied};
+ghost use Rattle.std.specs.Prelude.{◌≡◌, ◌*◌, ℕ, List, length, false, true, option_copied};
 ghost use Rattle.std.specs.Prelude.{IfSome, IfNone, IfOk, IfErr, OnOk, OnErr};
 ghost use Rattle.std.specs.BTreeMap.{is_at};
 ghost use Rattle.std.specs.Map.{lookup};
@@ -196,12 +196,12 @@ impl DeviceTable {
         hub: &PortPath,
     ) -> Result<Option<ArrayVec<u8, 64>>, PipeFault>
         ensures through { GoesThrough hub.now self.old self.new }
-        ensures went { Went B.world B.trace transaction_bound bus.old bus.new }
-        ensures ends { PollTook (B.world bus.old) result (B.world bus.new) }
-        ensures polled { PipesPolled (pipes_at hub.now self.old)
+        ensures went { B.modelled ≡ true → Went B.world B.trace transaction_bound bus.old bus.new }
+        ensures ends { B.modelled ≡ true → PollTook (B.world bus.old) result (B.world bus.new) }
+        ensures polled { B.modelled ≡ true → PipesPolled (pipes_at hub.now self.old)
             (B.world bus.old) result (pipes_at hub.now self.new) (B.world bus.new) }
-        ensures keeps { KeepsPolled hub.now
-            self.old (B.world bus.old) result self.new (B.world bus.new) }
+        ensures keeps { B.modelled ≡ true
+            → KeepsPolled hub.now self.old (B.world bus.old) result self.new (B.world bus.new) }
     {
         match self.indexes.by_path.get(hub) {
             Some(key) => self.entries[*key].poll(bus),
@@ -222,12 +222,14 @@ impl DeviceTable {
         bytes: &[u8],
     ) -> Result<(), EndpointFault>
         ensures through { GoesThrough path.now self.old self.new }
-        ensures went { Went B.world B.trace (transaction_bound * length bytes.now) bus.old bus.new }
-        ensures told { IfErr result (λ fault. EndpointTold fault (B.world bus.new)) }
-        ensures sent { PipesSent (pipes_at path.now self.old) bytes.now
+        ensures went { B.modelled ≡ true
+            → Went B.world B.trace (transaction_bound * length bytes.now) bus.old bus.new }
+        ensures told { B.modelled ≡ true
+            → IfErr result (λ fault. EndpointTold fault (B.world bus.new)) }
+        ensures sent { B.modelled ≡ true → PipesSent (pipes_at path.now self.old) bytes.now
             (B.world bus.old) result (pipes_at path.now self.new) (B.world bus.new) }
-        ensures keeps { KeepsMoved path.now
-            self.old (B.world bus.old) self.new (B.world bus.new) }
+        ensures keeps { B.modelled ≡ true
+            → KeepsMoved path.now self.old (B.world bus.old) self.new (B.world bus.new) }
     {
         match self.indexes.by_path.get(path) {
             Some(key) => self.entries[*key].send(bus, bytes),
@@ -250,12 +252,14 @@ impl DeviceTable {
         packets: u16,
     ) -> Result<Vec<u8>, EndpointFault>
         ensures through { GoesThrough path.now self.old self.new }
-        ensures went { Went B.world B.trace (transaction_bound * packets) bus.old bus.new }
-        ensures told { IfErr result (λ fault. EndpointTold fault (B.world bus.new)) }
-        ensures received { PipesReceived (pipes_at path.now self.old) packets
+        ensures went { B.modelled ≡ true
+            → Went B.world B.trace (transaction_bound * packets) bus.old bus.new }
+        ensures told { B.modelled ≡ true
+            → IfErr result (λ fault. EndpointTold fault (B.world bus.new)) }
+        ensures received { B.modelled ≡ true → PipesReceived (pipes_at path.now self.old) packets
             (B.world bus.old) result (pipes_at path.now self.new) (B.world bus.new) }
-        ensures keeps { KeepsMoved path.now
-            self.old (B.world bus.old) self.new (B.world bus.new) }
+        ensures keeps { B.modelled ≡ true
+            → KeepsMoved path.now self.old (B.world bus.old) self.new (B.world bus.new) }
     {
         match self.indexes.by_path.get(path) {
             Some(key) => self.entries[*key].receive(alloc, bus, packets),
@@ -272,12 +276,13 @@ impl DeviceTable {
     /// speed or has no bulk endpoint; `Pipe` with those of `BulkPipe::clear_halt`.
     pub fn clear_halt<B: Bus>(&mut self, bus: &mut B, path: &PortPath) -> Result<(), EndpointFault>
         ensures through { GoesThrough path.now self.old self.new }
-        ensures went { Went B.world B.trace (2 * write_bound) bus.old bus.new }
-        ensures told { IfErr result (λ fault. EndpointTold fault (B.world bus.new)) }
-        ensures cleared { PipesCleared (pipes_at path.now self.old)
+        ensures went { B.modelled ≡ true → Went B.world B.trace (2 * write_bound) bus.old bus.new }
+        ensures told { B.modelled ≡ true
+            → IfErr result (λ fault. EndpointTold fault (B.world bus.new)) }
+        ensures cleared { B.modelled ≡ true → PipesCleared (pipes_at path.now self.old)
             (B.world bus.old) result (pipes_at path.now self.new) (B.world bus.new) }
-        ensures keeps { KeepsMoved path.now
-            self.old (B.world bus.old) self.new (B.world bus.new) }
+        ensures keeps { B.modelled ≡ true
+            → KeepsMoved path.now self.old (B.world bus.old) self.new (B.world bus.new) }
     {
         match self.indexes.by_path.get(path) {
             Some(key) => self.entries[*key].clear_halt(bus),

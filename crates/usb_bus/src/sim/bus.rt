@@ -1,5 +1,5 @@
 //! The simulated bus as the host sees it.
-ghost use Rattle.std.specs.Prelude.{◌≡◌, ◌+◌, ◌-◌, ◌<◌, ◌≤◌, ◌∷◌, [], length, slice_index_or, true, false, None};
+ghost use Rattle.std.specs.Prelude.{◌≡◌, ◌+◌, ◌-◌, ◌<◌, ◌≤◌, ◌∷◌, [], length, slice_index_or, true, false, None, refl};
 ghost use Rattle.usb_port.specs.PortState.{off, status_of};
 ghost use Rattle.usb_device.specs.HolderIndex.{IsIndexOf};
 ghost use Rattle.usb_device.specs.Tree.{row_of, changed, called};
@@ -20,6 +20,8 @@ use usb_world::{damage_of, make_exchange_by, outcome_of};
 impl<T: Trace> Bus for SimBus<T> {
     ghost use Rattle.usb_bus.specs.Parts.{RefusesAttempt};
     ghost use Rattle.usb_bus.specs.Sim.{world_of, tracer_of, trace_of};
+
+    ghost modelled = { true };
 
     ghost world = { world_of };
 
@@ -67,6 +69,8 @@ impl<T: Trace> Bus for SimBus<T> {
             self.call_root(port, call);
         }
     }
+
+    ghost known = { refl };
 }
 
 impl<T: Trace> SimBus<T> {

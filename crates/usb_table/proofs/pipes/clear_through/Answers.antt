@@ -3,4 +3,4 @@ use Rattle.usb_bus.proofs.Interface.{went_none, went_wider}
 use Rattle.usb_table.proofs.pipes.clear_through.Goals as goal
 
 pub returns-in-None-clause-went : goal.returns-in-None-clause-went
-returns-in-None-clause-went g c = went_wider 0 1600 went_none (omega arith)
+returns-in-None-clause-went g c known = went_wider 0 1600 went_none (omega arith)

@@ -16,21 +16,21 @@ use Rattle.usb_host.proofs.Enumerations.{cleared, cleared_twice}
 use Rattle.usb_host.proofs.host.Host.clear_change.Goals as goal
 
 pub returns-in_err-status-clause-goes : goal.returns-in_err-status-clause-goes
-returns-in_err-status-clause-goes g c = rw (← c.self.view_is) (cleared c.args.port _ _ c.requires.askable refl c.clear_port.ensures.went c.port_status.ensures.went)
+returns-in_err-status-clause-goes g c known = rw (← c.self.view_is) (cleared c.args.port _ _ c.requires.askable refl c.clear_port.ensures.went c.port_status.ensures.went)
 
 pub returns-in_err-clear_port-2-clause-goes : goal.returns-in_err-clear_port-2-clause-goes
-returns-in_err-clear_port-2-clause-goes g c =
+returns-in_err-clear_port-2-clause-goes g c known =
     rw (← c.self.view_is) (cleared_twice c.args.port _ _ c.requires.askable refl c.clear_port.ensures.went c.port_status.ensures.went c.clear_port-then-status.ensures.went)
 
 pub returns-in_ok-clear_port-2-clause-goes : goal.returns-in_ok-clear_port-2-clause-goes
-returns-in_ok-clear_port-2-clause-goes g c =
+returns-in_ok-clear_port-2-clause-goes g c known =
     rw (← c.self.view_is) (cleared_twice c.args.port _ _ c.requires.askable refl c.clear_port.ensures.went c.port_status.ensures.went c.clear_port-then-status.ensures.went)
 
 pub returns-else-status-clause-goes : goal.returns-else-status-clause-goes
-returns-else-status-clause-goes g c = rw (← c.self.view_is) (cleared c.args.port _ _ c.requires.askable refl c.clear_port.ensures.went c.port_status.ensures.went)
+returns-else-status-clause-goes g c known = rw (← c.self.view_is) (cleared c.args.port _ _ c.requires.askable refl c.clear_port.ensures.went c.port_status.ensures.went)
 
 pub returns-in_err-clear_port-clause-clears : goal.returns-in_err-clear_port-clause-clears
-returns-in_err-clear_port-clause-clears g c =
+returns-in_err-clear_port-clause-clears g c known =
     let told = err_from_is_err_and c.from_residual.result c.from_residual.ensures.1 in
     let old = g.B.Bus.world c.self.inside.bus in
     let mid = g.B.Bus.world c.clear_port.new.bus in
@@ -43,7 +43,7 @@ returns-in_err-clear_port-clause-clears g c =
     })
 
 pub returns-in_err-status-clause-clears : goal.returns-in_err-status-clause-clears
-returns-in_err-status-clause-clears g c =
+returns-in_err-status-clause-clears g c known =
     let told = err_from_is_err_and c.from_residual-in_err-status.result c.from_residual-in_err-status.ensures.1 in
     let old = g.B.Bus.world c.self.inside.bus in
     let mid = g.B.Bus.world c.clear_port.new.bus in
@@ -57,7 +57,7 @@ returns-in_err-status-clause-clears g c =
     })
 
 pub returns-else-status-clause-clears : goal.returns-else-status-clause-clears
-returns-else-status-clause-clears g c =
+returns-else-status-clause-clears g c known =
     let old = g.B.Bus.world c.self.inside.bus in
     let mid = g.B.Bus.world c.clear_port.new.bus in
     let new = g.B.Bus.world c.port_status.new.bus in
@@ -80,7 +80,7 @@ returns-else-status-clause-clears g c =
     })
 
 pub returns-in_err-clear_port-2-clause-clears : goal.returns-in_err-clear_port-2-clause-clears
-returns-in_err-clear_port-2-clause-clears g c =
+returns-in_err-clear_port-2-clause-clears g c known =
     let told = err_from_is_err_and c.from_residual-in_err-clear_port-2.result c.from_residual-in_err-clear_port-2.ensures.1 in
     let old = g.B.Bus.world c.self.inside.bus in
     let mid = g.B.Bus.world c.clear_port.new.bus in
@@ -100,7 +100,7 @@ returns-in_err-clear_port-2-clause-clears g c =
     })
 
 pub returns-in_ok-clear_port-2-clause-clears : goal.returns-in_ok-clear_port-2-clause-clears
-returns-in_ok-clear_port-2-clause-clears g c =
+returns-in_ok-clear_port-2-clause-clears g c known =
     let old = g.B.Bus.world c.self.inside.bus in
     let mid = g.B.Bus.world c.clear_port.new.bus in
     let asked_at = g.B.Bus.world c.port_status.new.bus in

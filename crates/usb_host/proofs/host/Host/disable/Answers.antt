@@ -1,3 +1,4 @@
+use Rattle.usb_host.proofs.Stations.{placed}
 use Rattle.std.proofs.Common.{refl, sym, subst, Err}
 use Rattle.usb_request.specs.Features.{PORT_ENABLE}
 use Rattle.usb_pipe.specs.Control.{write_bound}
@@ -16,13 +17,13 @@ use Rattle.usb_host.proofs.host.Host.disable.Goals as goal
 use Rattle.usb_host.proofs.host.Host.disable.Goals.{in-Ok, in-Err-Bus, in-Err}
 
 pub returns-in_default-clause-goes : goal.returns-in_default-clause-goes
-returns-in_default-clause-goes g c = goes_none write_bound c.args.self.now
+returns-in_default-clause-goes g c known = goes_none write_bound c.args.self.now
 
 pub returns-in_default-clause-disables : goal.returns-in_default-clause-disables
-returns-in_default-clause-disables g c =
-    let none = nowhere_dropped c.args.path.now c.args.self.now c.in_default.ensures.none in
+returns-in_default-clause-disables g c known =
+    let none = nowhere_dropped c.args.path.now c.args.self.now (c.in_default.ensures.none known) in
     record {
-      owned = none_disabled c.args.path.now c.args.self.now c.in_default.ensures.none;
+      owned = none_disabled c.args.path.now c.args.self.now (c.in_default.ensures.none known);
       devices = stays_none c.args.self.now.world;
       done = λ d e. absurd (cc e);
       failed = λ d e. absurd (none d);
@@ -31,8 +32,8 @@ returns-in_default-clause-disables g c =
     }
 
 pub returns-clause-disables : goal.returns-clause-disables
-returns-clause-disables g c =
-    let s = subst (λ (h : Hosting). StandsAt c.args.path.now c.in-Some.port h) (sym c.self.view_is) c.in-Some.ensures.some in
+returns-clause-disables g c known =
+    let s = subst (λ (h : Hosting). StandsAt c.args.path.now c.in-Some.port h) (sym c.self.view_is) (placed known c.in-Some.ensures.some) in
     let old = g.B.Bus.world c.self.inside.bus in
     let new = g.B.Bus.world c.clear_port.new.bus in
     let port = c.in-Some.port.port in

@@ -1,3 +1,4 @@
+use Rattle.usb_host.proofs.Stations.{placed}
 use Rattle.std.proofs.Common.{◌≡◌, ap, refl, sym, subst, Some, Ok, Err, Result, false}
 use Rattle.std.proofs.lemmas.Result.{err_from_is_err_and}
 use Rattle.usb_table.specs.Entries.{has_at}
@@ -20,13 +21,13 @@ use Rattle.usb_host.proofs.Enumerations.{enumerated}
 use Rattle.usb_host.proofs.host.Host.discover.Goals as goal
 
 pub returns-in_err-finding-clause-goes : goal.returns-in_err-finding-clause-goes
-returns-in_err-finding-clause-goes g c = rw (← c.self.view_is) (enumerated c.args.port.port _ _ c.requires.port.askable c.enumerate.ensures.went refl)
+returns-in_err-finding-clause-goes g c known = rw (← c.self.view_is) (enumerated c.args.port.port _ _ c.requires.port.askable c.enumerate.ensures.went refl)
 
 pub returns-in_err-enter-clause-goes : goal.returns-in_err-enter-clause-goes
-returns-in_err-enter-clause-goes g c = rw (← c.self.view_is) (enumerated c.args.port.port _ _ c.requires.port.askable c.enumerate.ensures.went refl)
+returns-in_err-enter-clause-goes g c known = rw (← c.self.view_is) (enumerated c.args.port.port _ _ c.requires.port.askable c.enumerate.ensures.went refl)
 
 pub returns-clause-goes : goal.returns-clause-goes
-returns-clause-goes g c = rw (← c.self.view_is) (enumerated c.args.port.port _ _ c.requires.port.askable c.enumerate.ensures.went refl)
+returns-clause-goes g c known = rw (← c.self.view_is) (enumerated c.args.port.port _ _ c.requires.port.askable c.enumerate.ensures.went refl)
 
 pub invariant_of-self-2 : goal.invariant_of-self-2
 invariant_of-self-2 g c =
@@ -43,32 +44,32 @@ invariant_of-self-2 g c =
     })
 
 pub returns-in_err-finding-clause-owned : goal.returns-in_err-finding-clause-owned
-returns-in_err-finding-clause-owned g c =
+returns-in_err-finding-clause-owned g c known =
     let told = err_from_is_err_and c.from_residual.result c.from_residual.ensures.1 in
-    let s = subst (λ (h : Hosting). StandsAt c.args.path.now c.args.port h) (sym c.self.view_is) c.requires.port in
+    let s = subst (λ (h : Hosting). StandsAt c.args.path.now c.args.port h) (sym c.self.view_is) (placed known c.requires.port) in
     let away = subst (λ (h : Hosting). has_at c.args.path.now h.entries ≡ false) (sym c.self.view_is) c.requires.away in
     let found = subst (λ r. KeepsEnumerated c.args.port.port c.self.inside.pool (g.B.Bus.world c.self.inside.bus) r (g.B.Bus.world c.enumerate.new.bus)) c.in_err-finding.was c.enumerate.ensures.ends.addresses in
     rw (← c.self.view_is, told.1, told.2) (found_fails c.args.path.now c.args.port _ _ c.in_err-finding.field-0.0 c.self.inside.pool found s away c.self.invariant.accounts refl c.enumerate.ensures.went.spends.roots)
 
 pub returns-in_err-enter-clause-owned : goal.returns-in_err-enter-clause-owned
-returns-in_err-enter-clause-owned g c =
+returns-in_err-enter-clause-owned g c known =
     let told = err_from_is_err_and c.from_residual-in_err-enter.result c.from_residual-in_err-enter.ensures.1 in
-    let s = subst (λ (h : Hosting). StandsAt c.args.path.now c.args.port h) (sym c.self.view_is) c.requires.port in
+    let s = subst (λ (h : Hosting). StandsAt c.args.path.now c.args.port h) (sym c.self.view_is) (placed known c.requires.port) in
     let away = subst (λ (h : Hosting). has_at c.args.path.now h.entries ≡ false) (sym c.self.view_is) c.requires.away in
     let found = subst (λ r. KeepsEnumerated c.args.port.port c.self.inside.pool (g.B.Bus.world c.self.inside.bus) r (g.B.Bus.world c.enumerate.new.bus)) c.in_ok-finding.was c.enumerate.ensures.ends.addresses in
     rw (← c.self.view_is, told.1, told.2) (found_lost c.args.path.now c.args.port _ _ c.in_ok-finding.finding c.self.inside.pool found s away c.self.invariant.accounts (ap (λ (t : Table). t.entries) c.in_err-enter.ensures.err.0) c.enumerate.ensures.went.spends.roots)
 
 pub returns-clause-owned : goal.returns-clause-owned
-returns-clause-owned g c =
-    let s = subst (λ (h : Hosting). StandsAt c.args.path.now c.args.port h) (sym c.self.view_is) c.requires.port in
+returns-clause-owned g c known =
+    let s = subst (λ (h : Hosting). StandsAt c.args.path.now c.args.port h) (sym c.self.view_is) (placed known c.requires.port) in
     let away = subst (λ (h : Hosting). has_at c.args.path.now h.entries ≡ false) (sym c.self.view_is) c.requires.away in
     let found = subst (λ r. KeepsEnumerated c.args.port.port c.self.inside.pool (g.B.Bus.world c.self.inside.bus) r (g.B.Bus.world c.enumerate.new.bus)) c.in_ok-finding.was c.enumerate.ensures.ends.addresses in
     rw (← c.self.view_is) (found_ends c.args.path.now c.args.port _ _ c.in_ok-finding.finding c.self.inside.pool found s away c.self.invariant.accounts (ap (λ (t : Table). t.entries) (rw c.duplicate.ensures at c.in_ok-enter.ensures.ok.0)) c.enumerate.ensures.went.spends.roots)
 
 pub returns-in_err-finding-clause-sound : goal.returns-in_err-finding-clause-sound
-returns-in_err-finding-clause-sound g c =
+returns-in_err-finding-clause-sound g c known =
     let told = err_from_is_err_and c.from_residual.result c.from_residual.ensures.1 in
-    let s = subst (λ (h : Hosting). StandsAt c.args.path.now c.args.port h) (sym c.self.view_is) c.requires.port in
+    let s = subst (λ (h : Hosting). StandsAt c.args.path.now c.args.port h) (sym c.self.view_is) (placed known c.requires.port) in
     let away = subst (λ (h : Hosting). has_at c.args.path.now h.entries ≡ false) (sym c.self.view_is) c.requires.away in
     let tier = c.tier.ensures in
     let kept = subst (λ r. KeepsEnumerated c.args.port.port c.self.inside.pool (g.B.Bus.world c.self.inside.bus) r (g.B.Bus.world c.enumerate.new.bus)) c.in_err-finding.was c.enumerate.ensures.ends.addresses in
@@ -80,8 +81,8 @@ returns-in_err-finding-clause-sound g c =
     (found_fails c.args.path.now c.args.port _ _ c.in_err-finding.field-0.0 c.self.inside.pool kept s away c.self.invariant.accounts refl c.enumerate.ensures.went.spends.roots))
 
 pub returns-clause-sound : goal.returns-clause-sound
-returns-clause-sound g c =
-    let s = subst (λ (h : Hosting). StandsAt c.args.path.now c.args.port h) (sym c.self.view_is) c.requires.port in
+returns-clause-sound g c known =
+    let s = subst (λ (h : Hosting). StandsAt c.args.path.now c.args.port h) (sym c.self.view_is) (placed known c.requires.port) in
     let away = subst (λ (h : Hosting). has_at c.args.path.now h.entries ≡ false) (sym c.self.view_is) c.requires.away in
     let tier = c.tier.ensures in
     let kept = subst (λ r. KeepsEnumerated c.args.port.port c.self.inside.pool (g.B.Bus.world c.self.inside.bus) r (g.B.Bus.world c.enumerate.new.bus)) c.in_ok-finding.was c.enumerate.ensures.ends.addresses in
@@ -93,9 +94,9 @@ returns-clause-sound g c =
     (found_ends c.args.path.now c.args.port _ _ c.in_ok-finding.finding c.self.inside.pool kept s away c.self.invariant.accounts entered c.enumerate.ensures.went.spends.roots))
 
 pub returns-in_err-enter-clause-sound : goal.returns-in_err-enter-clause-sound
-returns-in_err-enter-clause-sound g c =
+returns-in_err-enter-clause-sound g c known =
     let told = err_from_is_err_and c.from_residual-in_err-enter.result c.from_residual-in_err-enter.ensures.1 in
-    let s = subst (λ (h : Hosting). StandsAt c.args.path.now c.args.port h) (sym c.self.view_is) c.requires.port in
+    let s = subst (λ (h : Hosting). StandsAt c.args.path.now c.args.port h) (sym c.self.view_is) (placed known c.requires.port) in
     let away = subst (λ (h : Hosting). has_at c.args.path.now h.entries ≡ false) (sym c.self.view_is) c.requires.away in
     let tier = c.tier.ensures in
     let found = subst (λ m. Enumerates c.args.port.port c.self.inside.pool m c.args.port.supply (g.B.Bus.world c.self.inside.bus) (Ok c.in_ok-finding.finding) (g.B.Bus.world c.enumerate.new.bus)) tier

@@ -25,21 +25,21 @@ use Rattle.usb_host.proofs.ServedWork.{rests_holds}
 use Rattle.usb_host.proofs.host.Host.drop_hub.Goals as goal
 
 pub returns-in_err-lost-clause-counts : goal.returns-in_err-lost-clause-counts
-returns-in_err-lost-clause-counts g c =
-    record { holds = rests_holds _ c.args.self.now c.disable_upward.new.self c.disable_upward.ensures.goes c.in_err-lost.ensures.rests; hubs = on_failed c.from_residual.result _ c.from_residual.ensures.0 }
+returns-in_err-lost-clause-counts g c known =
+    record { holds = rests_holds _ c.args.self.now c.disable_upward.new.self (c.disable_upward.ensures.goes known) c.in_err-lost.ensures.rests; hubs = on_failed c.from_residual.result _ c.from_residual.ensures.0 }
 
 pub returns-in_err-insert-clause-counts : goal.returns-in_err-insert-clause-counts
-returns-in_err-insert-clause-counts g c =
+returns-in_err-insert-clause-counts g c known =
     let same = ap waiting (ap (λ (t : Table). t.entries) c.in_err-insert.ensures.err ∙ ap (λ (h : Hosting). h.entries) c.self.view_is) in
     let fewer : waiting c.insert.new.self.entries ≤ waiting c.forget.new.self.entries = omega (arith, same) in
     record {
-      holds = dropped _ c.in_ok-lost.lost c.args.self.now c.disable_upward.new.self c.forget.new.self (g.B.Bus.world c.self.inside.bus) (g.B.Bus.trace c.self.inside.bus) c.insert.new.self.entries c.disable_upward.ensures.goes c.in_ok-lost.ensures.rests
+      holds = dropped _ c.in_ok-lost.lost c.args.self.now c.disable_upward.new.self c.forget.new.self (g.B.Bus.world c.self.inside.bus) (g.B.Bus.trace c.self.inside.bus) c.insert.new.self.entries (c.disable_upward.ensures.goes known) c.in_ok-lost.ensures.rests
           c.forget.ensures.others c.forget.ensures.rest (ap (λ (h : Hosting). h.world) c.self.view_is) fewer;
       hubs = on_failed c.from_residual-in_err-insert.result _ c.from_residual-in_err-insert.ensures.0;
     }
 
 pub returns-clause-counts : goal.returns-clause-counts
-returns-clause-counts g c =
+returns-clause-counts g c known =
     let path = c.in_ok-lost.lost in
     let table = ap (λ (h : Hosting). waiting h.entries) c.self.view_is in
     let more = waiting-entered_other path (Refused Lost) c.self.inside.table.entries refl in
@@ -47,9 +47,9 @@ returns-clause-counts g c =
     let fewer : waiting c.insert.new.self.entries ≤ waiting c.forget.new.self.entries = omega (arith, table, more, entry) in
     let left = c.forget.ensures.rest ∙ ap (λ (h : Hosting). without path h.entries) c.in_ok-lost.ensures.rests in
     let entered = ap (λ (t : Table). t.entries) c.in_ok-insert.ensures.ok ∙ ap (λ (h : Hosting). insert_entry path_cmp h.entries path (Refused Lost)) c.self.view_is in
-    let climbs = subst (λ r. Climbs c.args.hub c.args.self.now r c.disable_upward.new.self) c.in_ok-lost.was c.disable_upward.ensures.climbs in
+    let climbs = subst (λ r. Climbs c.args.hub c.args.self.now r c.disable_upward.new.self) c.in_ok-lost.was (c.disable_upward.ensures.climbs known) in
     record {
-      holds = dropped _ path c.args.self.now c.disable_upward.new.self c.forget.new.self (g.B.Bus.world c.self.inside.bus) (g.B.Bus.trace c.self.inside.bus) c.insert.new.self.entries c.disable_upward.ensures.goes c.in_ok-lost.ensures.rests
+      holds = dropped _ path c.args.self.now c.disable_upward.new.self c.forget.new.self (g.B.Bus.world c.self.inside.bus) (g.B.Bus.trace c.self.inside.bus) c.insert.new.self.entries (c.disable_upward.ensures.goes known) c.in_ok-lost.ensures.rests
           c.forget.ensures.others c.forget.ensures.rest (ap (λ (h : Hosting). h.world) c.self.view_is) fewer;
       hubs = λ some. hubs-dropped path c.args.hub c.args.self.now.entries c.forget.new.self.entries _ climbs.bares.on left entered some;
     }
@@ -69,19 +69,19 @@ invariant_of-self-2 g c =
     })
 
 pub returns-in_err-lost-clause-owned : goal.returns-in_err-lost-clause-owned
-returns-in_err-lost-clause-owned g c = drop_fails c.args.hub c.args.self.now c.from_residual.result c.disable_upward.new.self c.from_residual.ensures.0 c.in_err-lost.ensures.climbs.bares
+returns-in_err-lost-clause-owned g c known = drop_fails c.args.hub c.args.self.now c.from_residual.result c.disable_upward.new.self c.from_residual.ensures.0 (c.in_err-lost.ensures.climbs known).bares
 
 pub returns-clause-owned : goal.returns-clause-owned
-returns-clause-owned g c =
+returns-clause-owned g c known =
     let here : g.B.Bus.world c.self.inside.bus ≡ c.forget.new.self.world = ap (λ (h : Hosting). h.world) c.self.view_is in
     let entered = ap (λ (t : Table). t.entries) c.in_ok-insert.ensures.ok ∙ ap (λ (h : Hosting). insert_entry path_cmp h.entries c.in_ok-lost.lost (Refused Lost)) c.self.view_is in
-    drop_ends c.args.hub c.in_ok-lost.lost c.args.self.now c.disable_upward.new.self c.forget.new.self _ c.numbers-numbers.ensures.path c.in_ok-lost.ensures.rests c.disable_upward.ensures.goes.went.spends.roots c.in_ok-lost.ensures.climbs.bares c.forget.ensures.others c.forget.ensures.rest c.forget.ensures.gone here entered
+    drop_ends c.args.hub c.in_ok-lost.lost c.args.self.now c.disable_upward.new.self c.forget.new.self _ c.numbers-numbers.ensures.path c.in_ok-lost.ensures.rests (c.disable_upward.ensures.goes known).went.spends.roots (c.in_ok-lost.ensures.climbs known).bares c.forget.ensures.others c.forget.ensures.rest c.forget.ensures.gone here entered
 
 pub returns-clause-sound : goal.returns-clause-sound
-returns-clause-sound g c =
+returns-clause-sound g c known =
     let here : g.B.Bus.world c.self.inside.bus ≡ c.forget.new.self.world = ap (λ (h : Hosting). h.world) c.self.view_is in
     let entered = ap (λ (t : Table). t.entries) c.in_ok-insert.ensures.ok ∙ ap (λ (h : Hosting). insert_entry path_cmp h.entries c.in_ok-lost.lost (Refused Lost)) c.self.view_is in
-    let drops = drop_ends c.args.hub c.in_ok-lost.lost c.args.self.now c.disable_upward.new.self c.forget.new.self _ c.numbers-numbers.ensures.path c.in_ok-lost.ensures.rests c.disable_upward.ensures.goes.went.spends.roots c.in_ok-lost.ensures.climbs.bares c.forget.ensures.others c.forget.ensures.rest c.forget.ensures.gone here entered in
+    let drops = drop_ends c.args.hub c.in_ok-lost.lost c.args.self.now c.disable_upward.new.self c.forget.new.self _ c.numbers-numbers.ensures.path c.in_ok-lost.ensures.rests (c.disable_upward.ensures.goes known).went.spends.roots (c.in_ok-lost.ensures.climbs known).bares c.forget.ensures.others c.forget.ensures.rest c.forget.ensures.gone here entered in
     let table = c.in_ok-insert.ensures.ok ∙ ap (λ (h : Hosting). with_entry c.in_ok-lost.lost (Refused Lost) (table_in h)) c.self.view_is in
-    let climbs = subst (λ r. Climbs c.args.hub c.args.self.now r c.disable_upward.new.self) c.in_ok-lost.was c.disable_upward.ensures.climbs in
-    lost_drops c.in_ok-lost.lost c.disable_upward.new.self c.forget.new.self _ c.numbers-numbers.ensures.path.0 c.forget.ensures.others c.forget.ensures.rest c.forget.ensures.freed.pipes c.forget.ensures.gone here table c.args.hub c.args.self.now c.in_ok-lost.ensures.rests c.disable_upward.ensures.goes.went.spends.onward climbs drops
+    let climbs = subst (λ r. Climbs c.args.hub c.args.self.now r c.disable_upward.new.self) c.in_ok-lost.was (c.disable_upward.ensures.climbs known) in
+    lost_drops c.in_ok-lost.lost c.disable_upward.new.self c.forget.new.self _ c.numbers-numbers.ensures.path.0 c.forget.ensures.others c.forget.ensures.rest c.forget.ensures.freed.pipes c.forget.ensures.gone here table c.args.hub c.args.self.now c.in_ok-lost.ensures.rests (c.disable_upward.ensures.goes known).went.spends.onward climbs drops

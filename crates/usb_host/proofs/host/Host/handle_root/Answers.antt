@@ -8,8 +8,8 @@ use Rattle.usb_host.proofs.host.Host.handle_root.Goals as goal
 
 pub handle-requires : goal.handle-requires
 handle-requires g c =
-    rw (c.root_path.ensures, c.supply.ensures) (root_stands c.args.number c.args.self.now c.requires.port c.requires.number (subst (λ (h : Hosting). Agrees h.entries h.addresses) c.self.view_is c.self.invariant))
+    rw (c.root_path.ensures, c.supply.ensures) (root_stands _ c.args.number c.args.self.now c.requires.port c.requires.number (subst (λ (h : Hosting). Agrees h.entries h.addresses) c.self.view_is c.self.invariant))
 
 pub returns-clause-handles : goal.returns-clause-handles
-returns-clause-handles g c =
-    subst (λ (p : List ℕ). HandlesPort p ((root_port_at c.args.self.now.world c.args.number).connection_changed ≡ true) c.args.self.now c.handle.result c.handle.new.self) c.root_path.ensures c.handle.ensures.handles
+returns-clause-handles g c known =
+    subst (λ (p : List ℕ). HandlesPort p ((root_port_at c.args.self.now.world c.args.number).connection_changed ≡ true) c.args.self.now c.handle.result c.handle.new.self) c.root_path.ensures (c.handle.ensures.handles known)

@@ -1,4 +1,4 @@
-use Rattle.std.proofs.Common.{◌≡◌, ◌-◌, ◌*◌, None}
+use Rattle.std.proofs.Common.{◌≡◌, ◌-◌, ◌*◌, None, true}
 use Rattle.std.specs.Prelude.{IfSome}
 use Rattle.usb_port.specs.Path.{IsPath}
 use Rattle.usb_host.specs.Bounds.{handling_bound}
@@ -12,13 +12,13 @@ use Rattle.usb_host.proofs.host.Host.look_again.Given as goal
 
 abbrev pub invariant-waiting : goal.invariant-waiting
 invariant-waiting g l = record {
-  goes : HostGoes (rank_after l.last * handling_bound) l.initial.self l.self;
-  did : Did l.round l.initial.self l.self;
-  owned : StaysOwned l.initial.self l.self;
-  sound : PartStays l.initial.self l.self;
-  none : IsRooted l.initial.self → l.round ≡ Quiet → (l.self ≡ l.initial.self) × (l.last ≡ None);
+  goes : g.B.Bus.modelled ≡ true → HostGoes (rank_after l.last * handling_bound) l.initial.self l.self;
+  did : g.B.Bus.modelled ≡ true → Did l.round l.initial.self l.self;
+  owned : g.B.Bus.modelled ≡ true → StaysOwned l.initial.self l.self;
+  sound : g.B.Bus.modelled ≡ true → PartStays l.initial.self l.self;
+  none : g.B.Bus.modelled ≡ true → IsRooted l.initial.self → l.round ≡ Quiet → (l.self ≡ l.initial.self) × (l.last ≡ None);
   idle : NoneWait l.initial.self.entries → (l.round ≡ Quiet) × (l.self ≡ l.initial.self);
-  looked : IsSound l.initial.self → LookedAgain l.last l.round l.initial.self l.self;
+  looked : g.B.Bus.modelled ≡ true → IsSound l.initial.self → LookedAgain l.last l.round l.initial.self l.self;
   path : IfSome l.last IsPath;
 }
 

@@ -1,3 +1,4 @@
+use Rattle.usb_host.proofs.Stations.{placed}
 use Rattle.std.proofs.Common.{◌∙◌, arith, subst, Err, Ok}
 use Rattle.std.proofs.lemmas.Result.{err_from_is_err_and}
 use Rattle.std.specs.Prelude.{IfErr}
@@ -21,124 +22,124 @@ use Rattle.usb_host.proofs.Plugs.{plugs_rests, plugs_then}
 use Rattle.usb_host.proofs.host.Host.serve.Goals as goal
 
 pub returns-then-status-clause-goes : goal.returns-then-status-clause-goes
-returns-then-status-clause-goes g c = goes_then _ _ _ _ _ _ c.status.ensures.goes c.look.ensures.goes (omega arith)
+returns-then-status-clause-goes g c known = goes_then _ _ _ _ _ _ (c.status.ensures.goes known) (c.look.ensures.goes known) (omega arith)
 
 pub returns-else-status-clause-goes : goal.returns-else-status-clause-goes
-returns-else-status-clause-goes g c = goes_then _ _ _ _ _ _ c.status.ensures.goes c.tidy.ensures.goes (omega arith)
+returns-else-status-clause-goes g c known = goes_then _ _ _ _ _ _ (c.status.ensures.goes known) (c.tidy.ensures.goes known) (omega arith)
 
 pub returns-in_err-status-clause-owned : goal.returns-in_err-status-clause-owned
-returns-in_err-status-clause-owned g c = port_rests c.args.path.now c.args.self.now _ _ c.in_err-status.ensures.rests c.status.ensures.goes.went.spends.roots c.in_err-status.ensures.watches.addresses
+returns-in_err-status-clause-owned g c known = port_rests c.args.path.now c.args.self.now _ _ c.in_err-status.ensures.rests (c.status.ensures.goes known).went.spends.roots (c.in_err-status.ensures.watches known).addresses
 
 pub returns-then-status-clause-owned : goal.returns-then-status-clause-owned
-returns-then-status-clause-owned g c =
-    port_then c.args.path.now c.args.self.now _ _ _ (stays_rests c.args.self.now c.status.new.self c.in_ok-status.ensures.rests c.status.ensures.goes.went.spends.roots c.in_ok-status.ensures.watches.addresses) c.look.ensures.looks.owned
+returns-then-status-clause-owned g c known =
+    port_then c.args.path.now c.args.self.now _ _ _ (stays_rests c.args.self.now c.status.new.self c.in_ok-status.ensures.rests (c.status.ensures.goes known).went.spends.roots (c.in_ok-status.ensures.watches known).addresses) (c.look.ensures.looks known).owned
 
 pub returns-else-status-clause-owned : goal.returns-else-status-clause-owned
-returns-else-status-clause-owned g c =
-    port_rests c.args.path.now c.args.self.now _ _ (rests_then c.args.self.now c.status.new.self c.tidy.new.self c.in_ok-status.ensures.rests c.tidy.ensures.rests) (c.tidy.ensures.goes.went.spends.roots ∙ c.status.ensures.goes.went.spends.roots) (keeps_then c.args.self.now.world c.status.new.self.world c.tidy.new.self.world c.in_ok-status.ensures.watches.addresses c.tidy.ensures.tidies.addresses)
+returns-else-status-clause-owned g c known =
+    port_rests c.args.path.now c.args.self.now _ _ (rests_then c.args.self.now c.status.new.self c.tidy.new.self c.in_ok-status.ensures.rests c.tidy.ensures.rests) ((c.tidy.ensures.goes known).went.spends.roots ∙ (c.status.ensures.goes known).went.spends.roots) (keeps_then c.args.self.now.world c.status.new.self.world c.tidy.new.self.world (c.in_ok-status.ensures.watches known).addresses (c.tidy.ensures.tidies known).addresses)
 
 pub returns-in_err-status-clause-sound : goal.returns-in_err-status-clause-sound
-returns-in_err-status-clause-sound g c =
+returns-in_err-status-clause-sound g c known =
     let told = err_from_is_err_and c.from_residual.result c.from_residual.ensures.1 in
-    let fault = subst (λ r. IfErr r (λ fault. FaultAt c.args.port.port fault c.status.new.self.world)) c.in_err-status.was c.status.ensures.told in
-    let watches = subst (λ r. Watches c.args.port.port c.args.self.now.world r c.status.new.self.world) c.in_err-status.was c.status.ensures.watches in
+    let fault = subst (λ r. IfErr r (λ fault. FaultAt c.args.port.port fault c.status.new.self.world)) c.in_err-status.was (c.status.ensures.told known) in
+    let watches = subst (λ r. Watches c.args.port.port c.args.self.now.world r c.status.new.self.world) c.in_err-status.was (c.status.ensures.watches known) in
     rw (told.1, told.2) (record {
-      sound = watched_lost _ c.args.path.now c.args.port c.args.self.now c.status.new.self c.requires c.in_err-status.ensures.rests c.status.ensures.goes.went c.in_err-status.field-0.0 watches fault;
-      bulk = λ i on still. bulk_stays _ _ (watched_stay _ c.args.path.now c.args.port c.args.self.now c.status.new.self c.requires c.in_err-status.ensures.rests c.status.ensures.goes.went (Err c.in_err-status.field-0.0) watches i);
-      plugs = λ i still. plugs_rests _ c.args.self.now c.status.new.self c.status.ensures.goes.went c.in_err-status.ensures.rests;
-      caused = watched_caused _ c.args.path.now c.args.port c.args.self.now c.status.new.self c.requires c.in_err-status.ensures.rests c.status.ensures.goes.went c.in_err-status.field-0.0 watches fault;
+      sound = watched_lost _ c.args.path.now c.args.port c.args.self.now c.status.new.self (placed known c.requires) c.in_err-status.ensures.rests (c.status.ensures.goes known).went c.in_err-status.field-0.0 watches fault;
+      bulk = λ i on still. bulk_stays _ _ (watched_stay _ c.args.path.now c.args.port c.args.self.now c.status.new.self (placed known c.requires) c.in_err-status.ensures.rests (c.status.ensures.goes known).went (Err c.in_err-status.field-0.0) watches i);
+      plugs = λ i still. plugs_rests _ c.args.self.now c.status.new.self (c.status.ensures.goes known).went c.in_err-status.ensures.rests;
+      caused = watched_caused _ c.args.path.now c.args.port c.args.self.now c.status.new.self (placed known c.requires) c.in_err-status.ensures.rests (c.status.ensures.goes known).went c.in_err-status.field-0.0 watches fault;
     })
 
 pub returns-then-status-clause-sound : goal.returns-then-status-clause-sound
-returns-then-status-clause-sound g c =
-    let watches = subst (λ r. Watches c.args.port.port c.args.self.now.world r c.status.new.self.world) c.in_ok-status.was c.status.ensures.watches in
+returns-then-status-clause-sound g c known =
+    let watches = subst (λ r. Watches c.args.port.port c.args.self.now.world r c.status.new.self.world) c.in_ok-status.was (c.status.ensures.watches known) in
     record {
-      sound = λ i. c.look.ensures.looks.sound.sound (watched_sound _ c.args.path.now c.args.port c.args.self.now c.status.new.self c.requires c.in_ok-status.ensures.rests c.status.ensures.goes.went c.in_ok-status.status watches i);
+      sound = λ i. (c.look.ensures.looks known).sound.sound (watched_sound _ c.args.path.now c.args.port c.args.self.now c.status.new.self (placed known c.requires) c.in_ok-status.ensures.rests (c.status.ensures.goes known).went c.in_ok-status.status watches i);
       bulk = λ i on still.
-          bulk_then _ _ c.args.self.now c.status.new.self c.look.new.self c.status.ensures.goes.went c.look.ensures.goes.went still
-          (bulk_stays _ _ (watched_stay _ c.args.path.now c.args.port c.args.self.now c.status.new.self c.requires c.in_ok-status.ensures.rests c.status.ensures.goes.went (Ok c.in_ok-status.status) watches i))
-          (c.look.ensures.looks.sound.bulk (watched_sound _ c.args.path.now c.args.port c.args.self.now c.status.new.self c.requires c.in_ok-status.ensures.rests c.status.ensures.goes.went c.in_ok-status.status watches i) on still);
+          bulk_then _ _ c.args.self.now c.status.new.self c.look.new.self (c.status.ensures.goes known).went (c.look.ensures.goes known).went still
+          (bulk_stays _ _ (watched_stay _ c.args.path.now c.args.port c.args.self.now c.status.new.self (placed known c.requires) c.in_ok-status.ensures.rests (c.status.ensures.goes known).went (Ok c.in_ok-status.status) watches i))
+          ((c.look.ensures.looks known).sound.bulk (watched_sound _ c.args.path.now c.args.port c.args.self.now c.status.new.self (placed known c.requires) c.in_ok-status.ensures.rests (c.status.ensures.goes known).went c.in_ok-status.status watches i) on still);
       plugs = λ i still.
-          plugs_then _ _ c.args.self.now c.status.new.self c.look.new.self c.status.ensures.goes.went c.look.ensures.goes.went still
-          (plugs_rests _ c.args.self.now c.status.new.self c.status.ensures.goes.went c.in_ok-status.ensures.rests)
-          (c.look.ensures.looks.sound.plugs (watched_sound _ c.args.path.now c.args.port c.args.self.now c.status.new.self c.requires c.in_ok-status.ensures.rests c.status.ensures.goes.went c.in_ok-status.status watches i) still);
+          plugs_then _ _ c.args.self.now c.status.new.self c.look.new.self (c.status.ensures.goes known).went (c.look.ensures.goes known).went still
+          (plugs_rests _ c.args.self.now c.status.new.self (c.status.ensures.goes known).went c.in_ok-status.ensures.rests)
+          ((c.look.ensures.looks known).sound.plugs (watched_sound _ c.args.path.now c.args.port c.args.self.now c.status.new.self (placed known c.requires) c.in_ok-status.ensures.rests (c.status.ensures.goes known).went c.in_ok-status.status watches i) still);
       caused = λ i fair caused.
-          let half = fair_before _ c.args.self.now.world c.status.new.self.world c.look.new.self.world c.look.ensures.goes.went fair in
-          c.look.ensures.looks.sound.caused (watched_sound _ c.args.path.now c.args.port c.args.self.now c.status.new.self c.requires c.in_ok-status.ensures.rests c.status.ensures.goes.went c.in_ok-status.status watches i)
-          (fair_after _ c.args.self.now.world c.status.new.self.world c.look.new.self.world c.status.ensures.goes.went fair)
-          (causes_rests _ c.args.self.now c.status.new.self c.in_ok-status.ensures.rests c.status.ensures.goes.went c.requires.agrees half.still (watches.rests tt) i caused);
+          let half = fair_before _ c.args.self.now.world c.status.new.self.world c.look.new.self.world (c.look.ensures.goes known).went fair in
+          (c.look.ensures.looks known).sound.caused (watched_sound _ c.args.path.now c.args.port c.args.self.now c.status.new.self (placed known c.requires) c.in_ok-status.ensures.rests (c.status.ensures.goes known).went c.in_ok-status.status watches i)
+          (fair_after _ c.args.self.now.world c.status.new.self.world c.look.new.self.world (c.status.ensures.goes known).went fair)
+          (causes_rests _ c.args.self.now c.status.new.self c.in_ok-status.ensures.rests (c.status.ensures.goes known).went c.requires.agrees half.still (watches.rests tt) i caused);
     }
 
 pub returns-else-status-clause-sound : goal.returns-else-status-clause-sound
-returns-else-status-clause-sound g c =
-    let watches = subst (λ r. Watches c.args.port.port c.args.self.now.world r c.status.new.self.world) c.in_ok-status.was c.status.ensures.watches in
-    let stands = rests_stands _ c.args.path.now c.args.port c.args.self.now c.status.new.self c.requires c.in_ok-status.ensures.rests c.status.ensures.goes.went in
+returns-else-status-clause-sound g c known =
+    let watches = subst (λ r. Watches c.args.port.port c.args.self.now.world r c.status.new.self.world) c.in_ok-status.was (c.status.ensures.watches known) in
+    let stands = rests_stands _ c.args.path.now c.args.port c.args.self.now c.status.new.self (placed known c.requires) c.in_ok-status.ensures.rests (c.status.ensures.goes known).went in
     record {
-      sound = λ i. tidied_port _ c.args.path.now c.args.port c.status.new.self c.tidy.new.self stands c.tidy.ensures.rests c.tidy.ensures.goes.went c.tidy.result c.tidy.ensures.tidies c.tidy.ensures.told
-          (watched_sound _ c.args.path.now c.args.port c.args.self.now c.status.new.self c.requires c.in_ok-status.ensures.rests c.status.ensures.goes.went c.in_ok-status.status watches i);
+      sound = λ i. tidied_port _ c.args.path.now c.args.port c.status.new.self c.tidy.new.self stands c.tidy.ensures.rests (c.tidy.ensures.goes known).went c.tidy.result (c.tidy.ensures.tidies known) (c.tidy.ensures.told known)
+          (watched_sound _ c.args.path.now c.args.port c.args.self.now c.status.new.self (placed known c.requires) c.in_ok-status.ensures.rests (c.status.ensures.goes known).went c.in_ok-status.status watches i);
       bulk = λ i on still.
-          bulk_stays _ _ (stay_joined c.args.self.now c.status.new.self c.tidy.new.self (watched_stay _ c.args.path.now c.args.port c.args.self.now c.status.new.self c.requires c.in_ok-status.ensures.rests c.status.ensures.goes.went (Ok c.in_ok-status.status) watches i)
-          (tidied_stay _ c.args.path.now c.args.port c.status.new.self c.tidy.new.self stands c.tidy.ensures.rests c.tidy.ensures.goes.went c.tidy.result c.tidy.ensures.tidies
-          (watched_sound _ c.args.path.now c.args.port c.args.self.now c.status.new.self c.requires c.in_ok-status.ensures.rests c.status.ensures.goes.went c.in_ok-status.status watches i)));
+          bulk_stays _ _ (stay_joined c.args.self.now c.status.new.self c.tidy.new.self (watched_stay _ c.args.path.now c.args.port c.args.self.now c.status.new.self (placed known c.requires) c.in_ok-status.ensures.rests (c.status.ensures.goes known).went (Ok c.in_ok-status.status) watches i)
+          (tidied_stay _ c.args.path.now c.args.port c.status.new.self c.tidy.new.self stands c.tidy.ensures.rests (c.tidy.ensures.goes known).went c.tidy.result (c.tidy.ensures.tidies known)
+          (watched_sound _ c.args.path.now c.args.port c.args.self.now c.status.new.self (placed known c.requires) c.in_ok-status.ensures.rests (c.status.ensures.goes known).went c.in_ok-status.status watches i)));
       plugs = λ i still.
-          plugs_then _ _ c.args.self.now c.status.new.self c.tidy.new.self c.status.ensures.goes.went c.tidy.ensures.goes.went still
-          (plugs_rests _ c.args.self.now c.status.new.self c.status.ensures.goes.went c.in_ok-status.ensures.rests) (plugs_rests _ c.status.new.self c.tidy.new.self c.tidy.ensures.goes.went c.tidy.ensures.rests);
+          plugs_then _ _ c.args.self.now c.status.new.self c.tidy.new.self (c.status.ensures.goes known).went (c.tidy.ensures.goes known).went still
+          (plugs_rests _ c.args.self.now c.status.new.self (c.status.ensures.goes known).went c.in_ok-status.ensures.rests) (plugs_rests _ c.status.new.self c.tidy.new.self (c.tidy.ensures.goes known).went c.tidy.ensures.rests);
       caused = λ i fair caused.
-          let half = fair_before _ c.args.self.now.world c.status.new.self.world c.tidy.new.self.world c.tidy.ensures.goes.went fair in
-          tidied_caused _ c.args.path.now c.args.port c.status.new.self c.tidy.new.self stands c.tidy.ensures.rests c.tidy.ensures.goes.went c.tidy.result c.tidy.ensures.tidies c.tidy.ensures.told
-          (watched_sound _ c.args.path.now c.args.port c.args.self.now c.status.new.self c.requires c.in_ok-status.ensures.rests c.status.ensures.goes.went c.in_ok-status.status watches i)
-          (fair_after _ c.args.self.now.world c.status.new.self.world c.tidy.new.self.world c.status.ensures.goes.went fair)
-          (causes_rests _ c.args.self.now c.status.new.self c.in_ok-status.ensures.rests c.status.ensures.goes.went c.requires.agrees half.still (watches.rests tt) i caused);
+          let half = fair_before _ c.args.self.now.world c.status.new.self.world c.tidy.new.self.world (c.tidy.ensures.goes known).went fair in
+          tidied_caused _ c.args.path.now c.args.port c.status.new.self c.tidy.new.self stands c.tidy.ensures.rests (c.tidy.ensures.goes known).went c.tidy.result (c.tidy.ensures.tidies known) (c.tidy.ensures.told known)
+          (watched_sound _ c.args.path.now c.args.port c.args.self.now c.status.new.self (placed known c.requires) c.in_ok-status.ensures.rests (c.status.ensures.goes known).went c.in_ok-status.status watches i)
+          (fair_after _ c.args.self.now.world c.status.new.self.world c.tidy.new.self.world (c.status.ensures.goes known).went fair)
+          (causes_rests _ c.args.self.now c.status.new.self c.in_ok-status.ensures.rests (c.status.ensures.goes known).went c.requires.agrees half.still (watches.rests tt) i caused);
     }
 
 pub returns-in_err-status-clause-serves : goal.returns-in_err-status-clause-serves
-returns-in_err-status-clause-serves g c =
+returns-in_err-status-clause-serves g c known =
     let told = err_from_is_err_and c.from_residual.result c.from_residual.ensures.1 in
-    let watches = subst (λ r. Watches c.args.port.port c.args.self.now.world r c.status.new.self.world) c.in_err-status.was c.status.ensures.watches in
-    let shown = subst (λ r. Shown c.args.port.port r c.args.self.now.world c.status.new.self.world) c.in_err-status.was c.status.ensures.shown in
+    let watches = subst (λ r. Watches c.args.port.port c.args.self.now.world r c.status.new.self.world) c.in_err-status.was (c.status.ensures.watches known) in
+    let shown = subst (λ r. Shown c.args.port.port r c.args.self.now.world c.status.new.self.world) c.in_err-status.was (c.status.ensures.shown known) in
     rw (told.1, told.2) (record {
       on = λ due. status_lost_on c.args.port.port c.args.self.now c.status.new.self c.in_err-status.ensures.rests c.in_err-status.field-0.0 shown;
       pays = record {
-        pays = λ i ports still. status_lost c.args.path.now c.args.port c.args.self.now c.status.new.self c.requires c.in_err-status.ensures.rests c.status.ensures.goes.went i ports c.in_err-status.field-0.0 watches;
-        few = λ i most plan. omega (arith, c.status.ensures.goes.went.spends.most);
+        pays = λ i ports still. status_lost c.args.path.now c.args.port c.args.self.now c.status.new.self (placed known c.requires) c.in_err-status.ensures.rests (c.status.ensures.goes known).went i ports c.in_err-status.field-0.0 watches;
+        few = λ i most plan. omega (arith, (c.status.ensures.goes known).went.spends.most);
       };
       hubs = omega (arith, hubs-rest c.args.self.now c.status.new.self c.in_err-status.ensures.rests);
-      served = λ o. status_failed c.args.path.now c.args.port c.args.self.now c.status.new.self c.requires c.in_err-status.ensures.rests _ c.status.ensures.goes.went o c.in_err-status.field-0.0;
+      served = λ o. status_failed c.args.path.now c.args.port c.args.self.now c.status.new.self (placed known c.requires) c.in_err-status.ensures.rests _ (c.status.ensures.goes known).went o c.in_err-status.field-0.0;
     })
 
 pub returns-then-status-clause-serves : goal.returns-then-status-clause-serves
-returns-then-status-clause-serves g c =
-    let watches = subst (λ r. Watches c.args.port.port c.args.self.now.world r c.status.new.self.world) c.in_ok-status.was c.status.ensures.watches in
-    let shown = subst (λ r. Shown c.args.port.port r c.args.self.now.world c.status.new.self.world) c.in_ok-status.was c.status.ensures.shown in
+returns-then-status-clause-serves g c known =
+    let watches = subst (λ r. Watches c.args.port.port c.args.self.now.world r c.status.new.self.world) c.in_ok-status.was (c.status.ensures.watches known) in
+    let shown = subst (λ r. Shown c.args.port.port r c.args.self.now.world c.status.new.self.world) c.in_ok-status.was (c.status.ensures.shown known) in
     record {
-      on = λ due. looked_on _ c.args.port.port c.args.self.now c.status.new.self c.look.new.self c.look.result c.in_ok-status.status c.in_ok-status.ensures.rests shown c.status.ensures.goes c.look.ensures.served due;
+      on = λ due. looked_on _ c.args.port.port c.args.self.now c.status.new.self c.look.new.self c.look.result c.in_ok-status.status c.in_ok-status.ensures.rests shown (c.status.ensures.goes known) (c.look.ensures.served known) due;
       pays = record {
         pays = λ i ports still.
-            let now = watched_sound _ c.args.path.now c.args.port c.args.self.now c.status.new.self c.requires c.in_ok-status.ensures.rests c.status.ensures.goes.went c.in_ok-status.status watches i in
-            let told = told_there c.args.path.now c.args.port c.args.self.now c.status.new.self c.requires c.in_ok-status.ensures.rests c.status.ensures.goes.went i ports c.in_ok-status.status watches in
-            after_look c.args.path.now c.args.port c.args.self.now c.status.new.self c.requires c.in_ok-status.ensures.rests c.status.ensures.goes.went i ports c.in_ok-status.status watches c.look.result c.look.new.self
-            (c.look.ensures.anew.pays.pays now still c.args.self.now.world c.in_ok-status.status ports told c.if-status.true);
+            let now = watched_sound _ c.args.path.now c.args.port c.args.self.now c.status.new.self (placed known c.requires) c.in_ok-status.ensures.rests (c.status.ensures.goes known).went c.in_ok-status.status watches i in
+            let told = told_there c.args.path.now c.args.port c.args.self.now c.status.new.self (placed known c.requires) c.in_ok-status.ensures.rests (c.status.ensures.goes known).went i ports c.in_ok-status.status watches in
+            after_look c.args.path.now c.args.port c.args.self.now c.status.new.self (placed known c.requires) c.in_ok-status.ensures.rests (c.status.ensures.goes known).went i ports c.in_ok-status.status watches c.look.result c.look.new.self
+            ((c.look.ensures.anew known).pays.pays now still c.args.self.now.world c.in_ok-status.status ports told c.if-status.true);
         few = λ i most plan.
-            let now = watched_sound _ c.args.path.now c.args.port c.args.self.now c.status.new.self c.requires c.in_ok-status.ensures.rests c.status.ensures.goes.went c.in_ok-status.status watches i in
-            omega (arith, c.status.ensures.goes.went.spends.most, c.look.ensures.anew.pays.few now most (within_on most _ c.args.self.now c.status.new.self c.status.ensures.goes.went plan));
+            let now = watched_sound _ c.args.path.now c.args.port c.args.self.now c.status.new.self (placed known c.requires) c.in_ok-status.ensures.rests (c.status.ensures.goes known).went c.in_ok-status.status watches i in
+            omega (arith, (c.status.ensures.goes known).went.spends.most, (c.look.ensures.anew known).pays.few now most (within_on most _ c.args.self.now c.status.new.self (c.status.ensures.goes known).went plan));
       };
-      hubs = omega (arith, hubs-rest c.args.self.now c.status.new.self c.in_ok-status.ensures.rests, c.look.ensures.anew.hubs);
-      served = λ o. serves_looked c.args.path.now c.args.port c.args.self.now c.status.new.self c.requires c.in_ok-status.ensures.rests _ c.status.ensures.goes.went o c.in_ok-status.status watches c.if-status.true c.look.result c.look.new.self c.look.ensures.anew.looked;
+      hubs = omega (arith, hubs-rest c.args.self.now c.status.new.self c.in_ok-status.ensures.rests, (c.look.ensures.anew known).hubs);
+      served = λ o. serves_looked c.args.path.now c.args.port c.args.self.now c.status.new.self (placed known c.requires) c.in_ok-status.ensures.rests _ (c.status.ensures.goes known).went o c.in_ok-status.status watches c.if-status.true c.look.result c.look.new.self (c.look.ensures.anew known).looked;
     }
 
 pub returns-else-status-clause-serves : goal.returns-else-status-clause-serves
-returns-else-status-clause-serves g c =
-    let watches = subst (λ r. Watches c.args.port.port c.args.self.now.world r c.status.new.self.world) c.in_ok-status.was c.status.ensures.watches in
-    let shown = subst (λ r. Shown c.args.port.port r c.args.self.now.world c.status.new.self.world) c.in_ok-status.was c.status.ensures.shown in
+returns-else-status-clause-serves g c known =
+    let watches = subst (λ r. Watches c.args.port.port c.args.self.now.world r c.status.new.self.world) c.in_ok-status.was (c.status.ensures.watches known) in
+    let shown = subst (λ r. Shown c.args.port.port r c.args.self.now.world c.status.new.self.world) c.in_ok-status.was (c.status.ensures.shown known) in
     record {
-      on = λ due. tidied_on _ c.args.port.port c.args.self.now c.status.new.self c.tidy.new.self c.tidy.result c.in_ok-status.status c.in_ok-status.ensures.rests c.tidy.ensures.rests shown c.tidy.ensures.goes c.if-status.false due;
+      on = λ due. tidied_on _ c.args.port.port c.args.self.now c.status.new.self c.tidy.new.self c.tidy.result c.in_ok-status.status c.in_ok-status.ensures.rests c.tidy.ensures.rests shown (c.tidy.ensures.goes known) c.if-status.false due;
       pays = record {
         pays = λ i ports still.
-            let order = i.order (went_sound _ c.args.self.now.world c.status.new.self.world c.status.ensures.goes.went (went_sound _ c.status.new.self.world c.tidy.new.self.world c.tidy.ensures.goes.went still)) in
-            after_tidy c.args.path.now c.args.port c.args.self.now c.status.new.self c.requires c.in_ok-status.ensures.rests c.status.ensures.goes.went i ports c.in_ok-status.status watches c.if-status.false c.tidy.new.self (none_rests _ c.status.new.self c.tidy.new.self c.tidy.ensures.goes.went c.tidy.ensures.rests)
-            order c.tidy.result c.tidy.ensures.tidies c.tidy.ensures.clears.reset c.tidy.ensures.clears.calm;
-        few = λ i most plan. omega (arith, c.status.ensures.goes.went.spends.most, c.tidy.ensures.goes.went.spends.most);
+            let order = i.order (went_sound _ c.args.self.now.world c.status.new.self.world (c.status.ensures.goes known).went (went_sound _ c.status.new.self.world c.tidy.new.self.world (c.tidy.ensures.goes known).went still)) in
+            after_tidy c.args.path.now c.args.port c.args.self.now c.status.new.self (placed known c.requires) c.in_ok-status.ensures.rests (c.status.ensures.goes known).went i ports c.in_ok-status.status watches c.if-status.false c.tidy.new.self (none_rests _ c.status.new.self c.tidy.new.self (c.tidy.ensures.goes known).went c.tidy.ensures.rests)
+            order c.tidy.result (c.tidy.ensures.tidies known) (c.tidy.ensures.clears known).reset (c.tidy.ensures.clears known).calm;
+        few = λ i most plan. omega (arith, (c.status.ensures.goes known).went.spends.most, (c.tidy.ensures.goes known).went.spends.most);
       };
       hubs = omega (arith, hubs-rest c.args.self.now c.status.new.self c.in_ok-status.ensures.rests, hubs-rest c.status.new.self c.tidy.new.self c.tidy.ensures.rests);
-      served = λ o. serves_tidied c.args.path.now c.args.port c.args.self.now c.status.new.self c.requires c.in_ok-status.ensures.rests _ c.status.ensures.goes.went o c.in_ok-status.status watches c.if-status.false c.tidy.result c.tidy.new.self c.tidy.ensures.rests c.tidy.ensures.clears;
+      served = λ o. serves_tidied c.args.path.now c.args.port c.args.self.now c.status.new.self (placed known c.requires) c.in_ok-status.ensures.rests _ (c.status.ensures.goes known).went o c.in_ok-status.status watches c.if-status.false c.tidy.result c.tidy.new.self c.tidy.ensures.rests (c.tidy.ensures.clears known);
     }

@@ -1,4 +1,4 @@
-use Rattle.std.proofs.Common.{◌≡◌, ◌-◌, ◌*◌, None}
+use Rattle.std.proofs.Common.{◌≡◌, ◌-◌, ◌*◌, None, true}
 use Rattle.std.specs.Prelude.{[], IfSome}
 use Rattle.usb_port.specs.Path.{IsPath}
 use Rattle.usb_hub.specs.Requests.{AllRest}
@@ -15,14 +15,14 @@ use Rattle.usb_host.proofs.host.Host.serve_hubs.Given as goal
 
 abbrev pub invariant-hubs : goal.invariant-hubs
 invariant-hubs g l = record {
-  goes : HostGoes (rank_after l.last * hub_poll_bound) l.initial.self l.self;
-  did : Did l.round l.initial.self l.self;
-  owned : StaysOwned l.initial.self l.self;
-  sound : PartStays l.initial.self l.self;
-  calm : l.round ≡ Quiet → l.self.world.fault ≡ None → AllRest l.initial.self.world l.self.world;
-  polled : IsSound l.initial.self → l.round ≡ Quiet → l.self.world.fault ≡ None → l.self.world.taken ≡ l.initial.self.world.taken → Polled l.last l.self;
-  polls : IsSound l.initial.self → l.self.world.fault ≡ None → HubsPolled l.last l.round l.initial.self l.self;
-  pays : HubsSoFar l.last l.round l.initial.self l.self;
+  goes : g.B.Bus.modelled ≡ true → HostGoes (rank_after l.last * hub_poll_bound) l.initial.self l.self;
+  did : g.B.Bus.modelled ≡ true → Did l.round l.initial.self l.self;
+  owned : g.B.Bus.modelled ≡ true → StaysOwned l.initial.self l.self;
+  sound : g.B.Bus.modelled ≡ true → PartStays l.initial.self l.self;
+  calm : g.B.Bus.modelled ≡ true → l.round ≡ Quiet → l.self.world.fault ≡ None → AllRest l.initial.self.world l.self.world;
+  polled : g.B.Bus.modelled ≡ true → IsSound l.initial.self → l.round ≡ Quiet → l.self.world.fault ≡ None → l.self.world.taken ≡ l.initial.self.world.taken → Polled l.last l.self;
+  polls : g.B.Bus.modelled ≡ true → IsSound l.initial.self → l.self.world.fault ≡ None → HubsPolled l.last l.round l.initial.self l.self;
+  pays : g.B.Bus.modelled ≡ true → HubsSoFar l.last l.round l.initial.self l.self;
   idle : l.initial.self.entries ≡ [] → (l.round ≡ Quiet) × (l.self ≡ l.initial.self);
   path : IfSome l.last IsPath;
 }

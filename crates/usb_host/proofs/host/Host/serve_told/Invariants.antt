@@ -1,4 +1,4 @@
-use Rattle.std.proofs.Common.{◌-◌, ◌*◌}
+use Rattle.std.proofs.Common.{◌-◌, ◌*◌, ◌≡◌, true}
 use Rattle.usb_host.specs.Bounds.{handling_bound}
 use Rattle.usb_host.specs.Ownership.{IsOwned, StaysOwned}
 use Rattle.usb_host.specs.Progress.{HostGoes, AddsNoWork}
@@ -9,10 +9,10 @@ use Rattle.usb_host.proofs.host.Host.serve_told.Given as goal
 
 abbrev pub invariant-ports : goal.invariant-ports
 invariant-ports g l = record {
-  goes : HostGoes ((l.number - 1) * handling_bound) l.initial.self l.self;
-  holds : AddsNoWork l.initial.self l.self;
-  owned : StaysOwned l.initial.self l.self;
-  sound : PartStays l.initial.self l.self;
-  serves : IsOwned l.initial.self → ServedTold l.hub l.bits l.number l.initial.self l.self;
-  pays : ToldSoFar l.hub l.bits l.number l.initial.self l.self;
+  goes : g.B.Bus.modelled ≡ true → HostGoes ((l.number - 1) * handling_bound) l.initial.self l.self;
+  holds : g.B.Bus.modelled ≡ true → AddsNoWork l.initial.self l.self;
+  owned : g.B.Bus.modelled ≡ true → StaysOwned l.initial.self l.self;
+  sound : g.B.Bus.modelled ≡ true → PartStays l.initial.self l.self;
+  serves : g.B.Bus.modelled ≡ true → IsOwned l.initial.self → ServedTold l.hub l.bits l.number l.initial.self l.self;
+  pays : g.B.Bus.modelled ≡ true → ToldSoFar l.hub l.bits l.number l.initial.self l.self;
 }

@@ -38,28 +38,28 @@ first_tidies g c = elim c.if-status.branch [
 ]
 
 pub returns-in_err-clear_port-2-clause-goes : goal.returns-in_err-clear_port-2-clause-goes
-returns-in_err-clear_port-2-clause-goes g c =
+returns-in_err-clear_port-2-clause-goes g c known =
     let one = first g (goal.at.returns-in_err-clear_port-2-clause-goes g c).Joined-status in
     rw (← c.self.view_is) (goes_by _ _ _ _ (went_then _ _ one.0 c.clear_port-then-status-2.ensures.went) (omega (arith, order_fits c.args.port)) one.1)
 
 pub returns-in_ok-clear_port-2-clause-goes : goal.returns-in_ok-clear_port-2-clause-goes
-returns-in_ok-clear_port-2-clause-goes g c =
+returns-in_ok-clear_port-2-clause-goes g c known =
     let one = first g (goal.at.returns-in_ok-clear_port-2-clause-goes g c).Joined-status in
     rw (← c.self.view_is) (goes_by _ _ _ _ (went_then _ _ one.0 c.clear_port-then-status-2.ensures.went) (omega (arith, order_fits c.args.port)) one.1)
 
 pub returns-else-status-2-clause-goes : goal.returns-else-status-2-clause-goes
-returns-else-status-2-clause-goes g c =
+returns-else-status-2-clause-goes g c known =
     let one = first g (goal.at.returns-else-status-2-clause-goes g c).Joined-status in
     rw (← c.self.view_is) (goes_by _ _ _ _ one.0 (omega arith) one.1)
 
 pub returns-in_err-clear_port-clause-tidies : goal.returns-in_err-clear_port-clause-tidies
-returns-in_err-clear_port-clause-tidies g c =
+returns-in_err-clear_port-clause-tidies g c known =
     let told = err_from_is_err_and c.from_residual.result c.from_residual.ensures.1 in
     rw (← c.self.view_is, told.1, told.2) (subst (λ r. Tidies c.args.port (g.B.Bus.world c.self.inside.bus) (at_port r) (g.B.Bus.world c.clear_port.new.bus)) c.in_err-clear_port.was
     (call_tidies c.args.port C_PORT_ENABLE enable clears_enable_change (g.B.Bus.world c.self.inside.bus) c.clear_port.result (g.B.Bus.world c.clear_port.new.bus) c.clear_port.ensures.ports c.clear_port.ensures.addresses))
 
 pub returns-in_err-clear_port-2-clause-tidies : goal.returns-in_err-clear_port-2-clause-tidies
-returns-in_err-clear_port-2-clause-tidies g c =
+returns-in_err-clear_port-2-clause-tidies g c known =
     let told = err_from_is_err_and c.from_residual-in_err-clear_port-2.result c.from_residual-in_err-clear_port-2.ensures.1 in
     let joined = (goal.at.returns-in_err-clear_port-2-clause-tidies g c).Joined-status in
     let one = first g joined in
@@ -69,7 +69,7 @@ returns-in_err-clear_port-2-clause-tidies g c =
     rw (← c.self.view_is, told.1, told.2) (tidies_then c.args.port _ _ _ _ _ one.0 c.clear_port-then-status-2.ensures.went _ tidies then)
 
 pub returns-in_ok-clear_port-2-clause-tidies : goal.returns-in_ok-clear_port-2-clause-tidies
-returns-in_ok-clear_port-2-clause-tidies g c =
+returns-in_ok-clear_port-2-clause-tidies g c known =
     let joined = (goal.at.returns-in_ok-clear_port-2-clause-tidies g c).Joined-status in
     let one = first g joined in
     let tidies = first_tidies g joined in
@@ -78,7 +78,7 @@ returns-in_ok-clear_port-2-clause-tidies g c =
     rw (← c.self.view_is) (tidies_then c.args.port _ _ _ _ _ one.0 c.clear_port-then-status-2.ensures.went _ tidies then)
 
 pub returns-else-status-2-clause-tidies : goal.returns-else-status-2-clause-tidies
-returns-else-status-2-clause-tidies g c = rw (← c.self.view_is) (first_tidies g (goal.at.returns-else-status-2-clause-tidies g c).Joined-status)
+returns-else-status-2-clause-tidies g c known = rw (← c.self.view_is) (first_tidies g (goal.at.returns-else-status-2-clause-tidies g c).Joined-status)
 
 first_clears : (g : Over) (c : goal.Joined-status g) (f : Claims) (p : List ℕ) → IsAt f c.args.port p → TillFault (Owned f) (g.B.Bus.world c.self.inside.bus)
     → DoneWhere c.args.status.enable_changed p ClearEnableChange (g.B.Bus.world c.self.inside.bus) (g.B.Bus.world c.if-status.self-inside.bus)
@@ -97,17 +97,17 @@ still_by g c off = elim c.if-status.branch [
 ]
 
 pub returns-in_err-clear_port-clause-clears : goal.returns-in_err-clear_port-clause-clears
-returns-in_err-clear_port-clause-clears g c =
+returns-in_err-clear_port-clause-clears g c known =
     let told = err_from_is_err_and c.from_residual.result c.from_residual.ensures.1 in
     rw (told.1, told.2) (record { reset = tt; calm = λ off none. absurd (cc (off, c.if-status.true)); clears = λ f p at owned. tt })
 
 pub returns-in_err-clear_port-2-clause-clears : goal.returns-in_err-clear_port-2-clause-clears
-returns-in_err-clear_port-2-clause-clears g c =
+returns-in_err-clear_port-2-clause-clears g c known =
     let told = err_from_is_err_and c.from_residual-in_err-clear_port-2.result c.from_residual-in_err-clear_port-2.ensures.1 in
     rw (told.1, told.2) (record { reset = tt; calm = λ off none. absurd (cc (none, c.if-status-2.true)); clears = λ f p at owned. tt })
 
 pub returns-in_ok-clear_port-2-clause-clears : goal.returns-in_ok-clear_port-2-clause-clears
-returns-in_ok-clear_port-2-clause-clears g c =
+returns-in_ok-clear_port-2-clause-clears g c known =
     let joined = (goal.at.returns-in_ok-clear_port-2-clause-clears g c).Joined-status in
     let first = first_tidies g joined in
     let calls = subst (λ r. CallsPort c.args.port (clear_call C_PORT_RESET) (g.B.Bus.world c.if-status.self-inside.bus) r (g.B.Bus.world c.clear_port-then-status-2.new.bus)) c.in_ok-clear_port-2.was c.clear_port-then-status-2.ensures.ports in
@@ -122,7 +122,7 @@ returns-in_ok-clear_port-2-clause-clears g c =
     })
 
 pub returns-else-status-2-clause-clears : goal.returns-else-status-2-clause-clears
-returns-else-status-2-clause-clears g c =
+returns-else-status-2-clause-clears g c known =
     let joined = (goal.at.returns-else-status-2-clause-clears g c).Joined-status in
     rw (← c.self.view_is) (record {
       reset = λ told. absurd (cc (told, c.if-status-2.false));

@@ -4,7 +4,7 @@ use Rattle.usb_table.proofs.entry.Entry.poll.Goals as goal
 use Rattle.usb_table.proofs.entry.Entry.poll.Goals.{in-Hub, in-Function}
 
 pub returns-clause-went : goal.returns-clause-went
-returns-clause-went g c = elim c.match-self.branch [
+returns-clause-went g c known = elim c.match-self.branch [
   | in-Hub w ↦ rw w.bus-is w.poll.ensures.went
   | in-Function w ↦ rw w.bus-is (went_wider 0 768 went_none (omega arith))
 ]

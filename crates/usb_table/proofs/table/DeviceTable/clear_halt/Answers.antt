@@ -10,7 +10,7 @@ use Rattle.usb_table.specs.Levels.{KeepsMoved}
 use Rattle.usb_table.specs.Table.{Table, pipes_at, GoesThrough}
 use Rattle.usb_table.specs.Transfers.{PipesCleared, OnlyTransfers}
 use Rattle.usb_table.proofs.TransferFrames.{spares_none, cleared_spares}
-use Rattle.usb_table.proofs.KeptPipes.{cleared_keeps}
+use Rattle.usb_table.proofs.KeptPipes.{same_keep}
 use Rattle.usb_table.proofs.MovedPipes.{cleared_levels}
 use Rattle.usb_table.proofs.Levels.{still_levels}
 use Rattle.usb_table.proofs.PipeCalls.{Through, through_slot, found_slot, through_none, pipes_none, told_at}
@@ -22,7 +22,7 @@ passed : (g : _) (c : goal.After-self-1 g)
 passed g c =
     through_slot c.args.path.now c.self.inside.entries c.self.inside.indexes.by_path.entries c.self.inside.indexes.by_address.entries c.in-Some.key.now c.index_mut.result.now c.clear_halt.new.self
     c.self.invariant (sym c.in-Some.ensures.value) c.index_mut.ensures.value c.clear_halt.ensures.same
-    (cleared_keeps c.index_mut.result.now.finding c.index_mut.result.now.pipes c.clear_halt.new.self.pipes _ c.clear_halt.result _ c.clear_halt.ensures.cleared)
+    (same_keep c.index_mut.result.now.finding c.index_mut.result.now.pipes c.clear_halt.new.self.pipes c.clear_halt.ensures.made)
 
 pub invariant_of-self : goal.invariant_of-self
 invariant_of-self g c = ((passed g c).indexes, (passed g c).piped)
@@ -33,23 +33,23 @@ returns-in-Some-clause-through g c =
     subst (λ (t : Table). GoesThrough c.args.path.now t left) c.self.view_is (passed g c).goes
 
 pub returns-in-Some-clause-cleared : goal.returns-in-Some-clause-cleared
-returns-in-Some-clause-cleared g c =
+returns-in-Some-clause-cleared g c known =
     told_at (λ p q. PipesCleared p (g.B.Bus.world c.args.bus.now) c.clear_halt.result q (g.B.Bus.world c.clear_halt.new.bus))
-    c.index_mut.result.now.pipes c.clear_halt.new.self.pipes _ _ (ap (pipes_at c.args.path.now) (sym c.self.view_is) ∙ (passed g c).before) (passed g c).then c.clear_halt.ensures.cleared
+    c.index_mut.result.now.pipes c.clear_halt.new.self.pipes _ _ (ap (pipes_at c.args.path.now) (sym c.self.view_is) ∙ (passed g c).before) (passed g c).then (c.clear_halt.ensures.cleared known)
 
 pub returns-in-Some-clause-keeps : goal.returns-in-Some-clause-keeps
-returns-in-Some-clause-keeps g c =
+returns-in-Some-clause-keeps g c known =
     let s = c.self.inside in
     let w : World = g.B.Bus.world c.args.bus.now in
     let v : World = g.B.Bus.world c.clear_halt.new.bus in
     let was : Table = table_of (get s.entries) s.indexes.by_path.entries in
     let left : Table = table_of (get (with_value s.entries c.in-Some.key.now c.clear_halt.new.self)) s.indexes.by_path.entries in
-    let keeps : OnlyTransfers w v = cleared_spares c.index_mut.result.now.pipes c.clear_halt.new.self.pipes _ c.clear_halt.result _ c.clear_halt.ensures.cleared in
+    let keeps : OnlyTransfers w v = cleared_spares c.index_mut.result.now.pipes c.clear_halt.new.self.pipes _ c.clear_halt.result _ (c.clear_halt.ensures.cleared known) in
     subst (λ (t : Table). KeepsMoved c.args.path.now t w left v) c.self.view_is
     (cleared_levels c.args.path.now was left w v (passed g c).goes keeps c.clear_halt.result c.index_mut.result.now.finding
     (found_slot c.args.path.now s.entries s.indexes.by_path.entries c.in-Some.key.now c.index_mut.result.now (sym c.in-Some.ensures.value) c.index_mut.ensures.value)
     (told_at (λ p q. PipesCleared p (g.B.Bus.world c.args.bus.now) c.clear_halt.result q (g.B.Bus.world c.clear_halt.new.bus))
-    c.index_mut.result.now.pipes c.clear_halt.new.self.pipes _ _ (passed g c).before (passed g c).then c.clear_halt.ensures.cleared))
+    c.index_mut.result.now.pipes c.clear_halt.new.self.pipes _ _ (passed g c).before (passed g c).then (c.clear_halt.ensures.cleared known)))
 
 pub returns-in-None-clause-through : goal.returns-in-None-clause-through
 returns-in-None-clause-through g c =
@@ -57,16 +57,16 @@ returns-in-None-clause-through g c =
     subst (λ (t : Table). GoesThrough c.args.path.now t t) c.self.view_is (through_none c.args.path.now (get s.entries) s.indexes.by_path.entries s.indexes.by_address.entries c.self.invariant.0 c.self.invariant.1)
 
 pub returns-in-None-clause-went : goal.returns-in-None-clause-went
-returns-in-None-clause-went g c = went_wider 0 3200 went_none (omega arith)
+returns-in-None-clause-went g c known = went_wider 0 3200 went_none (omega arith)
 
 pub returns-in-None-clause-cleared : goal.returns-in-None-clause-cleared
-returns-in-None-clause-cleared g c =
+returns-in-None-clause-cleared g c known =
     let s = c.self.inside in
     let none : pipes_at c.args.path.now c.args.self.now ≡ Absent = ap (pipes_at c.args.path.now) (sym c.self.view_is) ∙ pipes_none (get s.entries) c.args.path.now s.indexes.by_path.entries (sym c.in-None.ensures.value) in
     subst (λ (p : Pipes). PipesCleared p (g.B.Bus.world c.args.bus.now) (Err NoDevice) p (g.B.Bus.world c.args.bus.now)) (sym none) (refl, refl, refl)
 
 pub returns-in-None-clause-keeps : goal.returns-in-None-clause-keeps
-returns-in-None-clause-keeps g c =
+returns-in-None-clause-keeps g c known =
     let s = c.self.inside in
     let w : World = g.B.Bus.world c.args.bus.now in
     let was : Table = table_of (get s.entries) s.indexes.by_path.entries in
