@@ -1,5 +1,7 @@
 -- Which courses keep each device at its own address, and set no mark.
-use Rattle.std.proofs.Common.{◌≡◌, ℕ, zero, suc, ◌+◌, ◌==◌, ◌&&◌, ◌||◌, not, nat_lt, if◌then◌else◌, ◌⊎◌, inl, inr, Bool, true, false, List, [], ◌∷◌, ◌++◌, length, Option, None, Some, option_map, slice_get, is_some, refl, ap, sym, ◌∙◌}
+use Rattle.std.proofs.Common.{◌≡◌, ℕ, zero, suc, ◌+◌, ◌==◌, ◌&&◌, ◌||◌, not, nat_lt, if◌then◌else◌}
+use Rattle.std.proofs.Common.{◌⊎◌, inl, inr, Bool, true, false, List, [], ◌∷◌, ◌++◌, length, Option}
+use Rattle.std.proofs.Common.{None, Some, option_map, refl, ap, sym, ◌∙◌}
 use Rattle.usb_packet.specs.declared.Packet.{Packet}
 use Rattle.usb_packet.specs.declared.Packet.TheVariants.{Token, Payload, Ack, Sof, Nak, Stall, Pre}
 use Rattle.usb_packet.specs.declared.Toggle.{Toggle}
@@ -16,20 +18,18 @@ use Rattle.usb_device.specs.declared.delivery.Content.TheVariants.{Whole, Broken
 use Rattle.usb_device.specs.declared.delivery.Sent.{Sent}
 use Rattle.usb_device.specs.declared.transfer.RememberedPacket.{RememberedPacket}
 use Rattle.usb_device.specs.declared.transfer.RememberedPacket.TheVariants.{Nothing, SetupSeen, OutSeen, AckAwaited}
-use Rattle.usb_device.specs.Spec.{Spec}
 use Rattle.usb_device.specs.PacketFrames.{is_ack}
 use Rattle.usb_port.specs.Calls.{is_reset}
 use Rattle.usb_device.specs.Rows.{State, Reply, received, unread, forgotten, payload_row, token_row, status_row, out_row, sink_row, sunk, out_bulk_row, bulk_of, is_busy, nak_row, unless_busy, accepted}
 use Rattle.usb_packet.specs.Toggles.{is_same}
 use Rattle.usb_device.specs.Transfer.{Stage, idle, refused, reading, read, ending}
 use Rattle.usb_request.specs.Layout.{setup_of}
-use Rattle.usb_device.specs.Tree.{Ports, ended, vacant, taken, Place, empty, full, called, replaced, changed, reach, reach_at, state_at, place_at, row_of, path_to, state_on}
+use Rattle.usb_device.specs.Tree.{Ports, ended, vacant, taken, Place, empty, full, called, changed}
+use Rattle.usb_device.specs.Tree.{reach, reach_at, state_at, place_at, row_of, path_to, state_on}
 use Rattle.usb_device.specs.Delivery.{hears, reply_to, answer_of, answers, listed, held, is_twice}
 use Rattle.usb_device.proofs.Interface.{keeps-received}
 use Rattle.usb_world.specs.declared.damage.Damage.{Damage}
 use Rattle.usb_world.specs.declared.event.Event.{Event}
-use Rattle.usb_world.specs.declared.event.Action.{Action}
-use Rattle.usb_world.specs.declared.event.Action.TheVariants.{Plug, Unplug, Show, Send, Receive, Clear}
 use Rattle.usb_world.specs.declared.types.Attempt.{Attempt}
 use Rattle.usb_world.specs.declared.types.BusFault.{BusFault}
 use Rattle.usb_world.specs.declared.types.BusFault.TheVariants.{LimitReached}
@@ -42,10 +42,12 @@ use Rattle.usb_world.specs.Paths.{address_of, Two}
 use Rattle.usb_world.specs.WayEffects.{resets_at, call_resets}
 use Rattle.usb_world.specs.AttemptPackets.{after_sent, answers_to, after_attempt, deep_at, sent_resets, attempt_resets}
 use Rattle.usb_world.specs.World.{World}
-use Rattle.usb_world.specs.Steps.{with_plugged, happened, way_of, names_path, is_due, took, took_first, due_from, ready, damage_in, with_attempt, attempted, event_taken, Step, attempt, root_call, event, report, after, Course, here, step}
+use Rattle.usb_world.specs.Steps.{is_due, took, took_first, due_from, ready, damage_in}
+use Rattle.usb_world.specs.Steps.{with_attempt, attempted, event_taken, Step, attempt, root_call}
+use Rattle.usb_world.specs.Steps.{event, report, after, Course, here, step}
 use Rattle.usb_world.specs.Courses.{is_made, made_resets, root_resets, resets, address_at, Own, Injective, is_quiet, QuietStep, quiet_data}
 use Rattle.usb_world.proofs.Booleans.{no, both, and_of, decided, neither_of}
-use Rattle.usb_world.proofs.WayChanges.{changed_there}
+use Rattle.usb_world.proofs.PlugEvents.{happened_there}
 use Rattle.usb_world.proofs.PortCalls.{call_state}
 use Rattle.usb_world.proofs.PacketEffects.{packet_state, heard_state}
 use Rattle.usb_world.proofs.AttemptPackets.{forgotten_state, calm_sent, token_out as token_calm_out}
@@ -126,31 +128,22 @@ own_not_twice f inj w own = split (decided (is_twice (held w.roots)))
 
 -- Events
 
-plugged_state : (o : Option Spec) (k : Ports) (x p : List ℕ) → (is_some o && way_of x p) ≡ false → state_there (with_plugged o x k) p ≡ state_there k p
-plugged_state None k x p h = refl
-plugged_state (Some s) k x p h = (changed_there (replaced (Some s)) k x p h).2
-
-happened_state : (a : Action) (d : List Spec) (k : Ports) (p : List ℕ) → names_path d a p ≡ false → state_there (happened a d k) p ≡ state_there k p
-happened_state (Plug x i) d k p h = plugged_state (slice_get d i) k x p h
-happened_state (Unplug x) d k p h = (changed_there (replaced None) k x p h).2
-happened_state Show d k p h = refl
-happened_state (Send x b) d k p h = refl
-happened_state (Receive x n) d k p h = refl
-happened_state (Clear x) d k p h = refl
-
 pub due_state : (es : List Event) (w : World) (p : List ℕ) → reach (due_from es w).roots p ≡ true → state_there (due_from es w).roots p ≡ state_there w.roots p
 unfolding due_from took
 due_state [] w p h = refl
 due_state (e ∷ es) w p h =
     elim (is_due e w) as (λ b. reach (if b then due_from es (took e es w) else w).roots p ≡ true → state_there (if b then due_from es (took e es w) else w).roots p ≡ state_there w.roots p) [
-      | true ↦ λ h. due_state es (took e es w) p h ∙ happened_state e.action w.devices w.roots p (happened_reach e.action w.devices w.roots p (due_reach es (took e es w) p refl h).0).1
+      | true ↦ λ h. due_state es (took e es w) p h
+          ∙ (happened_there e.action w.devices w.roots p
+          (happened_reach e.action w.devices w.roots p (due_reach es (took e es w) p refl h).0).1).2
       | false ↦ λ h. refl
     ] h
 
 pub first_state : (es : List Event) (w : World) (p : List ℕ) → reach (took_first es w).roots p ≡ true → state_there (took_first es w).roots p ≡ state_there w.roots p
 unfolding took
 first_state [] w p h = refl
-first_state (e ∷ es) w p h = happened_state e.action w.devices w.roots p (happened_reach e.action w.devices w.roots p h).1
+first_state (e ∷ es) w p h = (happened_there e.action w.devices w.roots p
+    (happened_reach e.action w.devices w.roots p h).1).2
 
 pub taken_state : (f : Option BusFault) (w : World) (p : List ℕ) → reach (event_taken f w).roots p ≡ true → state_there (event_taken f w).roots p ≡ state_there w.roots p
 taken_state (Some f) w p h = refl

@@ -1,5 +1,7 @@
 -- A port of which nothing is asked keeps its change bits and its power, where the device above it is still reached.
-use Rattle.std.proofs.Common.{◌≡◌, inl, inr, ℕ, zero, suc, ◌==◌, ◌&&◌, ◌||◌, not, if◌then◌else◌, Bool, true, false, List, [], ◌∷◌, ◌++◌, Option, None, Some, slice_get, is_some, refl, ap, sym, subst, ◌∙◌}
+use Rattle.std.proofs.Common.{◌≡◌, inl, inr, ℕ, zero, suc, ◌==◌, ◌&&◌, ◌||◌, not, if◌then◌else◌}
+use Rattle.std.proofs.Common.{Bool, true, false, List, [], ◌∷◌, ◌++◌, Option, None, Some, slice_get}
+use Rattle.std.proofs.Common.{is_some, refl, ap, sym, subst, ◌∙◌}
 use Rattle.std.proofs.lemmas.Option.{same_Some}
 use Rattle.usb_port.specs.PortState.{PortState, plugged, unplugged}
 use Rattle.usb_port.specs.declared.call.PortCall.{PortCall}
@@ -9,7 +11,8 @@ use Rattle.usb_device.specs.declared.effect.Effect.TheVariants.{Leaves, Calls, P
 use Rattle.usb_port.specs.Calls.{is_reset}
 use Rattle.usb_device.specs.Rows.{fresh}
 use Rattle.usb_device.specs.Spec.{Spec}
-use Rattle.usb_device.specs.Tree.{Ports, ended, vacant, taken, Place, empty, full, before, port_of, called, replaced, changed, changed_at, port_at, place_at}
+use Rattle.usb_device.specs.Tree.{Ports, ended, vacant, taken, Place, empty, full, before, port_of}
+use Rattle.usb_device.specs.Tree.{called, replaced, changed, changed_at, port_at, place_at}
 use Rattle.usb_device.specs.Delivery.{effect_of}
 use Rattle.usb_device.specs.View.{port_there}
 use Rattle.usb_world.specs.declared.event.Event.{Event}
@@ -30,7 +33,8 @@ use Rattle.usb_world.proofs.Booleans.{no, both, decided, and_false, or_right, no
 use Rattle.usb_world.proofs.WayChanges.{SamePorts, same_ports, changed_there, root_there}
 use Rattle.usb_world.proofs.RootResets.{is_same}
 use Rattle.usb_world.proofs.PacketPlaces.{way_ports}
-use Rattle.usb_world.proofs.AttemptPackets.{token_out as token_calm, ack_out as ack_calm, forgotten_ports}
+use Rattle.usb_world.proofs.AttemptPackets.{token_out as token_calm, ack_out as ack_calm}
+use Rattle.usb_world.proofs.AttemptPackets.{forgotten_ports}
 use Rattle.usb_world.proofs.Courses.{happened_reach, due_reach, made_reach, same_device, course_wider, goes}
 use Rattle.usb_world.proofs.PacketWays.{calm_leaves}
 
@@ -80,7 +84,8 @@ struck_there o k (zero ∷ p) b h = still_same b None h
 struck_there o k (suc i ∷ p) b h = struck_port o k i p b h
 
 -- what leads to a port and not to the device above it is that port's own path
-last_step : (x q : List ℕ) (n : ℕ) → is_way x q ≡ false → is_way x (q ++ (n ∷ [])) ≡ true → x ≡ q ++ (n ∷ [])
+last_step : (x q : List ℕ) (n : ℕ) → is_way x q ≡ false → is_way x (q ++ (n ∷ [])) ≡ true
+    → x ≡ q ++ (n ∷ [])
 unfolding is_way
 last_step [] q n w h = no (sym w)
 last_step (m ∷ []) [] n w h = ap (λ y. y ∷ []) (sym (is_same m n (both (same_number m n) true h).0))
@@ -155,7 +160,8 @@ sent_ports : (o : Option Sent) (k : Ports) (j : ℕ) (p : List ℕ)
 sent_ports None k j p h = same_ports k j p
 sent_ports (Some q) k j p h = way_ports q false k j p h
 
-pub attempt_ports : (n : ℕ) (t d r : Option Sent) → IsAttemptAt n t d r → (k : Ports) (j : ℕ) (p : List ℕ)
+pub attempt_ports : (n : ℕ) (t d r : Option Sent) → IsAttemptAt n t d r
+    → (k : Ports) (j : ℕ) (p : List ℕ)
     → sent_leaves d (after_sent t k) j p ≡ true → SamePorts k (after_attempt t d r k) j p
 attempt_ports n t d r is k j p h =
     let heard : Ports = after_sent d (after_sent t k) in
@@ -170,7 +176,9 @@ pub made_port : (a : Attempt) (w : World) (p : List ℕ) → made_leaves a w p �
 unfolding with_attempt ports_in
 made_port a w [] h = refl
 made_port a w (zero ∷ p) h = refl
-made_port a w (suc j ∷ p) h = (attempt_ports a.addr (token_out a (damage_in w)) (payload_out a (damage_in w)) (reply_out a (damage_in w) w.roots) (goes a (damage_in w) w.roots) w.roots j p h).3
+made_port a w (suc j ∷ p) h = (attempt_ports a.addr (token_out a (damage_in w))
+    (payload_out a (damage_in w)) (reply_out a (damage_in w) w.roots)
+    (goes a (damage_in w) w.roots) w.roots j p h).3
 
 -- A step that leaves a port resets no device above it
 

@@ -1,10 +1,12 @@
 -- What a step of the world does to reachable, live and pending, and what whole courses do.
-use Rattle.std.proofs.Common.{◌≡◌, ℕ, zero, suc, ◌+◌, ◌==◌, ◌&&◌, not, nat_le, length, if◌then◌else◌, ◌⊎◌, inl, inr, true, false, List, [], ◌∷◌, ◌++◌, Option, None, Some, slice_get, is_some, refl, ap, sym, subst, ◌∙◌}
+use Rattle.std.proofs.Common.{◌≡◌, ℕ, zero, suc, ◌+◌, ◌==◌, ◌&&◌, not, nat_le, length}
+use Rattle.std.proofs.Common.{if◌then◌else◌, ◌⊎◌, inl, inr, true, false, List, [], ◌∷◌, ◌++◌}
+use Rattle.std.proofs.Common.{Option, None, Some, refl, ap, sym, subst, ◌∙◌}
 use Rattle.usb_port.specs.declared.call.PortCall.{PortCall}
 use Rattle.usb_port.specs.Calls.{is_clearing}
 use Rattle.usb_device.specs.declared.delivery.Content.TheVariants.{Whole}
 use Rattle.usb_device.specs.Spec.{Spec}
-use Rattle.usb_device.specs.Tree.{Ports, called, replaced, changed, reach, place}
+use Rattle.usb_device.specs.Tree.{Ports, called, changed, reach, place}
 use Rattle.usb_packet.specs.declared.Packet.{Packet}
 use Rattle.usb_packet.specs.declared.Packet.TheVariants as packet
 use Rattle.usb_packet.specs.declared.Toggle.{Toggle}
@@ -12,7 +14,6 @@ use Rattle.arrayvec.specs.ArrayVec.{ArrayVec}
 use Rattle.usb_world.specs.declared.damage.Damage.{Damage}
 use Rattle.usb_world.specs.declared.event.Event.{Event}
 use Rattle.usb_world.specs.declared.event.Action.{Action}
-use Rattle.usb_world.specs.declared.event.Action.TheVariants.{Plug, Unplug, Show, Send, Receive, Clear}
 use Rattle.usb_world.specs.declared.exchange.ExchangeAnswer.{ExchangeAnswer}
 use Rattle.usb_world.specs.declared.exchange.ExchangeAnswer.TheVariants.{Nothing, One, Collision}
 use Rattle.usb_world.specs.declared.types.Attempt.{Attempt}
@@ -21,15 +22,17 @@ use Rattle.usb_world.specs.declared.types.BusFault.TheVariants.{LimitReached}
 use Rattle.usb_world.specs.declared.wire.Mark.{Mark}
 use Rattle.usb_world.specs.Wire.{is_read, mark_of, harm_to, marked, marked_some}
 use Rattle.usb_world.specs.Exchange.{token_of, payload_of, reply_of, goes_out, token_out, payload_out, reply_out, heard_in, mark_in, place_of_answer, ports_in}
-use Rattle.usb_world.specs.Paths.{live, pend, is_way}
+use Rattle.usb_world.specs.Paths.{live, pend}
 use Rattle.usb_world.specs.WayEffects.{IsNew}
 use Rattle.usb_world.specs.AttemptPackets.{IfOut, IsTokenFor, IsDataOut, IsAckOut, IsAttemptAt}
 use Rattle.usb_world.specs.World.{World}
 use Rattle.usb_world.specs.Losses.{after_clearing}
-use Rattle.usb_world.specs.Steps.{with_plugged, happened, way_of, names_path, is_due, took, took_first, due_from, ready, damage_in, with_attempt, attempted, event_taken, Step, attempt, root_call, event, report, after, Course, here, step}
+use Rattle.usb_world.specs.Steps.{happened, names_path, is_due, took, took_first, due_from, ready}
+use Rattle.usb_world.specs.Steps.{damage_in, with_attempt, attempted, event_taken, Step, attempt}
+use Rattle.usb_world.specs.Steps.{root_call, event, report, after, Course, here, step}
 use Rattle.usb_world.specs.Courses.{NoneNames, Undisturbed, is_made, made_resets, made_spares, root_resets, root_spares, resets, spares_step, Reached, UndisturbedOrPends, NoReset, Spares}
 use Rattle.usb_world.proofs.Booleans.{no, decided}
-use Rattle.usb_world.proofs.PlugEvents.{event_reach, event_live, event_pend}
+use Rattle.usb_world.proofs.PlugEvents.{happened_way}
 use Rattle.usb_world.proofs.PortCalls.{call_new, call_reach, call_kept}
 use Rattle.usb_world.proofs.AttemptPackets.{attempt_reach, attempt_new, attempt_kept, sent_out}
 
@@ -56,66 +59,18 @@ undisturbed_on w v u p f g = record {
 
 -- Events
 
-replaced_reach : (o : Option Spec) (k : Ports) (x p : List ℕ) → reach (changed (replaced o) k x) p ≡ true → (reach k p ≡ true) × (way_of x p ≡ false)
-unfolding is_way
-replaced_reach o k x [] h = no h
-replaced_reach o k x (zero ∷ p) h = no h
-replaced_reach o k [] (suc j ∷ p) h = (h, refl)
-replaced_reach o k (zero ∷ x) (suc j ∷ p) h = (h, refl)
-replaced_reach o k (suc i ∷ x) (suc j ∷ p) h = event_reach o k i x j p h
+pub happened_reach : (a : Action) (d : List Spec) (k : Ports) (p : List ℕ)
+    → reach (happened a d k) p ≡ true → (reach k p ≡ true) × (names_path d a p ≡ false)
+happened_reach a d k p h = (happened_way a d k p).0 h
 
-replaced_pend : (o : Option Spec) (k : Ports) (x p : List ℕ) → pend k p ≡ true → pend (changed (replaced o) k x) p ≡ true
-replaced_pend o k x [] h = no h
-replaced_pend o k x (zero ∷ p) h = no h
-replaced_pend o k [] (suc j ∷ p) h = h
-replaced_pend o k (zero ∷ x) (suc j ∷ p) h = h
-replaced_pend o k (suc i ∷ x) (suc j ∷ p) h = event_pend o k i x j p h
+pub happened_pend : (a : Action) (d : List Spec) (k : Ports) (p : List ℕ)
+    → pend k p ≡ true → pend (happened a d k) p ≡ true
+happened_pend a d k p h = (happened_way a d k p).1 h
 
-replaced_live : (o : Option Spec) (k : Ports) (x p : List ℕ) → live k p ≡ true
-    → ((live (changed (replaced o) k x) p ≡ true) × (way_of x p ≡ false)) ⊎ (pend (changed (replaced o) k x) p ≡ true)
-unfolding is_way
-replaced_live o k x [] h = no h
-replaced_live o k x (zero ∷ p) h = no h
-replaced_live o k [] (suc j ∷ p) h = inl (h, refl)
-replaced_live o k (zero ∷ x) (suc j ∷ p) h = inl (h, refl)
-replaced_live o k (suc i ∷ x) (suc j ∷ p) h = event_live o k i x j p h
-
-plugged_reach : (o : Option Spec) (k : Ports) (x p : List ℕ) → reach (with_plugged o x k) p ≡ true → (reach k p ≡ true) × ((is_some o && way_of x p) ≡ false)
-plugged_reach None k x p h = (h, refl)
-plugged_reach (Some s) k x p h = replaced_reach (Some s) k x p h
-
-plugged_pend : (o : Option Spec) (k : Ports) (x p : List ℕ) → pend k p ≡ true → pend (with_plugged o x k) p ≡ true
-plugged_pend None k x p h = h
-plugged_pend (Some s) k x p h = replaced_pend (Some s) k x p h
-
-plugged_live : (o : Option Spec) (k : Ports) (x p : List ℕ) → live k p ≡ true
-    → ((live (with_plugged o x k) p ≡ true) × ((is_some o && way_of x p) ≡ false)) ⊎ (pend (with_plugged o x k) p ≡ true)
-plugged_live None k x p h = inl (h, refl)
-plugged_live (Some s) k x p h = replaced_live (Some s) k x p h
-
-pub happened_reach : (a : Action) (d : List Spec) (k : Ports) (p : List ℕ) → reach (happened a d k) p ≡ true → (reach k p ≡ true) × (names_path d a p ≡ false)
-happened_reach (Plug x i) d k p h = plugged_reach (slice_get d i) k x p h
-happened_reach (Unplug x) d k p h = replaced_reach None k x p h
-happened_reach Show d k p h = (h, refl)
-happened_reach (Send x b) d k p h = (h, refl)
-happened_reach (Receive x n) d k p h = (h, refl)
-happened_reach (Clear x) d k p h = (h, refl)
-
-pub happened_pend : (a : Action) (d : List Spec) (k : Ports) (p : List ℕ) → pend k p ≡ true → pend (happened a d k) p ≡ true
-happened_pend (Plug x i) d k p h = plugged_pend (slice_get d i) k x p h
-happened_pend (Unplug x) d k p h = replaced_pend None k x p h
-happened_pend Show d k p h = h
-happened_pend (Send x b) d k p h = h
-happened_pend (Receive x n) d k p h = h
-happened_pend (Clear x) d k p h = h
-
-pub happened_live : (a : Action) (d : List Spec) (k : Ports) (p : List ℕ) → live k p ≡ true → ((live (happened a d k) p ≡ true) × (names_path d a p ≡ false)) ⊎ (pend (happened a d k) p ≡ true)
-happened_live (Plug x i) d k p h = plugged_live (slice_get d i) k x p h
-happened_live (Unplug x) d k p h = replaced_live None k x p h
-happened_live Show d k p h = inl (h, refl)
-happened_live (Send x b) d k p h = inl (h, refl)
-happened_live (Receive x n) d k p h = inl (h, refl)
-happened_live (Clear x) d k p h = inl (h, refl)
+pub happened_live : (a : Action) (d : List Spec) (k : Ports) (p : List ℕ) → live k p ≡ true
+    → ((live (happened a d k) p ≡ true) × (names_path d a p ≡ false))
+        ⊎ (pend (happened a d k) p ≡ true)
+happened_live a d k p h = (happened_way a d k p).2 h
 
 took_reach : (e : Event) (es : List Event) (w : World) (p : List ℕ) → w.left ≡ e ∷ es → reach (took e es w).roots p ≡ true → (reach w.roots p ≡ true) × Undisturbed w (took e es w) p
 unfolding took
@@ -235,13 +190,17 @@ pub made_pend : (a : Attempt) (w : World) (p : List ℕ) → made_spares a w p �
 unfolding with_attempt ports_in
 made_pend a w [] f h = no h
 made_pend a w (zero ∷ p) f h = no h
-made_pend a w (suc j ∷ p) f h = (attempt_kept a.addr (token_out a (damage_in w)) (payload_out a (damage_in w)) (reply_out a (damage_in w) w.roots) (goes a (damage_in w) w.roots) w.roots j p f).1 h
+made_pend a w (suc j ∷ p) f h =
+    (attempt_kept a.addr (token_out a (damage_in w)) (payload_out a (damage_in w))
+    (reply_out a (damage_in w) w.roots) (goes a (damage_in w) w.roots) w.roots j p f).1 h
 
 pub made_live : (a : Attempt) (w : World) (p : List ℕ) → made_spares a w p ≡ true → live w.roots p ≡ true → live (with_attempt a w).roots p ≡ true
 unfolding with_attempt ports_in
 made_live a w [] f h = no h
 made_live a w (zero ∷ p) f h = no h
-made_live a w (suc j ∷ p) f h = (attempt_kept a.addr (token_out a (damage_in w)) (payload_out a (damage_in w)) (reply_out a (damage_in w) w.roots) (goes a (damage_in w) w.roots) w.roots j p f).0 h
+made_live a w (suc j ∷ p) f h =
+    (attempt_kept a.addr (token_out a (damage_in w)) (payload_out a (damage_in w))
+    (reply_out a (damage_in w) w.roots) (goes a (damage_in w) w.roots) w.roots j p f).0 h
 
 made_rest : (a : Attempt) (w : World) (p : List ℕ) → Undisturbed w (with_attempt a w) p
 unfolding with_attempt ports_in

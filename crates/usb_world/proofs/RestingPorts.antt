@@ -1,12 +1,13 @@
 -- A port of which nothing is asked stands as it stood, or a change of connection is pending on its way.
-use Rattle.std.proofs.Common.{◌≡◌, ◌⊎◌, inl, inr, ℕ, zero, suc, ◌==◌, ◌&&◌, if◌then◌else◌, true, false, List, [], ◌∷◌, Option, None, Some, slice_get, is_some, option_map, refl, ap, sym, ◌∙◌}
+use Rattle.std.proofs.Common.{◌≡◌, ◌⊎◌, inl, inr, ℕ, zero, suc, ◌==◌, if◌then◌else◌, true}
+use Rattle.std.proofs.Common.{false, List, [], ◌∷◌, Option, None, Some}
+use Rattle.std.proofs.Common.{option_map, refl, ap, sym, ◌∙◌}
 use Rattle.usb_port.specs.declared.call.PortCall.{PortCall}
 use Rattle.usb_device.specs.Spec.{Spec}
-use Rattle.usb_device.specs.Tree.{Ports, called, replaced, changed, reach}
+use Rattle.usb_device.specs.Tree.{Ports, called, changed, reach}
 use Rattle.usb_device.specs.View.{state_there}
 use Rattle.usb_world.specs.declared.event.Event.{Event}
 use Rattle.usb_world.specs.declared.event.Action.{Action}
-use Rattle.usb_world.specs.declared.event.Action.TheVariants.{Plug, Unplug, Show, Send, Receive, Clear}
 use Rattle.usb_world.specs.declared.types.Attempt.{Attempt}
 use Rattle.usb_world.specs.declared.types.BusFault.{BusFault}
 use Rattle.usb_world.specs.declared.types.BusFault.TheVariants.{LimitReached}
@@ -14,15 +15,18 @@ use Rattle.usb_world.specs.Exchange.{token_out, payload_out, reply_out, ports_in
 use Rattle.usb_world.specs.Paths.{live, pend}
 use Rattle.usb_world.specs.PlanCourses.{spec_of}
 use Rattle.usb_world.specs.World.{World}
-use Rattle.usb_world.specs.Steps.{with_plugged, happened, way_of, names_path, is_due, took, took_first, due_from, ready, damage_in, with_attempt, attempted, event_taken, Step, attempt, root_call, event, report, after, Course, here, step}
+use Rattle.usb_world.specs.Steps.{happened, names_path, is_due, took, took_first, due_from, ready}
+use Rattle.usb_world.specs.Steps.{damage_in, with_attempt, attempted, event_taken, Step, attempt}
+use Rattle.usb_world.specs.Steps.{root_call, event, report, after, Course, here, step}
 use Rattle.usb_world.specs.Courses.{made_spares, spares_step, Spares}
 use Rattle.usb_world.specs.PortRequests.{made_leaves, root_leaves, leaves_step}
 use Rattle.usb_world.specs.RestingPorts.{SameAt, AsksNothingOf, RestsOrPends, StandsOrPends}
-use Rattle.usb_world.proofs.WayChanges.{changed_there, root_there}
+use Rattle.usb_world.proofs.WayChanges.{root_there}
+use Rattle.usb_world.proofs.PlugEvents.{happened_there}
 use Rattle.usb_world.proofs.PluggedShapes.{spec_there}
 use Rattle.usb_world.proofs.PluggedPorts.{shape, described_there, shape_root, shape_attempt}
 use Rattle.usb_world.proofs.Courses.{happened_live, due_pend, made_pend, made_live, root_live, goes, pending_persists, course_wider}
-use Rattle.usb_world.proofs.ChangeBits.{attempt_ports, made_port, root_port}
+use Rattle.usb_world.proofs.ChangeBits.{attempt_ports, made_port}
 
 pub same_self : (k : Ports) (p : List ℕ) → SameAt k k p
 same_self k p = record { port = refl; on = refl; what = refl }
@@ -37,22 +41,11 @@ shaped k v p h = described_there v p ∙ ap (λ x. spec_there x p) h ∙ sym (de
 
 -- Events
 
-event_same : (o : Option Spec) (k : Ports) (x p : List ℕ) → way_of x p ≡ false → SameAt k (changed (replaced o) k x) p
-event_same o k x p h =
-    let same : _ = changed_there (replaced o) k x p h in
+happened_same : (a : Action) (d : List Spec) (k : Ports) (p : List ℕ)
+    → names_path d a p ≡ false → SameAt k (happened a d k) p
+happened_same a d k p h =
+    let same : _ = happened_there a d k p h in
     record { port = same.1; on = same.0; what = ap (option_map spec_of) same.2 }
-
-plugged_same : (o : Option Spec) (k : Ports) (x p : List ℕ) → (is_some o && way_of x p) ≡ false → SameAt k (with_plugged o x k) p
-plugged_same None k x p h = same_self k p
-plugged_same (Some s) k x p h = event_same (Some s) k x p h
-
-happened_same : (a : Action) (d : List Spec) (k : Ports) (p : List ℕ) → names_path d a p ≡ false → SameAt k (happened a d k) p
-happened_same (Plug x i) d k p h = plugged_same (slice_get d i) k x p h
-happened_same (Unplug x) d k p h = event_same None k x p h
-happened_same Show d k p h = same_self k p
-happened_same (Send x b) d k p h = same_self k p
-happened_same (Receive x n) d k p h = same_self k p
-happened_same (Clear x) d k p h = same_self k p
 
 took_rests : (e : Event) (es : List Event) (w : World) (p : List ℕ) → live w.roots p ≡ true → RestsOrPends w (took e es w) p
 unfolding took
@@ -91,7 +84,9 @@ made_on : (a : Attempt) (w : World) (p : List ℕ) → made_leaves a w p ≡ tru
 unfolding with_attempt ports_in
 made_on a w [] h = refl
 made_on a w (zero ∷ p) h = refl
-made_on a w (suc j ∷ p) h = (attempt_ports a.addr (token_out a (damage_in w)) (payload_out a (damage_in w)) (reply_out a (damage_in w) w.roots) (goes a (damage_in w) w.roots) w.roots j p h).0
+made_on a w (suc j ∷ p) h = (attempt_ports a.addr (token_out a (damage_in w))
+    (payload_out a (damage_in w)) (reply_out a (damage_in w) w.roots)
+    (goes a (damage_in w) w.roots) w.roots j p h).0
 
 made_what : (a : Attempt) (w : World) (p : List ℕ) → option_map spec_of (state_there (with_attempt a w).roots p) ≡ option_map spec_of (state_there w.roots p)
 unfolding with_attempt
@@ -122,7 +117,13 @@ event_rests (Some f) w p h = inl (h, same_self w.roots p)
 event_rests None w p h = first_rests w.left w p h
 
 root_same : (c : PortCall) (m : ℕ) (w : World) (p : List ℕ) → root_leaves m p ≡ true → SameAt w.roots (changed (called c) w.roots (m ∷ [])) p
-root_same c m w p h = record { port = root_port c m w.roots p h; on = (root_there c m w.roots p h).0; what = shaped w.roots (changed (called c) w.roots (m ∷ [])) p (shape_root c w.roots (m ∷ [])) }
+root_same c m w p h =
+    let same : _ = root_there c m w.roots p h in
+    record {
+      port = same.1;
+      on = same.0;
+      what = shaped w.roots (changed (called c) w.roots (m ∷ [])) p (shape_root c w.roots (m ∷ []));
+    }
 
 step_rests_by : (s : Step) (w : World) (p : List ℕ) → spares_step s w p ≡ true → leaves_step s w p ≡ true → live w.roots p ≡ true → RestsOrPends w (after s w) p
 unfolding after spares_step leaves_step
