@@ -140,9 +140,12 @@ forgotten_way ended j p = (same_ports ended j p, refl, refl, λ h. h)
 forgotten_way (vacant b k) zero [] = (same_ports (vacant b k) zero [], refl, refl, λ h. h)
 forgotten_way (vacant b k) zero (n ∷ p) = (same_ports (vacant b k) zero (n ∷ p), refl, refl, λ h. h)
 forgotten_way (vacant b k) (suc j) p = forgotten_way k j p
-forgotten_way (taken b s a k) zero [] =
-    (same_ports (taken b s a k) zero [], refl, refl,
-     λ h. (h.0, h.1, refl, forgotten_off a ∙ ap all_forgotten h.3))
+forgotten_way (taken b s a k) zero [] = (
+  same_ports (taken b s a k) zero [],
+  refl,
+  refl,
+  λ h. (h.0, h.1, refl, forgotten_off a ∙ ap all_forgotten h.3),
+)
 forgotten_way (taken b s a k) zero (zero ∷ p) =
     (same_ports (taken b s a k) zero (zero ∷ p), refl, refl, λ h. h)
 forgotten_way (taken b s a k) zero (suc j ∷ p) =
@@ -272,7 +275,7 @@ pub attempt_new : (n : ℕ) (t d r : Option Sent) → IsAttemptAt n t d r → (k
 attempt_new n t d r is k j p h =
     (forgotten_way (after_sent r (after_sent d (after_sent t k))) j p).3
     (ack_sent_new r is.reply (after_sent d (after_sent t k)) j p
-        (sent_new d (after_sent t k) j p h))
+    (sent_new d (after_sent t k) j p h))
 
 -- what is live or pending, and spared, is so after an attempt
 pub attempt_kept : (n : ℕ) (t d r : Option Sent) → IsAttemptAt n t d r
@@ -282,7 +285,7 @@ attempt_kept n t d r is k j p f =
     let first : _ = sent_kept t k j p (calm_sent_spares t (token_out n t is.token) k j p) in
     let second : _ = sent_kept d (after_sent t k) j p f in
     let third : _ = sent_kept r (after_sent d (after_sent t k)) j p
-        (calm_sent_spares r (ack_out r is.reply) (after_sent d (after_sent t k)) j p) in
+    (calm_sent_spares r (ack_out r is.reply) (after_sent d (after_sent t k)) j p) in
     let same : _ = forgotten_ports (after_sent r (after_sent d (after_sent t k))) j p in
     (λ h. same.1 ∙ third.0 (second.0 (first.0 h)), λ h. same.2 ∙ third.1 (second.1 (first.1 h)))
 

@@ -99,11 +99,11 @@ replaced_bits : (o : Option Spec) (k : Ports) (x q : List ℕ) (n : ℕ) (b : Po
     → port_there k (q ++ (n ∷ [])) ≡ Some b → StillSet b (port_there (changed (replaced o) k x) (q ++ (n ∷ [])))
 replaced_bits o k [] q n b w h = still_same b _ h
 replaced_bits o k (m ∷ x) q n b w h = elim (decided (is_way (m ∷ x) (q ++ (n ∷ [])))) [
-    | inl on ↦
+  | inl on ↦
       subst (λ y. StillSet b (port_there (changed (replaced o) k y) (q ++ (n ∷ []))))
       (sym (last_step (m ∷ x) q n w on)) (struck_there o k (q ++ (n ∷ [])) b h)
-    | inr away ↦ still_same b _ ((changed_there (replaced o) k (m ∷ x) (q ++ (n ∷ [])) away).1 ∙ h)
-  ]
+  | inr away ↦ still_same b _ ((changed_there (replaced o) k (m ∷ x) (q ++ (n ∷ [])) away).1 ∙ h)
+]
 
 plugged_bits : (o : Option Spec) (k : Ports) (x q : List ℕ) (n : ℕ) (b : PortState) → (is_some o && way_of x q) ≡ false
     → port_there k (q ++ (n ∷ [])) ≡ Some b → StillSet b (port_there (with_plugged o x k) (q ++ (n ∷ [])))
@@ -168,9 +168,12 @@ attempt_ports n t d r is k j p h =
     let first : _ = sent_ports t k j p (calm_leaves t (token_calm n t is.token) k j p) in
     let second : _ = sent_ports d (after_sent t k) j p h in
     let third : _ = sent_ports r heard j p (calm_leaves r (ack_calm r is.reply) heard j p) in
-    let last : _ = forgotten_ports (after_sent r heard) j p in
-    (last.0 ∙ third.0 ∙ second.0 ∙ first.0, last.1 ∙ third.1 ∙ second.1 ∙ first.1,
-     last.2 ∙ third.2 ∙ second.2 ∙ first.2, last.3 ∙ third.3 ∙ second.3 ∙ first.3)
+    let last : _ = forgotten_ports (after_sent r heard) j p in (
+      last.0 ∙ third.0 ∙ second.0 ∙ first.0,
+      last.1 ∙ third.1 ∙ second.1 ∙ first.1,
+      last.2 ∙ third.2 ∙ second.2 ∙ first.2,
+      last.3 ∙ third.3 ∙ second.3 ∙ first.3,
+    )
 
 pub made_port : (a : Attempt) (w : World) (p : List ℕ) → made_leaves a w p ≡ true → port_there (with_attempt a w).roots p ≡ port_there w.roots p
 unfolding with_attempt ports_in

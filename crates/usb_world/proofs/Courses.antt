@@ -69,7 +69,7 @@ happened_pend a d k p h = (happened_way a d k p).1 h
 
 pub happened_live : (a : Action) (d : List Spec) (k : Ports) (p : List ℕ) → live k p ≡ true
     → ((live (happened a d k) p ≡ true) × (names_path d a p ≡ false))
-        ⊎ (pend (happened a d k) p ≡ true)
+    ⊎ (pend (happened a d k) p ≡ true)
 happened_live a d k p h = (happened_way a d k p).2 h
 
 took_reach : (e : Event) (es : List Event) (w : World) (p : List ℕ) → w.left ≡ e ∷ es → reach (took e es w).roots p ≡ true → (reach w.roots p ≡ true) × Undisturbed w (took e es w) p

@@ -188,4 +188,4 @@ none_at (Calls c i) a j [] h = off (is_reset c) _ h
 pub harmless_resets : (q : Sent) → IsHarmlessOut q.content → (deep : Bool) (k : Ports) (j : ℕ) (p : List ℕ) → resets_at q deep k j p ≡ false
 harmless_resets q c deep k j p =
     resets_if q deep k j p (λ e m r t z at dp a. none_at (effect_of q dp t) a m r
-        (no_reset_asked q c dp t))
+    (no_reset_asked q c dp t))

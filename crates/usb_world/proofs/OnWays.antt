@@ -28,7 +28,7 @@ spares_if q deep (taken b s a k) zero [] c = refl
 spares_if q deep (taken b s a k) zero (zero ∷ p) c = refl
 spares_if q deep (taken b s a k) zero (suc j ∷ p) c =
     or_off b.enable _ (and_of (effect_spares (effect_of q deep s) j p) _ (c [] j p s refl refl deep)
-        (spares_if q true a j p (λ e m r t z at. c (suc j ∷ e) m r t (ap (λ x. suc j ∷ x) z) at)))
+    (spares_if q true a j p (λ e m r t z at. c (suc j ∷ e) m r t (ap (λ x. suc j ∷ x) z) at)))
 spares_if q deep (taken b s a k) (suc j) p c = spares_if q deep k j p c
 
 pub leaves_if : (q : Sent) (deep : Bool) (k : Ports) (j : ℕ) (p : List ℕ)
@@ -42,12 +42,12 @@ leaves_if q deep (taken b s a k) zero [] c = refl
 leaves_if q deep (taken b s a k) zero (zero ∷ p) c = refl
 leaves_if q deep (taken b s a k) zero (suc j ∷ p) c =
     or_off b.enable _ (and_of (leaves_port (effect_of q deep s) j) _ (c [] j p s refl refl deep)
-        (leaves_if q true a j p (λ e m r t z at. c (suc j ∷ e) m r t (ap (λ x. suc j ∷ x) z) at)))
+    (leaves_if q true a j p (λ e m r t z at. c (suc j ∷ e) m r t (ap (λ x. suc j ∷ x) z) at)))
 leaves_if q deep (taken b s a k) (suc j) p c = leaves_if q deep k j p c
 
 pub resets_if : (q : Sent) (deep : Bool) (k : Ports) (j : ℕ) (p : List ℕ)
-    → OnWay (λ t m r. (dp : Bool) (a : Ports) → effect_resets (effect_of q dp t) a m r ≡ false) k j
-        p
+    → OnWay (λ t m r. (dp : Bool) (a : Ports) → effect_resets (effect_of q dp t) a m r ≡ false)
+    k j p
     → resets_at q deep k j p ≡ false
 unfolding resets_at state_at
 resets_if q deep ended j p c = refl
@@ -57,6 +57,6 @@ resets_if q deep (taken b s a k) zero [] c = refl
 resets_if q deep (taken b s a k) zero (zero ∷ p) c = refl
 resets_if q deep (taken b s a k) zero (suc j ∷ p) c =
     and_none b.enable _ (neither_of (effect_resets (effect_of q deep s) a j p) _
-        (c [] j p s refl refl deep a)
-        (resets_if q true a j p (λ e m r t z at. c (suc j ∷ e) m r t (ap (λ x. suc j ∷ x) z) at)))
+    (c [] j p s refl refl deep a)
+    (resets_if q true a j p (λ e m r t z at. c (suc j ∷ e) m r t (ap (λ x. suc j ∷ x) z) at)))
 resets_if q deep (taken b s a k) (suc j) p c = resets_if q deep k j p c

@@ -108,15 +108,16 @@ packet_kept q deep (taken b s a k) zero (suc j ∷ p) h =
         → KeepsPending (taken b s a k) (met x q deep b s a (after_packet q deep k)) zero (suc j ∷ p)
     split true e ih =
         let on : _ = spared b.enable (effect_spares (effect_of q deep s) j p) (packet_spares q true a j p) e h in
-        let asked : _ = acted_kept (effect_of q deep s) (after_packet q true a) j p on.0 in
-        (and_kept b.power _ _ (λ g. asked.0 ((ih on.1).0 g)),
-            and_kept b.power _ _
-            (or_kept b.connection_changed (pend_at a j p) _ (λ g. asked.1 ((ih on.1).1 g))))
+        let asked : _ = acted_kept (effect_of q deep s) (after_packet q true a) j p on.0 in (
+          and_kept b.power _ _ (λ g. asked.0 ((ih on.1).0 g)),
+          and_kept b.power _ _
+              (or_kept b.connection_changed (pend_at a j p) _ (λ g. asked.1 ((ih on.1).1 g))),
+        )
     split false e ih = (λ g. g, λ g. g)
 packet_kept q deep (taken b s a k) (suc j) p h =
     met_either (λ m. KeepsPending (taken b s a k) m (suc j) p)
     b.enable q deep b s a (after_packet q deep k) (packet_kept q deep k j p h)
-        (packet_kept q deep k j p h)
+    (packet_kept q deep k j p h)
 
 pub unheard : (q : Sent) (d : Bool) (k : Ports) (j : ℕ) (p : List ℕ) → state_at k j p ≡ heard_state q d false (place_at k j p)
 unfolding state_at place_at
@@ -155,7 +156,7 @@ HeardIf q deep on r k m j p =
 
 pub packet_way : (q : Sent) (deep : Bool) (k : Ports) (j : ℕ) (p : List ℕ)
     → HeardIf q (deep_at deep p) (reach_at k j p) (resets_at q deep k j p) k
-        (after_packet q deep k) j p
+    (after_packet q deep k) j p
 unfolding after_packet reach_at place_at resets_at state_at
 packet_way q deep ended j p = (refl, λ f h. h, λ f. no f)
 packet_way q deep (vacant b k) zero [] = (refl, λ f h. h, λ f. no f)
@@ -170,14 +171,14 @@ packet_way q deep (taken b s a k) zero [] = split b.enable
 packet_way q deep (taken b s a k) zero (zero ∷ p) =
     met_either (λ m. HeardIf q true false false (taken b s a k) m zero (zero ∷ p))
     b.enable q deep b s a (after_packet q deep k) (refl, λ f h. h, λ f. no f)
-        (refl, λ f h. h, λ f. no f)
+    (refl, λ f h. h, λ f. no f)
 packet_way q deep (taken b s a k) zero (suc j ∷ p) = split b.enable (packet_way q true a j p)
   where
     split : (x : Bool) → HeardIf q (deep_at true p) (reach_at a j p) (resets_at q true a j p) a
         (after_packet q true a) j p
         → HeardIf q true (x && reach_at a j p)
-            (x && (effect_resets (effect_of q deep s) a j p || resets_at q true a j p))
-            (taken b s a k) (met x q deep b s a (after_packet q deep k)) zero (suc j ∷ p)
+        (x && (effect_resets (effect_of q deep s) a j p || resets_at q true a j p))
+        (taken b s a k) (met x q deep b s a (after_packet q deep k)) zero (suc j ∷ p)
     split true ih =
         let asked : _ = acted_way (effect_of q deep s) (after_packet q true a) j p in
         let same : _ = packet_asks (effect_of q deep s) q true a j p in (
@@ -185,32 +186,36 @@ packet_way q deep (taken b s a k) zero (suc j ∷ p) = split b.enable (packet_wa
               ∙ ap (λ x. option_map (reset_if x) (state_at (after_packet q true a) j p)) same
               ∙ ap (option_map (reset_if (effect_resets (effect_of q deep s) a j p))) ih.0
               ∙ reset_then (effect_resets (effect_of q deep s) a j p) (resets_at q true a j p)
-                  (heard_state q (deep_at true p) (reach_at a j p) (place_at a j p))
-                  (asks_here (effect_of q deep s) q a j p)
+              (heard_state q (deep_at true p) (reach_at a j p) (place_at a j p))
+              (asks_here (effect_of q deep s) q a j p)
               ∙ ap (λ d. option_map
-                  (reset_if (effect_resets (effect_of q deep s) a j p || resets_at q true a j p))
-                  (heard_state q d (reach_at a j p) (place_at a j p))) (true_deep p),
+              (reset_if (effect_resets (effect_of q deep s) a j p || resets_at q true a j p))
+              (heard_state q d (reach_at a j p) (place_at a j p))) (true_deep p),
           λ f.
               let none_of : _ =
-                  neither (effect_resets (effect_of q deep s) a j p) (resets_at q true a j p) f in
+              neither (effect_resets (effect_of q deep s) a j p) (resets_at q true a j p) f in
               and_kept b.enable _ _ (λ g. ih.1 none_of.1 (asked.1 (same ∙ none_of.0) g)),
           λ f. elim (either_of (effect_resets (effect_of q deep s) a j p)
               (resets_at q true a j p) f)
               [ inl y ↦ asked.2 (same ∙ y) | inr y ↦ asked.3 (ih.2 y) ],
         )
-    split false ih = (unheard q true a j p
-        ∙ kept_state (heard_state q true false (place_at a j p)), λ f h. h, λ f. no f)
+    split false ih = (
+      unheard q true a j p
+          ∙ kept_state (heard_state q true false (place_at a j p)),
+      λ f h. h,
+      λ f. no f,
+    )
 packet_way q deep (taken b s a k) (suc j) p =
     met_either
     (λ m. HeardIf q (deep_at deep p) (reach_at k j p) (resets_at q deep k j p) (taken b s a k) m
-        (suc j) p)
+    (suc j) p)
     b.enable q deep b s a (after_packet q deep k) (packet_way q deep k j p)
-        (packet_way q deep k j p)
+    (packet_way q deep k j p)
 
 -- a packet changes each device that it reaches by that device's row, and no other, but for those
 -- that it resets
 pub packet_state : (q : Sent) (deep : Bool) (k : Ports) (j : ℕ) (p : List ℕ)
     → state_at (after_packet q deep k) j p
-        ≡ option_map (reset_if (resets_at q deep k j p))
-        (heard_state q (deep_at deep p) (reach_at k j p) (place_at k j p))
+    ≡ option_map (reset_if (resets_at q deep k j p))
+    (heard_state q (deep_at deep p) (reach_at k j p) (place_at k j p))
 packet_state q deep k j p = (packet_way q deep k j p).0

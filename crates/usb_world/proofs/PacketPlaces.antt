@@ -65,9 +65,9 @@ heard_way q deep (vacant b k) zero (n ∷ p) h = (refl, refl)
 heard_way q deep (vacant b k) (suc j) p h = heard_way q deep k j p h
 heard_way q deep (taken b s a k) zero [] h =
     elim b.enable as (λ x. (place_at (met x q deep b s a (after_packet q deep k)) zero []
-        ≡ Some (heard_place q deep x (full b s a)))
-        × (reach_at (met x q deep b s a (after_packet q deep k)) zero [] ≡ b.enable))
-        [ true ↦ (refl, refl) | false ↦ (refl, refl) ]
+    ≡ Some (heard_place q deep x (full b s a)))
+    × (reach_at (met x q deep b s a (after_packet q deep k)) zero [] ≡ b.enable))
+    [ true ↦ (refl, refl) | false ↦ (refl, refl) ]
 heard_way q deep (taken b s a k) zero (zero ∷ p) h =
     met_either (λ m. HeardWay q true (taken b s a k) m zero (zero ∷ p))
     b.enable q deep b s a (after_packet q deep k) (refl, refl) (refl, refl)
@@ -75,11 +75,11 @@ heard_way q deep (taken b s a k) zero (suc j ∷ p) h = split b.enable h (heard_
   where
     split : (x : Bool) → (not x || (is_left (effect_of q deep s) && way_rests q true a j p)) ≡ true
         → (way_rests q true a j p ≡ true
-            → HeardWay q (deep_at true p) a (after_packet q true a) j p)
+        → HeardWay q (deep_at true p) a (after_packet q true a) j p)
         → (place_at (met x q deep b s a (after_packet q deep k)) zero (suc j ∷ p)
-            ≡ option_map (heard_place q true (x && reach_at a j p)) (place_at a j p))
+        ≡ option_map (heard_place q true (x && reach_at a j p)) (place_at a j p))
         × (reach_at (met x q deep b s a (after_packet q deep k)) zero (suc j ∷ p)
-            ≡ (b.enable && reach_at a j p))
+        ≡ (b.enable && reach_at a j p))
     split true h ih =
         let on : _ = both (is_left (effect_of q deep s)) (way_rests q true a j p) h in
         let same : _ = acted_left (effect_of q deep s) (after_packet q true a) on.0 in (
@@ -92,12 +92,12 @@ heard_way q deep (taken b s a k) zero (suc j ∷ p) h = split b.enable h (heard_
 heard_way q deep (taken b s a k) (suc j) p h =
     met_either (λ m. HeardWay q (deep_at deep p) (taken b s a k) m (suc j) p)
     b.enable q deep b s a (after_packet q deep k) (heard_way q deep k j p h)
-        (heard_way q deep k j p h)
+    (heard_way q deep k j p h)
 
 pub way_place : (q : Sent) (deep : Bool) (k : Ports) (j : ℕ) (p : List ℕ)
     → way_rests q deep k j p ≡ true
     → place_at (after_packet q deep k) j p
-        ≡ option_map (heard_place q (deep_at deep p) (reach_at k j p)) (place_at k j p)
+    ≡ option_map (heard_place q (deep_at deep p) (reach_at k j p)) (place_at k j p)
 way_place q deep k j p h = (heard_way q deep k j p h).0
 
 pub way_reach : (q : Sent) (deep : Bool) (k : Ports) (j : ℕ) (p : List ℕ) → way_rests q deep k j p ≡ true
@@ -122,7 +122,7 @@ way_ports q deep (vacant b k) zero p h = (same_head (empty b) k (after_packet q 
 way_ports q deep (vacant b k) (suc j) p h = way_ports q deep k j p h
 way_ports q deep (taken b s a k) zero [] h =
     met_either (λ m. SamePorts (taken b s a k) m zero []) b.enable q deep b s a
-        (after_packet q deep k)
+    (after_packet q deep k)
     (same_ports (taken b s a k) zero []) (same_ports (taken b s a k) zero [])
 way_ports q deep (taken b s a k) zero (zero ∷ p) h =
     met_either (λ m. SamePorts (taken b s a k) m zero (zero ∷ p))
@@ -138,9 +138,9 @@ way_ports q deep (taken b s a k) zero (suc j ∷ p) h = split b.enable h (way_po
         let x : _ = left_acted (effect_of q deep s) (after_packet q true a) j p on.0 in
         let y : _ = ih on.1 in
         passed_ports b s s a (acted (effect_of q deep s) (after_packet q true a)) k k j p
-            (x.0 ∙ y.0, x.1 ∙ y.1, x.2 ∙ y.2, x.3 ∙ y.3)
+        (x.0 ∙ y.0, x.1 ∙ y.1, x.2 ∙ y.2, x.3 ∙ y.3)
     split false h ih = same_ports (taken b s a k) zero (suc j ∷ p)
 way_ports q deep (taken b s a k) (suc j) p h =
     met_either (λ m. SamePorts (taken b s a k) m (suc j) p)
     b.enable q deep b s a (after_packet q deep k) (way_ports q deep k j p h)
-        (way_ports q deep k j p h)
+    (way_ports q deep k j p h)

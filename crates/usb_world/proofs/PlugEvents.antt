@@ -101,13 +101,13 @@ replaced_way o k x (zero ∷ p) = (λ h. no h, λ h. no h, λ h. no h)
 replaced_way o k [] (suc j ∷ p) = no_event k (suc j ∷ p)
 replaced_way o k (zero ∷ x) (suc j ∷ p) = no_event k (suc j ∷ p)
 replaced_way o k (suc i ∷ x) (suc j ∷ p) = elim (decided (on_way i x j p)) [
-    | inl w ↦
+  | inl w ↦
       let y : _ = struck o k i x j p w in
       (λ h. no (sym y.0 ∙ h), y.2, λ h. inr (y.1 h))
-    | inr w ↦
+  | inr w ↦
       let y : _ = (changed_apart (replaced o) k i x j p w).0 in
       (λ h. (sym y.0 ∙ h, w), λ h. y.2 ∙ h, λ h. inl (y.1 ∙ h, w))
-  ]
+]
 
 plugged_way : (o : Option Spec) (k : Ports) (x p : List ℕ)
     → EventWay k (with_plugged o x k) p (is_some o && way_of x p)

@@ -81,15 +81,18 @@ call_way c (taken b s a k) zero zero [] = split (is_reset c && sees b) refl
   where
     split : (x : Bool) → (is_reset c && sees b) ≡ x
         → ResetIf x (taken b s a k) (before (reset_where x (called_port c b) s a) k) zero []
-    split true e =
-        (refl, λ f. no (sym f), λ f. (refl, refl, refl, all_off_twice a),
-         λ h. (refl, refl, refl, all_off_twice a))
+    split true e = (
+      refl,
+      λ f. no (sym f),
+      λ f. (refl, refl, refl, all_off_twice a),
+      λ h. (refl, refl, refl, all_off_twice a),
+    )
     split false e = (refl, λ f. called_enable c b e, λ f. no f, λ h. h)
 call_way c (taken b s a k) zero zero (n ∷ p) = split n (is_reset c && sees b) refl
   where
     split : (n : ℕ) (x : Bool) → (is_reset c && sees b) ≡ x
         → ResetIf false (taken b s a k) (before (reset_where x (called_port c b) s a) k) zero
-            (n ∷ p)
+        (n ∷ p)
     split zero true e = same_reset false (taken b s a k) zero (zero ∷ p) refl
     split zero false e = same_reset false (taken b s a k) zero (zero ∷ p) refl
     split (suc n) true e =
