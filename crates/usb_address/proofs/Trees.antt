@@ -30,111 +30,91 @@ pend_alone a power = sym (ap (λ x. a || x) (and_false power) ∙ or_nothing a)
 
 -- The ports below a place
 
-none_state : (n : ℕ) (r : List ℕ) → None ≡ state_there ended (n ∷ r)
-unfolding state_at
-none_state zero r = refl
-none_state (suc i) r = refl
+none_way : (n : ℕ) (r : List ℕ)
+    → (None ≡ state_there ended (n ∷ r)) × (None ≡ port_there ended (n ∷ r))
+    × (live ended (n ∷ r) ≡ false) × (pend ended (n ∷ r) ≡ false)
+unfolding state_at port_at live_at pend_at
+none_way zero r = (refl, refl, refl, refl)
+none_way (suc i) r = (refl, refl, refl, refl)
 
-none_port : (n : ℕ) (r : List ℕ) → None ≡ port_there ended (n ∷ r)
-unfolding port_at
-none_port zero r = refl
-none_port (suc i) r = refl
+-- what is asked of a path that goes on below another, by what stands there
+abbrev AskedBelow : Ports → ℕ → List ℕ → List ℕ → Type 0
+AskedBelow k j p q =
+    (state_at k j (p ++ q) ≡ state_there (below_of (place_at k j p)) q)
+    × (port_at k j (p ++ q) ≡ port_there (below_of (place_at k j p)) q)
+    × (reach_at k j (p ++ q) ≡ (reach_at k j p && reach (below_of (place_at k j p)) q))
+    × (live_at k j (p ++ q) ≡ (live_at k j p && live (below_of (place_at k j p)) q))
+    × (pend_at k j (p ++ q)
+    ≡ (pend_at k j p || (live_at k j p && pend (below_of (place_at k j p)) q)))
 
-none_live : (n : ℕ) (r : List ℕ) → live ended (n ∷ r) ≡ false
-unfolding live_at
-none_live zero r = refl
-none_live (suc i) r = refl
+below_at : (k : Ports) (j : ℕ) (p : List ℕ) (n : ℕ) (r : List ℕ) → AskedBelow k j p (n ∷ r)
+unfolding state_at port_at reach_at live_at pend_at place_at
+below_at ended j p n r =
+    let none : _ = none_way n r in
+    (none.0, none.1, refl, refl, refl)
+below_at (vacant b k) zero [] n r =
+    let none : _ = none_way n r in
+    let change : Bool = b.power && b.connection_changed in (
+      none.0,
+      none.1,
+      refl,
+      sym (ap (λ x. b.power && x) none.2 ∙ and_false b.power),
+      pend_alone change b.power ∙ sym (ap (λ x. change || (b.power && x)) none.3),
+    )
+below_at (vacant b k) zero (m ∷ p) n r =
+    let none : _ = none_way n r in
+    (none.0, none.1, refl, refl, sym (or_nothing (b.power && b.connection_changed)))
+below_at (vacant b k) (suc j) p n r = below_at k j p n r
+below_at (taken b s a k) zero [] zero r = (
+  refl,
+  refl,
+  sym (and_false b.enable),
+  sym (and_false b.power),
+  pend_alone (b.power && b.connection_changed) b.power,
+)
+below_at (taken b s a k) zero [] (suc i) r =
+    (refl, refl, refl, refl, pend_first b.power b.connection_changed (pend_at a i r))
+below_at (taken b s a k) zero (zero ∷ p) n r =
+    let none : _ = none_way n r in
+    (none.0, none.1, refl, refl, sym (or_nothing (b.power && b.connection_changed)))
+below_at (taken b s a k) zero (suc i ∷ p) n r =
+    let x : _ = below_at a i p n r in
+    let under : Ports = below_of (place_at a i p) in (
+      x.0,
+      x.1,
+      ap (λ y. b.enable && y) x.2 ∙ and_joined b.enable (reach_at a i p) (reach under (n ∷ r)),
+      ap (λ y. b.power && y) x.3 ∙ and_joined b.power (live_at a i p) (live under (n ∷ r)),
+      ap (λ y. b.power && (b.connection_changed || y)) x.4
+          ∙ pend_joined b.power b.connection_changed (pend_at a i p) (live_at a i p)
+          (pend under (n ∷ r)),
+    )
+below_at (taken b s a k) (suc j) p n r = below_at k j p n r
 
-none_pend : (n : ℕ) (r : List ℕ) → pend ended (n ∷ r) ≡ false
-unfolding pend_at
-none_pend zero r = refl
-none_pend (suc i) r = refl
-
-state_below_at : (k : Ports) (j : ℕ) (p : List ℕ) (n : ℕ) (r : List ℕ) → state_at k j (p ++ n ∷ r) ≡ state_there (below_of (place_at k j p)) (n ∷ r)
-unfolding state_at place_at
-state_below_at ended j p n r = none_state n r
-state_below_at (vacant b k) zero [] n r = none_state n r
-state_below_at (vacant b k) zero (m ∷ p) n r = none_state n r
-state_below_at (vacant b k) (suc j) p n r = state_below_at k j p n r
-state_below_at (taken b s a k) zero [] zero r = refl
-state_below_at (taken b s a k) zero [] (suc i) r = refl
-state_below_at (taken b s a k) zero (zero ∷ p) n r = none_state n r
-state_below_at (taken b s a k) zero (suc i ∷ p) n r = state_below_at a i p n r
-state_below_at (taken b s a k) (suc j) p n r = state_below_at k j p n r
-
-pub port_below_at : (k : Ports) (j : ℕ) (p : List ℕ) (n : ℕ) (r : List ℕ) → port_at k j (p ++ n ∷ r) ≡ port_there (below_of (place_at k j p)) (n ∷ r)
-unfolding port_at place_at
-port_below_at ended j p n r = none_port n r
-port_below_at (vacant b k) zero [] n r = none_port n r
-port_below_at (vacant b k) zero (m ∷ p) n r = none_port n r
-port_below_at (vacant b k) (suc j) p n r = port_below_at k j p n r
-port_below_at (taken b s a k) zero [] zero r = refl
-port_below_at (taken b s a k) zero [] (suc i) r = refl
-port_below_at (taken b s a k) zero (zero ∷ p) n r = none_port n r
-port_below_at (taken b s a k) zero (suc i ∷ p) n r = port_below_at a i p n r
-port_below_at (taken b s a k) (suc j) p n r = port_below_at k j p n r
-
-reach_below_at : (k : Ports) (j : ℕ) (p : List ℕ) (n : ℕ) (r : List ℕ) → reach_at k j (p ++ n ∷ r) ≡ (reach_at k j p && reach (below_of (place_at k j p)) (n ∷ r))
-unfolding reach_at place_at
-reach_below_at ended j p n r = refl
-reach_below_at (vacant b k) zero [] n r = refl
-reach_below_at (vacant b k) zero (m ∷ p) n r = refl
-reach_below_at (vacant b k) (suc j) p n r = reach_below_at k j p n r
-reach_below_at (taken b s a k) zero [] zero r = sym (and_false b.enable)
-reach_below_at (taken b s a k) zero [] (suc i) r = refl
-reach_below_at (taken b s a k) zero (zero ∷ p) n r = refl
-reach_below_at (taken b s a k) zero (suc i ∷ p) n r =
-    ap (λ x. b.enable && x) (reach_below_at a i p n r) ∙ and_joined b.enable (reach_at a i p) (reach (below_of (place_at a i p)) (n ∷ r))
-reach_below_at (taken b s a k) (suc j) p n r = reach_below_at k j p n r
-
-live_below_at : (k : Ports) (j : ℕ) (p : List ℕ) (n : ℕ) (r : List ℕ) → live_at k j (p ++ n ∷ r) ≡ (live_at k j p && live (below_of (place_at k j p)) (n ∷ r))
-unfolding live_at place_at
-live_below_at ended j p n r = refl
-live_below_at (vacant b k) zero [] n r = sym (ap (λ x. b.power && x) (none_live n r) ∙ and_false b.power)
-live_below_at (vacant b k) zero (m ∷ p) n r = refl
-live_below_at (vacant b k) (suc j) p n r = live_below_at k j p n r
-live_below_at (taken b s a k) zero [] zero r = sym (and_false b.power)
-live_below_at (taken b s a k) zero [] (suc i) r = refl
-live_below_at (taken b s a k) zero (zero ∷ p) n r = refl
-live_below_at (taken b s a k) zero (suc i ∷ p) n r =
-    ap (λ x. b.power && x) (live_below_at a i p n r) ∙ and_joined b.power (live_at a i p) (live (below_of (place_at a i p)) (n ∷ r))
-live_below_at (taken b s a k) (suc j) p n r = live_below_at k j p n r
-
-pend_below_at : (k : Ports) (j : ℕ) (p : List ℕ) (n : ℕ) (r : List ℕ) → pend_at k j (p ++ n ∷ r) ≡ (pend_at k j p || (live_at k j p && pend (below_of (place_at k j p)) (n ∷ r)))
-unfolding pend_at live_at place_at
-pend_below_at ended j p n r = refl
-pend_below_at (vacant b k) zero [] n r = pend_alone (b.power && b.connection_changed) b.power ∙ sym (ap (λ x. (b.power && b.connection_changed) || (b.power && x)) (none_pend n r))
-pend_below_at (vacant b k) zero (m ∷ p) n r = sym (or_nothing (b.power && b.connection_changed))
-pend_below_at (vacant b k) (suc j) p n r = pend_below_at k j p n r
-pend_below_at (taken b s a k) zero [] zero r = pend_alone (b.power && b.connection_changed) b.power
-pend_below_at (taken b s a k) zero [] (suc i) r = pend_first b.power b.connection_changed (pend_at a i r)
-pend_below_at (taken b s a k) zero (zero ∷ p) n r = sym (or_nothing (b.power && b.connection_changed))
-pend_below_at (taken b s a k) zero (suc i ∷ p) n r =
-    ap (λ x. b.power && (b.connection_changed || x)) (pend_below_at a i p n r)
-    ∙ pend_joined b.power b.connection_changed (pend_at a i p) (live_at a i p) (pend (below_of (place_at a i p)) (n ∷ r))
-pend_below_at (taken b s a k) (suc j) p n r = pend_below_at k j p n r
+pub port_below_at : (k : Ports) (j : ℕ) (p : List ℕ) (n : ℕ) (r : List ℕ)
+    → port_at k j (p ++ n ∷ r) ≡ port_there (below_of (place_at k j p)) (n ∷ r)
+port_below_at k j p n r = (below_at k j p n r).1
 
 -- The same of paths
 
 pub state_below : (k : Ports) (m : ℕ) (p : List ℕ) (n : ℕ) (r : List ℕ) → state_there k ((m ∷ p) ++ n ∷ r) ≡ state_there (below_of (place k (m ∷ p))) (n ∷ r)
-state_below k zero p n r = none_state n r
-state_below k (suc j) p n r = state_below_at k j p n r
+state_below k zero p n r = (none_way n r).0
+state_below k (suc j) p n r = (below_at k j p n r).0
 
 pub port_below : (k : Ports) (m : ℕ) (p : List ℕ) (n : ℕ) (r : List ℕ) → port_there k ((m ∷ p) ++ n ∷ r) ≡ port_there (below_of (place k (m ∷ p))) (n ∷ r)
-port_below k zero p n r = none_port n r
-port_below k (suc j) p n r = port_below_at k j p n r
+port_below k zero p n r = (none_way n r).1
+port_below k (suc j) p n r = (below_at k j p n r).1
 
 pub reach_below : (k : Ports) (m : ℕ) (p : List ℕ) (n : ℕ) (r : List ℕ) → reach k ((m ∷ p) ++ n ∷ r) ≡ (reach k (m ∷ p) && reach (below_of (place k (m ∷ p))) (n ∷ r))
 reach_below k zero p n r = refl
-reach_below k (suc j) p n r = reach_below_at k j p n r
+reach_below k (suc j) p n r = (below_at k j p n r).2
 
 pub live_below : (k : Ports) (m : ℕ) (p : List ℕ) (n : ℕ) (r : List ℕ) → live k ((m ∷ p) ++ n ∷ r) ≡ (live k (m ∷ p) && live (below_of (place k (m ∷ p))) (n ∷ r))
 live_below k zero p n r = refl
-live_below k (suc j) p n r = live_below_at k j p n r
+live_below k (suc j) p n r = (below_at k j p n r).3
 
 pub pend_below : (k : Ports) (m : ℕ) (p : List ℕ) (n : ℕ) (r : List ℕ) → pend k ((m ∷ p) ++ n ∷ r) ≡ (pend k (m ∷ p) || (live k (m ∷ p) && pend (below_of (place k (m ∷ p))) (n ∷ r)))
 pend_below k zero p n r = refl
-pend_below k (suc j) p n r = pend_below_at k j p n r
+pend_below k (suc j) p n r = (below_at k j p n r).4
 
 -- what pends at a port pends below it
 pub pend_down : (k : Ports) (p r : List ℕ) → pend k p ≡ true → pend k (p ++ r) ≡ true

@@ -198,7 +198,8 @@ data_sent : (o : Option Sent) → IfOut IsDataOut o → (k : Ports) → ((i : �
 data_sent None c k h j p = refl
 data_sent (Some q) c k h j p =
     resets_if q false k j p
-    (λ e m r t z at dp a. ap (λ x. effect_resets x a m r) (data_effect q c dp t (subst (If WaitsNone) at (h j e))))
+    (λ e m r t z at dp a. ap (λ x. effect_resets x a m r)
+    (data_effect q c dp t (subst (If WaitsNone) at (h j e))))
 
 -- The host's ACK, where no device awaits it to take an address
 

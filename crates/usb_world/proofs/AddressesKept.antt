@@ -1,5 +1,7 @@
 -- Which courses keep each device at its own address, and set no mark.
-use Rattle.std.proofs.Common.{◌≡◌, ℕ, zero, suc, ◌+◌, ◌==◌, ◌&&◌, ◌||◌, not, nat_lt, if◌then◌else◌, ◌⊎◌, inl, inr, Bool, true, false, List, [], ◌∷◌, ◌++◌, length, Option, None, Some, option_map, refl, ap, sym, ◌∙◌}
+use Rattle.std.proofs.Common.{◌≡◌, ℕ, zero, suc, ◌+◌, ◌==◌, ◌&&◌, ◌||◌, not, nat_lt, if◌then◌else◌}
+use Rattle.std.proofs.Common.{◌⊎◌, inl, inr, Bool, true, false, List, [], ◌∷◌, ◌++◌, length, Option}
+use Rattle.std.proofs.Common.{None, Some, option_map, refl, ap, sym, ◌∙◌}
 use Rattle.usb_packet.specs.declared.Packet.{Packet}
 use Rattle.usb_packet.specs.declared.Packet.TheVariants.{Token, Payload, Ack, Sof, Nak, Stall, Pre}
 use Rattle.usb_packet.specs.declared.Toggle.{Toggle}
@@ -15,34 +17,41 @@ use Rattle.usb_device.specs.declared.delivery.Content.{Content}
 use Rattle.usb_device.specs.declared.delivery.Content.TheVariants.{Whole, Broken}
 use Rattle.usb_device.specs.declared.delivery.Sent.{Sent}
 use Rattle.usb_device.specs.declared.transfer.RememberedPacket.{RememberedPacket}
-use Rattle.usb_device.specs.declared.transfer.RememberedPacket.TheVariants.{Nothing, SetupSeen, OutSeen, AckAwaited}
-use Rattle.usb_device.specs.Spec.{Spec}
+use Rattle.usb_device.specs.declared.transfer.RememberedPacket.TheVariants.{Nothing, SetupSeen}
+use Rattle.usb_device.specs.declared.transfer.RememberedPacket.TheVariants.{OutSeen, AckAwaited}
 use Rattle.usb_device.specs.PacketFrames.{is_ack}
 use Rattle.usb_port.specs.Calls.{is_reset}
-use Rattle.usb_device.specs.Rows.{State, Reply, received, unread, forgotten, payload_row, token_row, status_row, out_row, sink_row, sunk, out_bulk_row, bulk_of, is_busy, nak_row, unless_busy, accepted}
+use Rattle.usb_device.specs.Rows.{State, Reply, received, unread, forgotten, payload_row, token_row}
+use Rattle.usb_device.specs.Rows.{status_row, out_row, sink_row, sunk, out_bulk_row, bulk_of}
+use Rattle.usb_device.specs.Rows.{is_busy, nak_row, unless_busy, accepted}
 use Rattle.usb_packet.specs.Toggles.{is_same}
 use Rattle.usb_device.specs.Transfer.{Stage, idle, refused, reading, read, ending}
 use Rattle.usb_request.specs.Layout.{setup_of}
-use Rattle.usb_device.specs.Tree.{Ports, ended, vacant, taken, Place, empty, full, called, replaced, changed, reach, reach_at, state_at, place_at, row_of, path_to, state_on}
+use Rattle.usb_device.specs.Tree.{Ports, ended, vacant, taken, Place, empty, full, called, changed}
+use Rattle.usb_device.specs.Tree.{reach, reach_at, state_at, place_at, row_of, path_to, state_on}
 use Rattle.usb_device.specs.Delivery.{hears, reply_to, answer_of, answers, listed, held, is_twice}
 use Rattle.usb_device.proofs.Interface.{keeps-received}
 use Rattle.usb_world.specs.declared.damage.Damage.{Damage}
-use Rattle.usb_world.specs.declared.event.Action.{Action}
 use Rattle.usb_world.specs.declared.types.Attempt.{Attempt}
 use Rattle.usb_world.specs.declared.types.BusFault.{BusFault}
 use Rattle.usb_world.specs.declared.wire.Mark.{Mark}
 use Rattle.usb_world.specs.declared.wire.Mark.TheVariants as mark
 use Rattle.usb_world.specs.Wire.{mark_of, harm_to, marked, marked_some}
-use Rattle.usb_world.specs.Exchange.{token_of, payload_of, reply_of, sent_as, goes_out, token_out, payload_out, reply_out, heard_all, mark_in, place_of_answer, ports_in}
+use Rattle.usb_world.specs.Exchange.{token_of, payload_of, reply_of, sent_as, goes_out, token_out}
+use Rattle.usb_world.specs.Exchange.{payload_out, reply_out, heard_all, mark_in, place_of_answer}
+use Rattle.usb_world.specs.Exchange.{ports_in}
 use Rattle.usb_device.specs.View.{state_there}
 use Rattle.usb_world.specs.Paths.{address_of, Two}
 use Rattle.usb_world.specs.WayEffects.{resets_at, call_resets}
-use Rattle.usb_world.specs.AttemptPackets.{after_sent, answers_to, after_attempt, deep_at, sent_resets, attempt_resets}
+use Rattle.usb_world.specs.AttemptPackets.{after_sent, answers_to, after_attempt, deep_at}
+use Rattle.usb_world.specs.AttemptPackets.{sent_resets, attempt_resets}
 use Rattle.usb_world.specs.World.{World}
-use Rattle.usb_world.specs.Steps.{happened, way_of, names_path, took, ready, damage_in, with_attempt, event_taken, Step, attempt, root_call, event, report, after}
-use Rattle.usb_world.specs.Courses.{is_made, made_resets, root_resets, resets, address_at, Own, Injective, is_quiet, QuietStep, quiet_data}
+use Rattle.usb_world.specs.Steps.{took, ready, damage_in, with_attempt, event_taken, Step, attempt}
+use Rattle.usb_world.specs.Steps.{root_call, event, report, after}
+use Rattle.usb_world.specs.Courses.{is_made, made_resets, root_resets, resets, address_at, Own}
+use Rattle.usb_world.specs.Courses.{Injective, is_quiet, QuietStep, quiet_data}
 use Rattle.usb_world.proofs.Booleans.{no, both, and_of, decided, neither_of}
-use Rattle.usb_world.proofs.WayChanges.{changed_there}
+use Rattle.usb_world.proofs.PlugEvents.{happened_there}
 use Rattle.usb_world.proofs.PortCalls.{call_state}
 use Rattle.usb_world.proofs.PacketEffects.{packet_state, heard_state}
 use Rattle.usb_world.proofs.AttemptPackets.{forgotten_state, calm_sent, token_out as token_calm_out}
@@ -51,7 +60,8 @@ use Rattle.usb_world.proofs.OneDevice.{stands, state_stands}
 use Rattle.usb_world.proofs.Courses.{happened_reach, made_reach, root_reach, goes}
 use Rattle.usb_world.proofs.HarmlessRequests.{harmless_resets, IsHarmlessOut}
 use Rattle.usb_world.proofs.States.{kept_address, forgotten_address}
-use Rattle.usb_world.proofs.LiftedSteps.{OverEvents, OverSteps, Keeps, keeps_events, happened_by, over_taken, over_ready, over_attempt, over_step}
+use Rattle.usb_world.proofs.LiftedSteps.{OverEvents, OverSteps, Keeps, keeps_events}
+use Rattle.usb_world.proofs.LiftedSteps.{over_taken, over_ready, over_attempt, over_step}
 use Rattle.usb_world.proofs.DueEvents.{beside_events, ready_shared}
 
 -- A packet that is no ACK changes no address
@@ -124,14 +134,6 @@ own_not_twice f inj w own = split (decided (is_twice (held w.roots)))
 
 -- Events
 
-replaced_state : (o : Option Spec) (k : Ports) (x p : List ℕ) → way_of x p ≡ false → state_there (changed (replaced o) k x) p ≡ state_there k p
-replaced_state o k x p w = (changed_there (replaced o) k x p w).2
-
-happened_state : (a : Action) (d : List Spec) (k : Ports) (p : List ℕ) → names_path d a p ≡ false → state_there (happened a d k) p ≡ state_there k p
-happened_state a d k p =
-    happened_by (λ v named. named ≡ false → state_there v p ≡ state_there k p) a d k p (λ h. refl)
-    (λ o x. replaced_state o k x p)
-
 -- a device that is reached was reached before, and is as it was
 abbrev pub Stood : List ℕ → World → World → Type 0
 Stood p w v =
@@ -146,7 +148,7 @@ stood_events p = record {
       let late : _ = y on in let early : _ = x late.0 in (early.0, late.1 ∙ early.1);
   came = λ e es w l on.
       let before : _ = happened_reach e.action w.devices w.roots p on in
-      (before.0, happened_state e.action w.devices w.roots p before.1);
+      (before.0, (happened_there e.action w.devices w.roots p before.1).2);
 }
 
 pub ready_stood : (w : World) (p : List ℕ) → Stood p w (ready w)

@@ -1,5 +1,6 @@
 -- What an attempt's packets do to reachable, live and pending.
-use Rattle.std.proofs.Common.{◌≡◌, ℕ, zero, suc, if◌then◌else◌, Bool, true, false, List, [], ◌∷◌, Option, None, Some, option_map, refl, ap, sym, ◌∙◌}
+use Rattle.std.proofs.Common.{◌≡◌, ℕ, zero, suc, if◌then◌else◌, Bool, true, false, List, [], ◌∷◌}
+use Rattle.std.proofs.Common.{Option, None, Some, option_map, refl, ap, sym, ◌∙◌}
 use Rattle.usb_packet.specs.declared.Packet.{Packet}
 use Rattle.usb_packet.specs.declared.Packet.TheVariants.{Token, Payload, Ack, Sof, Nak, Stall, Pre}
 use Rattle.usb_port.specs.PortState.{PortState, powered_off}
@@ -13,8 +14,10 @@ use Rattle.usb_device.specs.declared.transfer.RememberedPacket.TheVariants.{Noth
 use Rattle.usb_device.specs.Rows.{State, Reply, forgotten, received, unread, answered}
 use Rattle.usb_device.specs.Attempt.{is_own}
 use Rattle.usb_device.specs.Effect.{asks}
-use Rattle.usb_device.specs.Tree.{Ports, ended, vacant, taken, empty, full, all_off, acted, row_of, reach_at, state_at, port_at, place_at}
+use Rattle.usb_device.specs.Tree.{Ports, ended, vacant, taken, full, all_off, acted, row_of}
+use Rattle.usb_device.specs.Tree.{reach_at, state_at, port_at, place_at}
 use Rattle.usb_device.specs.Delivery.{hears, reply_to, answer_of, asked_by, effect_of, after_packet, all_forgotten}
+use Rattle.usb_device.specs.View.{forgotten_place}
 use Rattle.usb_world.specs.declared.wire.Mark.{Mark}
 use Rattle.usb_world.specs.declared.wire.Mark.TheVariants as mark
 use Rattle.usb_world.specs.Exchange.{sent_as}
@@ -26,7 +29,7 @@ use Rattle.usb_world.proofs.Booleans.{no}
 use Rattle.usb_world.proofs.OnWays.{spares_if, resets_if}
 use Rattle.usb_world.proofs.PacketEffects.{packet_way, packet_kept}
 use Rattle.usb_world.proofs.PortCalls.{KeepsPending}
-use Rattle.usb_world.proofs.WayChanges.{SamePorts, same_ports, same_head, passed_ports}
+use Rattle.usb_world.proofs.WayChanges.{SamePorts, same_ports, passed_ports}
 use Rattle.usb_world.proofs.SanePorts.{sane_packet, sane_forgotten}
 use Rattle.usb_world.proofs.States.{forgets}
 
@@ -106,7 +109,8 @@ sent_new : (o : Option Sent) (k : Ports) (j : ℕ) (p : List ℕ) → sent_reset
 sent_new None k j p h = no h
 sent_new (Some q) k j p h = (packet_way q false k j p).2 h
 
-sent_kept : (o : Option Sent) (k : Ports) (j : ℕ) (p : List ℕ) → sent_spares o k j p ≡ true → KeepsPending k (after_sent o k) j p
+sent_kept : (o : Option Sent) (k : Ports) (j : ℕ) (p : List ℕ) → sent_spares o k j p ≡ true
+    → KeepsPending k (after_sent o k) j p
 sent_kept None k j p f = (λ h. h, λ h. h)
 sent_kept (Some q) k j p f = packet_kept q false k j p f
 
@@ -116,43 +120,49 @@ sent_sane (Some q) k h = sane_packet q false k h
 
 -- Forgetting
 
-pub forgotten_ports : (k : Ports) (j : ℕ) (p : List ℕ) → SamePorts k (all_forgotten k) j p
-unfolding all_forgotten reach_at live_at pend_at port_at
-forgotten_ports ended j p = same_ports ended j p
-forgotten_ports (vacant b k) zero p = (same_head (empty b) k (all_forgotten k) p).0
-forgotten_ports (vacant b k) (suc j) p = forgotten_ports k j p
-forgotten_ports (taken b s a k) zero [] = same_ports (taken b s a k) zero []
-forgotten_ports (taken b s a k) zero (zero ∷ p) = same_ports (taken b s a k) zero (zero ∷ p)
-forgotten_ports (taken b s a k) zero (suc j ∷ p) =
-    passed_ports b s (forgotten s) a (all_forgotten a) k (all_forgotten k) j p (forgotten_ports a j p)
-forgotten_ports (taken b s a k) (suc j) p = forgotten_ports k j p
-
-pub forgotten_state : (k : Ports) (j : ℕ) (p : List ℕ) → state_at (all_forgotten k) j p ≡ option_map forgotten (state_at k j p)
-unfolding all_forgotten state_at
-forgotten_state ended j p = refl
-forgotten_state (vacant b k) zero p = refl
-forgotten_state (vacant b k) (suc j) p = forgotten_state k j p
-forgotten_state (taken b s a k) zero [] = refl
-forgotten_state (taken b s a k) zero (zero ∷ p) = refl
-forgotten_state (taken b s a k) zero (suc j ∷ p) = forgotten_state a j p
-forgotten_state (taken b s a k) (suc j) p = forgotten_state k j p
-
 pub forgotten_off : (k : Ports) → all_off (all_forgotten k) ≡ all_forgotten (all_off k)
 unfolding all_forgotten all_off
 forgotten_off ended = refl
 forgotten_off (vacant b k) = ap (vacant (powered_off b)) (forgotten_off k)
 forgotten_off (taken b s a k) = ap (taken (powered_off b) (forgotten s) (all_forgotten a)) (forgotten_off k)
 
-forgotten_new : (k : Ports) (j : ℕ) (p : List ℕ) → IsNew (place_at k j p) → IsNew (place_at (all_forgotten k) j p)
-unfolding all_forgotten place_at
-forgotten_new ended j p h = h
-forgotten_new (vacant b k) zero [] h = h
-forgotten_new (vacant b k) zero (n ∷ p) h = h
-forgotten_new (vacant b k) (suc j) p h = forgotten_new k j p h
-forgotten_new (taken b s a k) zero [] h = (h.0, h.1, refl, forgotten_off a ∙ ap all_forgotten h.3)
-forgotten_new (taken b s a k) zero (zero ∷ p) h = h
-forgotten_new (taken b s a k) zero (suc j ∷ p) h = forgotten_new a j p h
-forgotten_new (taken b s a k) (suc j) p h = forgotten_new k j p h
+-- the way to a path where each device has forgotten what it remembered
+abbrev ForgottenWay : Ports → ℕ → List ℕ → Type 0
+ForgottenWay k j p =
+    SamePorts k (all_forgotten k) j p
+    × (state_at (all_forgotten k) j p ≡ option_map forgotten (state_at k j p))
+    × (place_at (all_forgotten k) j p ≡ option_map forgotten_place (place_at k j p))
+    × (IsNew (place_at k j p) → IsNew (place_at (all_forgotten k) j p))
+
+forgotten_way : (k : Ports) (j : ℕ) (p : List ℕ) → ForgottenWay k j p
+unfolding all_forgotten reach_at live_at pend_at port_at state_at place_at
+forgotten_way ended j p = (same_ports ended j p, refl, refl, λ h. h)
+forgotten_way (vacant b k) zero [] = (same_ports (vacant b k) zero [], refl, refl, λ h. h)
+forgotten_way (vacant b k) zero (n ∷ p) = (same_ports (vacant b k) zero (n ∷ p), refl, refl, λ h. h)
+forgotten_way (vacant b k) (suc j) p = forgotten_way k j p
+forgotten_way (taken b s a k) zero [] = (
+  same_ports (taken b s a k) zero [],
+  refl,
+  refl,
+  λ h. (h.0, h.1, refl, forgotten_off a ∙ ap all_forgotten h.3),
+)
+forgotten_way (taken b s a k) zero (zero ∷ p) =
+    (same_ports (taken b s a k) zero (zero ∷ p), refl, refl, λ h. h)
+forgotten_way (taken b s a k) zero (suc j ∷ p) =
+    let x : _ = forgotten_way a j p in
+    (passed_ports b s (forgotten s) a (all_forgotten a) k (all_forgotten k) j p x.0, x.1, x.2, x.3)
+forgotten_way (taken b s a k) (suc j) p = forgotten_way k j p
+
+pub forgotten_ports : (k : Ports) (j : ℕ) (p : List ℕ) → SamePorts k (all_forgotten k) j p
+forgotten_ports k j p = (forgotten_way k j p).0
+
+pub forgotten_state : (k : Ports) (j : ℕ) (p : List ℕ)
+    → state_at (all_forgotten k) j p ≡ option_map forgotten (state_at k j p)
+forgotten_state k j p = (forgotten_way k j p).1
+
+pub forgotten_at : (k : Ports) (j : ℕ) (p : List ℕ)
+    → place_at (all_forgotten k) j p ≡ option_map forgotten_place (place_at k j p)
+forgotten_at k j p = (forgotten_way k j p).2
 
 pub forgotten_twice : (k : Ports) → all_forgotten (all_forgotten k) ≡ all_forgotten k
 unfolding all_forgotten
@@ -263,15 +273,19 @@ attempt_reach n t d r is k j p f h =
 pub attempt_new : (n : ℕ) (t d r : Option Sent) → IsAttemptAt n t d r → (k : Ports) (j : ℕ) (p : List ℕ)
     → attempt_resets t d k j p ≡ true → IsNew (place_at (after_attempt t d r k) j p)
 attempt_new n t d r is k j p h =
-    forgotten_new (after_sent r (after_sent d (after_sent t k))) j p (ack_sent_new r is.reply (after_sent d (after_sent t k)) j p (sent_new d (after_sent t k) j p h))
+    (forgotten_way (after_sent r (after_sent d (after_sent t k))) j p).3
+    (ack_sent_new r is.reply (after_sent d (after_sent t k)) j p
+    (sent_new d (after_sent t k) j p h))
 
 -- what is live or pending, and spared, is so after an attempt
-pub attempt_kept : (n : ℕ) (t d r : Option Sent) → IsAttemptAt n t d r → (k : Ports) (j : ℕ) (p : List ℕ)
+pub attempt_kept : (n : ℕ) (t d r : Option Sent) → IsAttemptAt n t d r
+    → (k : Ports) (j : ℕ) (p : List ℕ)
     → attempt_spares t d k j p ≡ true → KeepsPending k (after_attempt t d r k) j p
 attempt_kept n t d r is k j p f =
     let first : _ = sent_kept t k j p (calm_sent_spares t (token_out n t is.token) k j p) in
     let second : _ = sent_kept d (after_sent t k) j p f in
-    let third : _ = sent_kept r (after_sent d (after_sent t k)) j p (calm_sent_spares r (ack_out r is.reply) (after_sent d (after_sent t k)) j p) in
+    let third : _ = sent_kept r (after_sent d (after_sent t k)) j p
+    (calm_sent_spares r (ack_out r is.reply) (after_sent d (after_sent t k)) j p) in
     let same : _ = forgotten_ports (after_sent r (after_sent d (after_sent t k))) j p in
     (λ h. same.1 ∙ third.0 (second.0 (first.0 h)), λ h. same.2 ∙ third.1 (second.1 (first.1 h)))
 

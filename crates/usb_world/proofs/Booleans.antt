@@ -33,7 +33,8 @@ pub and_kept : (a b c : Bool) → (b ≡ true → c ≡ true) → (a && b) ≡ t
 and_kept true b c f h = f h
 and_kept false b c f h = h
 
-pub and_wider : (a b c d : Bool) → (a ≡ true → b ≡ true) → (c ≡ true → d ≡ true) → (a && c) ≡ true → (b && d) ≡ true
+pub and_wider : (a b c d : Bool) → (a ≡ true → b ≡ true) → (c ≡ true → d ≡ true) → (a && c) ≡ true
+    → (b && d) ≡ true
 and_wider true b c d f g h = and_of b d (f refl) (g h)
 and_wider false b c d f g h = no h
 

@@ -1,5 +1,6 @@
 -- A port of which nothing is asked keeps its change bits and its power, where the device above it is still reached.
-use Rattle.std.proofs.Common.{◌≡◌, ℕ, zero, suc, ◌&&◌, ◌||◌, not, Bool, true, false, List, [], ◌∷◌, ◌++◌, Option, None, Some, refl, ap, sym, subst, ◌∙◌, inl, inr}
+use Rattle.std.proofs.Common.{◌≡◌, ℕ, zero, suc, ◌&&◌, ◌||◌, not, Bool, true, false, List, [], ◌∷◌}
+use Rattle.std.proofs.Common.{◌++◌, Option, None, Some, refl, ap, sym, subst, ◌∙◌, inl, inr}
 use Rattle.std.proofs.lemmas.Option.{same_Some}
 use Rattle.usb_port.specs.PortState.{PortState, plugged, unplugged}
 use Rattle.usb_port.specs.declared.call.PortCall.{PortCall}
@@ -9,7 +10,8 @@ use Rattle.usb_device.specs.declared.effect.Effect.TheVariants.{Leaves, Calls, P
 use Rattle.usb_port.specs.Calls.{is_reset}
 use Rattle.usb_device.specs.Rows.{fresh}
 use Rattle.usb_device.specs.Spec.{Spec}
-use Rattle.usb_device.specs.Tree.{Ports, ended, vacant, taken, Place, empty, full, before, port_of, called, replaced, changed, changed_at, port_at, place_at}
+use Rattle.usb_device.specs.Tree.{Ports, ended, vacant, taken, Place, empty, full, before, port_of}
+use Rattle.usb_device.specs.Tree.{called, replaced, changed, changed_at, port_at, place_at}
 use Rattle.usb_device.specs.Delivery.{effect_of}
 use Rattle.usb_device.specs.View.{port_there}
 use Rattle.usb_world.specs.declared.event.Action.{Action}
@@ -17,19 +19,22 @@ use Rattle.usb_world.specs.declared.types.Attempt.{Attempt}
 use Rattle.usb_world.specs.Exchange.{token_out, payload_out, reply_out, ports_in}
 use Rattle.usb_world.specs.Paths.{is_way, same_number}
 use Rattle.usb_world.specs.AttemptPackets.{after_sent, after_attempt, sent_resets, IsAttemptAt}
-use Rattle.usb_world.specs.WayEffects.{effect_resets, resets_at, leaves_port, way_leaves, takes_reset}
+use Rattle.usb_world.specs.WayEffects.{effect_resets, resets_at, leaves_port, way_leaves}
+use Rattle.usb_world.specs.WayEffects.{takes_reset}
 use Rattle.usb_world.specs.World.{World}
-use Rattle.usb_world.specs.Steps.{happened, way_of, names_path, took, ready, damage_in, with_attempt, Course}
+use Rattle.usb_world.specs.Steps.{happened, way_of, names_path, took, ready, damage_in}
+use Rattle.usb_world.specs.Steps.{with_attempt, Course}
 use Rattle.usb_world.specs.Courses.{made_resets, root_resets}
-use Rattle.usb_world.specs.PortRequests.{sent_leaves, made_leaves, root_leaves, leaves_step, LeavesPort, row_reached, StillSet}
+use Rattle.usb_world.specs.PortRequests.{sent_leaves, made_leaves, root_leaves, leaves_step}
+use Rattle.usb_world.specs.PortRequests.{LeavesPort, row_reached, StillSet}
 use Rattle.usb_world.proofs.Booleans.{no, both, and_false, or_right, not_true, decided}
 use Rattle.usb_world.proofs.WayChanges.{SamePorts, same_ports, changed_there, root_there}
 use Rattle.usb_world.proofs.RootResets.{is_same}
 use Rattle.usb_world.proofs.PacketPlaces.{way_ports}
-use Rattle.usb_world.proofs.AttemptPackets.{token_out as token_calm, ack_out as ack_calm, forgotten_ports}
+use Rattle.usb_world.proofs.AttemptPackets.{token_out as token_calm, ack_out as ack_calm}
+use Rattle.usb_world.proofs.AttemptPackets.{forgotten_ports}
 use Rattle.usb_world.proofs.LiftedSteps.{OverSteps, happened_by, over_course}
 use Rattle.usb_world.proofs.Courses.{happened_reach, made_reach, root_reach, goes}
-use Rattle.usb_world.proofs.WayChanges.{called_apart}
 use Rattle.usb_world.proofs.PacketWays.{calm_leaves}
 
 still_same : (b : PortState) (o : Option PortState) → o ≡ Some b → StillSet b o
@@ -78,7 +83,8 @@ struck_there o k (zero ∷ p) b h = still_same b None h
 struck_there o k (suc i ∷ p) b h = struck_port o k i p b h
 
 -- what leads to a port and not to the device above it is that port's own path
-last_step : (x q : List ℕ) (n : ℕ) → is_way x q ≡ false → is_way x (q ++ (n ∷ [])) ≡ true → x ≡ q ++ (n ∷ [])
+last_step : (x q : List ℕ) (n : ℕ) → is_way x q ≡ false → is_way x (q ++ (n ∷ [])) ≡ true
+    → x ≡ q ++ (n ∷ [])
 unfolding is_way
 last_step [] q n w h = no (sym w)
 last_step (m ∷ []) [] n w h = ap (λ y. y ∷ []) (sym (is_same m n (both (same_number m n) true h).0))
@@ -125,7 +131,8 @@ sent_ports : (o : Option Sent) (k : Ports) (j : ℕ) (p : List ℕ)
 sent_ports None k j p h = same_ports k j p
 sent_ports (Some q) k j p h = way_ports q false k j p h
 
-pub attempt_ports : (n : ℕ) (t d r : Option Sent) → IsAttemptAt n t d r → (k : Ports) (j : ℕ) (p : List ℕ)
+pub attempt_ports : (n : ℕ) (t d r : Option Sent) → IsAttemptAt n t d r
+    → (k : Ports) (j : ℕ) (p : List ℕ)
     → sent_leaves d (after_sent t k) j p ≡ true → SamePorts k (after_attempt t d r k) j p
 attempt_ports n t d r is k j p h =
     let heard : Ports = after_sent d (after_sent t k) in
@@ -143,7 +150,9 @@ pub made_port : (a : Attempt) (w : World) (p : List ℕ) → made_leaves a w p �
 unfolding with_attempt ports_in
 made_port a w [] h = refl
 made_port a w (zero ∷ p) h = refl
-made_port a w (suc j ∷ p) h = (attempt_ports a.addr (token_out a (damage_in w)) (payload_out a (damage_in w)) (reply_out a (damage_in w) w.roots) (goes a (damage_in w) w.roots) w.roots j p h).3
+made_port a w (suc j ∷ p) h = (attempt_ports a.addr (token_out a (damage_in w))
+    (payload_out a (damage_in w)) (reply_out a (damage_in w) w.roots)
+    (goes a (damage_in w) w.roots) w.roots j p h).3
 
 -- A step that leaves a port resets no device above it
 

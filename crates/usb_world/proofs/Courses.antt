@@ -1,9 +1,11 @@
 -- What a step of the world does to reachable, live and pending, and what whole courses do.
-use Rattle.std.proofs.Common.{◌≡◌, ℕ, zero, suc, Bool, ◌+◌, ◌&&◌, nat_le, length, if◌then◌else◌, ◌⊎◌, inl, inr, true, false, List, [], ◌∷◌, ◌++◌, Option, None, Some, refl, ap, sym, subst, ◌∙◌, append_assoc}
+use Rattle.std.proofs.Common.{◌≡◌, ℕ, zero, suc, ◌+◌, ◌&&◌, nat_le, length, if◌then◌else◌, ◌⊎◌, inl}
+use Rattle.std.proofs.Common.{inr, true, false, List, [], ◌∷◌, ◌++◌, Option, None, Some, refl, ap}
+use Rattle.std.proofs.Common.{sym, subst, ◌∙◌, append_assoc, Bool}
 use Rattle.usb_port.specs.declared.call.PortCall.{PortCall}
 use Rattle.usb_device.specs.declared.delivery.Content.TheVariants.{Whole}
 use Rattle.usb_device.specs.Spec.{Spec}
-use Rattle.usb_device.specs.Tree.{Ports, called, replaced, changed, reach, place}
+use Rattle.usb_device.specs.Tree.{Ports, called, changed, reach, place}
 use Rattle.usb_packet.specs.declared.Packet.{Packet}
 use Rattle.usb_packet.specs.declared.Packet.TheVariants as packet
 use Rattle.usb_packet.specs.declared.Toggle.{Toggle}
@@ -16,16 +18,22 @@ use Rattle.usb_world.specs.declared.exchange.ExchangeAnswer.TheVariants.{Nothing
 use Rattle.usb_world.specs.declared.types.Attempt.{Attempt}
 use Rattle.usb_world.specs.declared.wire.Mark.{Mark}
 use Rattle.usb_world.specs.Wire.{is_read, mark_of, harm_to, marked, marked_some}
-use Rattle.usb_world.specs.Exchange.{token_of, payload_of, reply_of, goes_out, token_out, payload_out, reply_out, heard_in, mark_in, place_of_answer, ports_in}
-use Rattle.usb_world.specs.Paths.{live, pend, is_way}
+use Rattle.usb_world.specs.Exchange.{token_of, payload_of, reply_of, goes_out, token_out}
+use Rattle.usb_world.specs.Exchange.{payload_out, reply_out, heard_in, mark_in, place_of_answer}
+use Rattle.usb_world.specs.Exchange.{ports_in}
+use Rattle.usb_world.specs.Paths.{live, pend}
 use Rattle.usb_world.specs.WayEffects.{IsNew}
 use Rattle.usb_world.specs.AttemptPackets.{IfOut, IsTokenFor, IsDataOut, IsAckOut, IsAttemptAt}
 use Rattle.usb_world.specs.World.{World}
-use Rattle.usb_world.specs.Steps.{happened, way_of, names_path, took, ready, damage_in, with_attempt, Step, attempt, root_call, event, report, after, Course, here, step}
-use Rattle.usb_world.specs.Courses.{NoneNames, Undisturbed, is_made, made_resets, made_spares, root_resets, root_spares, resets, spares_step, Reached, UndisturbedOrPends, NoReset, Spares}
+use Rattle.usb_world.specs.Steps.{happened, names_path, took, ready, damage_in, with_attempt, Step}
+use Rattle.usb_world.specs.Steps.{attempt, root_call, event, report, after, Course, here, step}
+use Rattle.usb_world.specs.Courses.{NoneNames, Undisturbed, is_made, made_resets, made_spares}
+use Rattle.usb_world.specs.Courses.{root_resets, root_spares, resets, spares_step, Reached}
+use Rattle.usb_world.specs.Courses.{UndisturbedOrPends, NoReset, Spares}
 use Rattle.usb_world.proofs.Booleans.{no, both, decided}
-use Rattle.usb_world.proofs.LiftedSteps.{OverSteps, with_limit_told, with_call, happened_by, over_step, over_course, made_after}
-use Rattle.usb_world.proofs.PlugEvents.{event_reach, event_live, event_pend}
+use Rattle.usb_world.proofs.LiftedSteps.{OverSteps, with_limit_told, with_call, over_step}
+use Rattle.usb_world.proofs.LiftedSteps.{over_course, made_after}
+use Rattle.usb_world.proofs.PlugEvents.{happened_way}
 use Rattle.usb_world.proofs.PortCalls.{call_new, call_reach, call_kept}
 use Rattle.usb_world.proofs.AttemptPackets.{attempt_reach, attempt_new, attempt_kept, sent_out}
 
@@ -48,49 +56,20 @@ undisturbed_on w v u p f g = record {
 
 -- Events
 
-replaced_reach : (o : Option Spec) (k : Ports) (x p : List ℕ) → reach (changed (replaced o) k x) p ≡ true → (reach k p ≡ true) × (way_of x p ≡ false)
-unfolding is_way
-replaced_reach o k x [] h = no h
-replaced_reach o k x (zero ∷ p) h = no h
-replaced_reach o k [] (suc j ∷ p) h = (h, refl)
-replaced_reach o k (zero ∷ x) (suc j ∷ p) h = (h, refl)
-replaced_reach o k (suc i ∷ x) (suc j ∷ p) h = event_reach o k i x j p h
+pub happened_reach : (a : Action) (d : List Spec) (k : Ports) (p : List ℕ)
+    → reach (happened a d k) p ≡ true → (reach k p ≡ true) × (names_path d a p ≡ false)
+happened_reach a d k p h = (happened_way a d k p).0 h
 
-replaced_pend : (o : Option Spec) (k : Ports) (x p : List ℕ) → pend k p ≡ true → pend (changed (replaced o) k x) p ≡ true
-replaced_pend o k x [] h = no h
-replaced_pend o k x (zero ∷ p) h = no h
-replaced_pend o k [] (suc j ∷ p) h = h
-replaced_pend o k (zero ∷ x) (suc j ∷ p) h = h
-replaced_pend o k (suc i ∷ x) (suc j ∷ p) h = event_pend o k i x j p h
-
-replaced_live : (o : Option Spec) (k : Ports) (x p : List ℕ) → live k p ≡ true
-    → ((live (changed (replaced o) k x) p ≡ true) × (way_of x p ≡ false)) ⊎ (pend (changed (replaced o) k x) p ≡ true)
-unfolding is_way
-replaced_live o k x [] h = no h
-replaced_live o k x (zero ∷ p) h = no h
-replaced_live o k [] (suc j ∷ p) h = inl (h, refl)
-replaced_live o k (zero ∷ x) (suc j ∷ p) h = inl (h, refl)
-replaced_live o k (suc i ∷ x) (suc j ∷ p) h = event_live o k i x j p h
-
-pub happened_reach : (a : Action) (d : List Spec) (k : Ports) (p : List ℕ) → reach (happened a d k) p ≡ true → (reach k p ≡ true) × (names_path d a p ≡ false)
-happened_reach a d k p =
-    happened_by (λ v named. reach v p ≡ true → (reach k p ≡ true) × (named ≡ false)) a d k p
-    (λ h. (h, refl)) (λ o x. replaced_reach o k x p)
-
-happened_pend : (a : Action) (d : List Spec) (k : Ports) (p : List ℕ) → pend k p ≡ true
-    → pend (happened a d k) p ≡ true
-happened_pend a d k p =
-    happened_by (λ v _. pend k p ≡ true → pend v p ≡ true) a d k p (λ h. h)
-    (λ o x. replaced_pend o k x p)
+happened_pend : (a : Action) (d : List Spec) (k : Ports) (p : List ℕ)
+    → pend k p ≡ true → pend (happened a d k) p ≡ true
+happened_pend a d k p h = (happened_way a d k p).1 h
 
 abbrev LiveOr : Ports → Bool → List ℕ → Type 0
 LiveOr v named p = ((live v p ≡ true) × (named ≡ false)) ⊎ (pend v p ≡ true)
 
 happened_live : (a : Action) (d : List Spec) (k : Ports) (p : List ℕ) → live k p ≡ true
     → LiveOr (happened a d k) (names_path d a p) p
-happened_live a d k p =
-    happened_by (λ v named. live k p ≡ true → LiveOr v named p) a d k p (λ h. inl (h, refl))
-    (λ o x. replaced_live o k x p)
+happened_live a d k p h = (happened_way a d k p).2 h
 
 took_reach : (e : Event) (es : List Event) (w : World) (p : List ℕ) → w.left ≡ e ∷ es → reach (took e es w).roots p ≡ true → (reach w.roots p ≡ true) × Undisturbed w (took e es w) p
 unfolding took
@@ -161,13 +140,17 @@ pub made_pend : (a : Attempt) (w : World) (p : List ℕ) → made_spares a w p �
 unfolding with_attempt ports_in
 made_pend a w [] f h = no h
 made_pend a w (zero ∷ p) f h = no h
-made_pend a w (suc j ∷ p) f h = (attempt_kept a.addr (token_out a (damage_in w)) (payload_out a (damage_in w)) (reply_out a (damage_in w) w.roots) (goes a (damage_in w) w.roots) w.roots j p f).1 h
+made_pend a w (suc j ∷ p) f h =
+    (attempt_kept a.addr (token_out a (damage_in w)) (payload_out a (damage_in w))
+    (reply_out a (damage_in w) w.roots) (goes a (damage_in w) w.roots) w.roots j p f).1 h
 
 pub made_live : (a : Attempt) (w : World) (p : List ℕ) → made_spares a w p ≡ true → live w.roots p ≡ true → live (with_attempt a w).roots p ≡ true
 unfolding with_attempt ports_in
 made_live a w [] f h = no h
 made_live a w (zero ∷ p) f h = no h
-made_live a w (suc j ∷ p) f h = (attempt_kept a.addr (token_out a (damage_in w)) (payload_out a (damage_in w)) (reply_out a (damage_in w) w.roots) (goes a (damage_in w) w.roots) w.roots j p f).0 h
+made_live a w (suc j ∷ p) f h =
+    (attempt_kept a.addr (token_out a (damage_in w)) (payload_out a (damage_in w))
+    (reply_out a (damage_in w) w.roots) (goes a (damage_in w) w.roots) w.roots j p f).0 h
 
 -- A root call
 

@@ -1,5 +1,7 @@
 -- Setup data whose request is not PORT_RESET reset no device, whoever hears them.
-use Rattle.std.proofs.Common.{◌≡◌, ℕ, ◌/◌, ◌%◌, ◌==◌, ◌&&◌, not, nat_le, if◌then◌else◌, Bool, true, false, List, [], ◌∷◌, length, slice_get, Option, None, Some, refl, sym, ◌∙◌}
+use Rattle.std.proofs.Common.{◌≡◌, ℕ, ◌/◌, ◌%◌, ◌==◌, ◌&&◌, not, nat_le, if◌then◌else◌, Bool, true}
+use Rattle.std.proofs.Common.{false, List, [], ◌∷◌, length, slice_get, Option, None, Some, refl}
+use Rattle.std.proofs.Common.{sym, ◌∙◌}
 use Rattle.usb_packet.specs.declared.Packet.TheVariants.{Payload}
 use Rattle.usb_packet.specs.declared.Packet.TheVariants as packet
 use Rattle.usb_packet.specs.declared.Toggle.{Toggle}
@@ -185,4 +187,5 @@ none_at (Calls c i) a j [] h = off (is_reset c) _ h
 
 pub harmless_resets : (q : Sent) → IsHarmlessOut q.content → (deep : Bool) (k : Ports) (j : ℕ) (p : List ℕ) → resets_at q deep k j p ≡ false
 harmless_resets q c deep k j p =
-    resets_if q deep k j p (λ e m r t z at dp a. none_at (effect_of q dp t) a m r (no_reset_asked q c dp t))
+    resets_if q deep k j p (λ e m r t z at dp a. none_at (effect_of q dp t) a m r
+    (no_reset_asked q c dp t))

@@ -1,4 +1,4 @@
--- A packet spares what is pending, leaves a port and resets none, by what each device on the way asks.
+-- A packet spares what is pending, leaves a port, resets none, by what each device on the way asks.
 use Rattle.std.proofs.Common.{◌≡◌, ℕ, zero, suc, ◌&&◌, ◌||◌, not, Bool, true, false}
 use Rattle.std.proofs.Common.{List, [], ◌∷◌, ◌++◌, Some, refl, ap}
 use Rattle.usb_device.specs.declared.delivery.Sent.{Sent}
@@ -9,14 +9,17 @@ use Rattle.usb_world.specs.WayEffects.{effect_resets, resets_at, effect_spares, 
 use Rattle.usb_world.specs.WayEffects.{leaves_port, way_leaves}
 use Rattle.usb_world.proofs.Booleans.{and_of, or_right, neither_of, and_none}
 
--- so of each device on the way to a path, with the number of its port there and the rest of the path
+-- so of each device on the way to a path, with its port there and the rest of the path
 abbrev pub OnWay : (State → ℕ → List ℕ → Type 0) → Ports → ℕ → List ℕ → Type 0
-OnWay P k j p = (e : List ℕ) (m : ℕ) (r : List ℕ) (t : State) → p ≡ e ++ (suc m ∷ r) → state_at k j e ≡ Some t → P t m r
+OnWay P k j p = (e : List ℕ) (m : ℕ) (r : List ℕ) (t : State) → p ≡ e ++ (suc m ∷ r)
+    → state_at k j e ≡ Some t → P t m r
 
 or_off : (x y : Bool) → y ≡ true → (not x || y) ≡ true
 or_off x y h = or_right (not x) y h
 
-pub spares_if : (q : Sent) (deep : Bool) (k : Ports) (j : ℕ) (p : List ℕ) → OnWay (λ t m r. (dp : Bool) → effect_spares (effect_of q dp t) m r ≡ true) k j p → packet_spares q deep k j p ≡ true
+pub spares_if : (q : Sent) (deep : Bool) (k : Ports) (j : ℕ) (p : List ℕ)
+    → OnWay (λ t m r. (dp : Bool) → effect_spares (effect_of q dp t) m r ≡ true) k j p
+    → packet_spares q deep k j p ≡ true
 unfolding packet_spares state_at
 spares_if q deep ended j p c = refl
 spares_if q deep (vacant b k) zero p c = refl
@@ -24,10 +27,13 @@ spares_if q deep (vacant b k) (suc j) p c = spares_if q deep k j p c
 spares_if q deep (taken b s a k) zero [] c = refl
 spares_if q deep (taken b s a k) zero (zero ∷ p) c = refl
 spares_if q deep (taken b s a k) zero (suc j ∷ p) c =
-    or_off b.enable _ (and_of (effect_spares (effect_of q deep s) j p) _ (c [] j p s refl refl deep) (spares_if q true a j p (λ e m r t z at. c (suc j ∷ e) m r t (ap (λ x. suc j ∷ x) z) at)))
+    or_off b.enable _ (and_of (effect_spares (effect_of q deep s) j p) _ (c [] j p s refl refl deep)
+    (spares_if q true a j p (λ e m r t z at. c (suc j ∷ e) m r t (ap (λ x. suc j ∷ x) z) at)))
 spares_if q deep (taken b s a k) (suc j) p c = spares_if q deep k j p c
 
-pub leaves_if : (q : Sent) (deep : Bool) (k : Ports) (j : ℕ) (p : List ℕ) → OnWay (λ t m r. (dp : Bool) → leaves_port (effect_of q dp t) m ≡ true) k j p → way_leaves q deep k j p ≡ true
+pub leaves_if : (q : Sent) (deep : Bool) (k : Ports) (j : ℕ) (p : List ℕ)
+    → OnWay (λ t m r. (dp : Bool) → leaves_port (effect_of q dp t) m ≡ true) k j p
+    → way_leaves q deep k j p ≡ true
 unfolding way_leaves state_at
 leaves_if q deep ended j p c = refl
 leaves_if q deep (vacant b k) zero p c = refl
@@ -35,10 +41,14 @@ leaves_if q deep (vacant b k) (suc j) p c = leaves_if q deep k j p c
 leaves_if q deep (taken b s a k) zero [] c = refl
 leaves_if q deep (taken b s a k) zero (zero ∷ p) c = refl
 leaves_if q deep (taken b s a k) zero (suc j ∷ p) c =
-    or_off b.enable _ (and_of (leaves_port (effect_of q deep s) j) _ (c [] j p s refl refl deep) (leaves_if q true a j p (λ e m r t z at. c (suc j ∷ e) m r t (ap (λ x. suc j ∷ x) z) at)))
+    or_off b.enable _ (and_of (leaves_port (effect_of q deep s) j) _ (c [] j p s refl refl deep)
+    (leaves_if q true a j p (λ e m r t z at. c (suc j ∷ e) m r t (ap (λ x. suc j ∷ x) z) at)))
 leaves_if q deep (taken b s a k) (suc j) p c = leaves_if q deep k j p c
 
-pub resets_if : (q : Sent) (deep : Bool) (k : Ports) (j : ℕ) (p : List ℕ) → OnWay (λ t m r. (dp : Bool) (a : Ports) → effect_resets (effect_of q dp t) a m r ≡ false) k j p → resets_at q deep k j p ≡ false
+pub resets_if : (q : Sent) (deep : Bool) (k : Ports) (j : ℕ) (p : List ℕ)
+    → OnWay (λ t m r. (dp : Bool) (a : Ports) → effect_resets (effect_of q dp t) a m r ≡ false)
+    k j p
+    → resets_at q deep k j p ≡ false
 unfolding resets_at state_at
 resets_if q deep ended j p c = refl
 resets_if q deep (vacant b k) zero p c = refl
@@ -46,5 +56,7 @@ resets_if q deep (vacant b k) (suc j) p c = resets_if q deep k j p c
 resets_if q deep (taken b s a k) zero [] c = refl
 resets_if q deep (taken b s a k) zero (zero ∷ p) c = refl
 resets_if q deep (taken b s a k) zero (suc j ∷ p) c =
-    and_none b.enable _ (neither_of (effect_resets (effect_of q deep s) a j p) _ (c [] j p s refl refl deep a) (resets_if q true a j p (λ e m r t z at. c (suc j ∷ e) m r t (ap (λ x. suc j ∷ x) z) at)))
+    and_none b.enable _ (neither_of (effect_resets (effect_of q deep s) a j p) _
+    (c [] j p s refl refl deep a)
+    (resets_if q true a j p (λ e m r t z at. c (suc j ∷ e) m r t (ap (λ x. suc j ∷ x) z) at)))
 resets_if q deep (taken b s a k) (suc j) p c = resets_if q deep k j p c

@@ -21,7 +21,8 @@ use Rattle.usb_world.specs.LonePackets.{OthersForgot, OthersUncalled}
 use Rattle.usb_world.proofs.Booleans.{no, both, and_of, decided}
 use Rattle.usb_world.proofs.Holders.{one_path}
 use Rattle.usb_world.proofs.PacketEffects.{packet_state, true_deep, heard_state}
-use Rattle.usb_world.proofs.AttemptPackets.{token_out, ack_out, calm_sent, rested_answer, forgotten_state, ack_calls}
+use Rattle.usb_world.proofs.AttemptPackets.{token_out, ack_out, calm_sent, rested_answer}
+use Rattle.usb_world.proofs.AttemptPackets.{forgotten_state, forgotten_at, ack_calls}
 use Rattle.usb_world.proofs.PacketPlaces.{way_place, way_reach, is_left, way_rests, heard_place, place_after_sent}
 use Rattle.usb_world.proofs.Equality.{equal_same, self_number, self_path}
 use Rattle.usb_world.proofs.States.{kept_state}
@@ -288,17 +289,6 @@ sent_to_one (Some q) k x on f c = record {
 
     others : (i : ℕ) (e : List ℕ) → (same_number i x.row && same_path e x.rest) ≡ false → state_at (after_packet q false k) i e ≡ option_map (reset_if (resets_at q false k i e)) (state_at k i e)
     others i e d = rest_state q false k i e (λ t. rest i e t d)
-
-pub forgotten_at : (k : Ports) (j : ℕ) (p : List ℕ) → place_at (all_forgotten k) j p ≡ option_map forgotten_place (place_at k j p)
-unfolding all_forgotten place_at
-forgotten_at ended j p = refl
-forgotten_at (vacant b k) zero [] = refl
-forgotten_at (vacant b k) zero (n ∷ p) = refl
-forgotten_at (vacant b k) (suc j) p = forgotten_at k j p
-forgotten_at (taken b s a k) zero [] = refl
-forgotten_at (taken b s a k) zero (zero ∷ p) = refl
-forgotten_at (taken b s a k) zero (suc j ∷ p) = forgotten_at a j p
-forgotten_at (taken b s a k) (suc j) p = forgotten_at k j p
 
 thrice : (f g h i : Place → Place) (o : Option Place) → option_map f (option_map g (option_map h (option_map i o))) ≡ option_map (λ x. f (g (h (i x)))) o
 thrice f g h i None = refl

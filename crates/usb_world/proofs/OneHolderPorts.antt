@@ -37,9 +37,10 @@ use Rattle.usb_world.specs.Steps.{ready, damage_in, with_attempt, attempt, after
 use Rattle.usb_world.specs.OneHolder.{way_to, token_way, payload_way, IsSetup, IsOut, IsIn, HolderIn, out_alone, in_alone, setup_asked}
 use Rattle.usb_world.proofs.Booleans.{no, both, and_of, decided}
 use Rattle.usb_world.proofs.Holders.{one_path}
-use Rattle.usb_world.proofs.AttemptPackets.{CalmOut, token_out as token_calm, ack_out as ack_calm, forgotten_off}
+use Rattle.usb_world.proofs.AttemptPackets.{CalmOut, token_out as token_calm, ack_out as ack_calm}
+use Rattle.usb_world.proofs.AttemptPackets.{forgotten_at, forgotten_off}
 use Rattle.usb_world.proofs.StepInvariants.{settled_called}
-use Rattle.usb_world.proofs.OneDevice.{rest_packet, settled_memory, stands, forgotten_at, place_after}
+use Rattle.usb_world.proofs.OneDevice.{rest_packet, settled_memory, stands, place_after}
 use Rattle.usb_world.proofs.Courses.{goes}
 use Rattle.usb_world.proofs.OneHolder.{holder_holds, acts, rests, ports_by, sent_stands, first, first_below, second, second_below, third, second_place, is_state, token_is, data_is, none_is, token_comes, no_payload, through_spec, way_same, setup_one, out_one, in_one, setup_alone, Holder, ExchangedWithHolder}
 use Rattle.usb_world.proofs.OneHolderAttempts.{first_silent, silent_one, made_is, holder_in}

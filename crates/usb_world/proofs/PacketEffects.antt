@@ -1,17 +1,22 @@
 -- What a packet does to reachable, live and pending, and to the devices and ports.
-use Rattle.std.proofs.Common.{◌≡◌, ℕ, zero, suc, ◌&&◌, ◌||◌, not, if◌then◌else◌, inl, inr, Bool, true, false, List, [], ◌∷◌, Option, None, Some, option_map, refl, ap, sym, ◌∙◌}
+use Rattle.std.proofs.Common.{◌≡◌, ℕ, zero, suc, ◌&&◌, ◌||◌, not, if◌then◌else◌, inl, inr, Bool}
+use Rattle.std.proofs.Common.{true, false, List, [], ◌∷◌, Option, None, Some, option_map, refl, ap}
+use Rattle.std.proofs.Common.{sym, ◌∙◌}
 use Rattle.usb_port.specs.PortState.{PortState}
 use Rattle.usb_device.specs.declared.effect.Effect.{Effect}
 use Rattle.usb_device.specs.declared.effect.Effect.TheVariants.{Leaves, Calls, PortsOff}
 use Rattle.usb_device.specs.Rows.{State}
-use Rattle.usb_device.specs.Tree.{Ports, ended, vacant, taken, full, reach_at, state_at, place_at, acted, Place, empty}
+use Rattle.usb_device.specs.Tree.{Ports, ended, vacant, taken, full, reach_at, state_at, place_at}
+use Rattle.usb_device.specs.Tree.{acted, Place, empty}
 use Rattle.usb_device.specs.Delivery.{answer_of, effect_of, after_packet}
 use Rattle.usb_device.specs.declared.delivery.Sent.{Sent}
 use Rattle.usb_world.specs.Paths.{live_at, pend_at}
-use Rattle.usb_world.specs.WayEffects.{IsNew, takes_reset, effect_resets, resets_at, reset_if, effect_spares, packet_spares}
+use Rattle.usb_world.specs.WayEffects.{IsNew, takes_reset, effect_resets, resets_at, reset_if}
+use Rattle.usb_world.specs.WayEffects.{effect_spares, packet_spares}
 use Rattle.usb_world.specs.AttemptPackets.{deep_at}
 use Rattle.usb_world.proofs.Booleans.{both, and_kept, or_kept, either_of, neither, no}
-use Rattle.usb_world.proofs.PortCalls.{off_way, ResetIf, same_reset, call_way, KeepsPending, pending_kept, call_kept}
+use Rattle.usb_world.proofs.PortCalls.{off_way, ResetIf, same_reset, call_way, KeepsPending}
+use Rattle.usb_world.proofs.PortCalls.{pending_kept, call_kept}
 use Rattle.usb_world.proofs.WayChanges.{same_head}
 use Rattle.usb_world.proofs.States.{kept_state}
 
@@ -25,16 +30,26 @@ heard_state q deep on (Some (full b s a)) = Some (if on then (answer_of q deep s
 abbrev pub met : Bool → Sent → Bool → PortState → State → Ports → Ports → Ports
 met x q deep b s a k = if x then taken b (answer_of q deep s a).1 (acted (effect_of q deep s) (after_packet q true a)) k else taken b s a k
 
+-- what is so in both cases
+pub met_either : (P : Ports → Type 0) (x : Bool) (q : Sent) (deep : Bool)
+    (b : PortState) (s : State) (a k : Ports)
+    → P (met true q deep b s a k) → P (met false q deep b s a k)
+    → P (met x q deep b s a k)
+met_either P true q deep b s a k h g = h
+met_either P false q deep b s a k h g = g
+
 -- What a device asks of its ports
 
-acted_way : (e : Effect) (x : Ports) (j : ℕ) (p : List ℕ) → ResetIf (effect_resets e x j p) x (acted e x) j p
+acted_way : (e : Effect) (x : Ports) (j : ℕ) (p : List ℕ)
+    → ResetIf (effect_resets e x j p) x (acted e x) j p
 acted_way Leaves x j p = same_reset false x j p refl
 acted_way (Calls c i) x j p = call_way c x i j p
 acted_way PortsOff x j p =
     let off : _ = off_way x j p in
     (off.1 ∙ kept_state (state_at x j p), λ f h. no (sym off.0 ∙ h), λ f. no f, off.2)
 
-acted_kept : (e : Effect) (x : Ports) (j : ℕ) (p : List ℕ) → effect_spares e j p ≡ true → KeepsPending x (acted e x) j p
+acted_kept : (e : Effect) (x : Ports) (j : ℕ) (p : List ℕ) → effect_spares e j p ≡ true
+    → KeepsPending x (acted e x) j p
 acted_kept Leaves x j p h = (λ g. g, λ g. g)
 acted_kept (Calls c i) x j p h = call_kept c x i j p h
 acted_kept PortsOff x j p h = no h
@@ -80,20 +95,29 @@ packet_kept q deep (vacant b k) zero p h =
     (same_head (empty b) k (after_packet q deep k) p).0
 packet_kept q deep (vacant b k) (suc j) p h = packet_kept q deep k j p h
 packet_kept q deep (taken b s a k) zero [] h =
-    elim b.enable as (λ x. KeepsPending (taken b s a k) (met x q deep b s a (after_packet q deep k)) zero []) [ true ↦ (λ g. g, λ g. g) | false ↦ (λ g. g, λ g. g) ]
+    met_either (λ m. KeepsPending (taken b s a k) m zero [])
+    b.enable q deep b s a (after_packet q deep k) (λ g. g, λ g. g) (λ g. g, λ g. g)
 packet_kept q deep (taken b s a k) zero (zero ∷ p) h =
-    elim b.enable as (λ x. KeepsPending (taken b s a k) (met x q deep b s a (after_packet q deep k)) zero (zero ∷ p)) [ true ↦ (λ g. g, λ g. g) | false ↦ (λ g. g, λ g. g) ]
-packet_kept q deep (taken b s a k) zero (suc j ∷ p) h = split b.enable refl (packet_kept q true a j p)
+    met_either (λ m. KeepsPending (taken b s a k) m zero (zero ∷ p))
+    b.enable q deep b s a (after_packet q deep k) (λ g. g, λ g. g) (λ g. g, λ g. g)
+packet_kept q deep (taken b s a k) zero (suc j ∷ p) h =
+    split b.enable refl (packet_kept q true a j p)
   where
-    split : (x : Bool) → b.enable ≡ x → (packet_spares q true a j p ≡ true → KeepsPending a (after_packet q true a) j p)
+    split : (x : Bool) → b.enable ≡ x
+        → (packet_spares q true a j p ≡ true → KeepsPending a (after_packet q true a) j p)
         → KeepsPending (taken b s a k) (met x q deep b s a (after_packet q deep k)) zero (suc j ∷ p)
     split true e ih =
         let on : _ = spared b.enable (effect_spares (effect_of q deep s) j p) (packet_spares q true a j p) e h in
-        let asked : _ = acted_kept (effect_of q deep s) (after_packet q true a) j p on.0 in
-        (and_kept b.power _ _ (λ g. asked.0 ((ih on.1).0 g)), and_kept b.power _ _ (or_kept b.connection_changed (pend_at a j p) _ (λ g. asked.1 ((ih on.1).1 g))))
+        let asked : _ = acted_kept (effect_of q deep s) (after_packet q true a) j p on.0 in (
+          and_kept b.power _ _ (λ g. asked.0 ((ih on.1).0 g)),
+          and_kept b.power _ _
+              (or_kept b.connection_changed (pend_at a j p) _ (λ g. asked.1 ((ih on.1).1 g))),
+        )
     split false e ih = (λ g. g, λ g. g)
 packet_kept q deep (taken b s a k) (suc j) p h =
-    elim b.enable as (λ x. KeepsPending (taken b s a k) (met x q deep b s a (after_packet q deep k)) (suc j) p) [ true ↦ packet_kept q deep k j p h | false ↦ packet_kept q deep k j p h ]
+    met_either (λ m. KeepsPending (taken b s a k) m (suc j) p)
+    b.enable q deep b s a (after_packet q deep k) (packet_kept q deep k j p h)
+    (packet_kept q deep k j p h)
 
 pub unheard : (q : Sent) (d : Bool) (k : Ports) (j : ℕ) (p : List ℕ) → state_at k j p ≡ heard_state q d false (place_at k j p)
 unfolding state_at place_at
@@ -127,10 +151,12 @@ asks_here PortsOff q a j (n ∷ p) h = no h
 abbrev HeardIf : Sent → Bool → Bool → Bool → Ports → Ports → ℕ → List ℕ → Type 0
 HeardIf q deep on r k m j p =
     (state_at m j p ≡ option_map (reset_if r) (heard_state q deep on (place_at k j p)))
-    × (r ≡ false → reach_at m j p ≡ true → reach_at k j p ≡ true) × (r ≡ true → IsNew (place_at m j p))
+    × (r ≡ false → reach_at m j p ≡ true → reach_at k j p ≡ true)
+    × (r ≡ true → IsNew (place_at m j p))
 
 pub packet_way : (q : Sent) (deep : Bool) (k : Ports) (j : ℕ) (p : List ℕ)
-    → HeardIf q (deep_at deep p) (reach_at k j p) (resets_at q deep k j p) k (after_packet q deep k) j p
+    → HeardIf q (deep_at deep p) (reach_at k j p) (resets_at q deep k j p) k
+    (after_packet q deep k) j p
 unfolding after_packet reach_at place_at resets_at state_at
 packet_way q deep ended j p = (refl, λ f h. h, λ f. no f)
 packet_way q deep (vacant b k) zero [] = (refl, λ f h. h, λ f. no f)
@@ -138,38 +164,58 @@ packet_way q deep (vacant b k) zero (n ∷ p) = (refl, λ f h. h, λ f. no f)
 packet_way q deep (vacant b k) (suc j) p = packet_way q deep k j p
 packet_way q deep (taken b s a k) zero [] = split b.enable
   where
-    split : (x : Bool) → HeardIf q deep x false (taken b s a k) (met x q deep b s a (after_packet q deep k)) zero []
+    split : (x : Bool) → HeardIf q deep x false (taken b s a k)
+        (met x q deep b s a (after_packet q deep k)) zero []
     split true = (refl, λ f h. h, λ f. no f)
     split false = (refl, λ f h. h, λ f. no f)
-packet_way q deep (taken b s a k) zero (zero ∷ p) = split b.enable
-  where
-    split : (x : Bool) → HeardIf q true false false (taken b s a k) (met x q deep b s a (after_packet q deep k)) zero (zero ∷ p)
-    split true = (refl, λ f h. h, λ f. no f)
-    split false = (refl, λ f h. h, λ f. no f)
+packet_way q deep (taken b s a k) zero (zero ∷ p) =
+    met_either (λ m. HeardIf q true false false (taken b s a k) m zero (zero ∷ p))
+    b.enable q deep b s a (after_packet q deep k) (refl, λ f h. h, λ f. no f)
+    (refl, λ f h. h, λ f. no f)
 packet_way q deep (taken b s a k) zero (suc j ∷ p) = split b.enable (packet_way q true a j p)
   where
-    split : (x : Bool) → HeardIf q (deep_at true p) (reach_at a j p) (resets_at q true a j p) a (after_packet q true a) j p
-        → HeardIf q true (x && reach_at a j p) (x && (effect_resets (effect_of q deep s) a j p || resets_at q true a j p)) (taken b s a k) (met x q deep b s a (after_packet q deep k)) zero (suc j ∷ p)
+    split : (x : Bool) → HeardIf q (deep_at true p) (reach_at a j p) (resets_at q true a j p) a
+        (after_packet q true a) j p
+        → HeardIf q true (x && reach_at a j p)
+        (x && (effect_resets (effect_of q deep s) a j p || resets_at q true a j p))
+        (taken b s a k) (met x q deep b s a (after_packet q deep k)) zero (suc j ∷ p)
     split true ih =
         let asked : _ = acted_way (effect_of q deep s) (after_packet q true a) j p in
         let same : _ = packet_asks (effect_of q deep s) q true a j p in (
           asked.0
               ∙ ap (λ x. option_map (reset_if x) (state_at (after_packet q true a) j p)) same
               ∙ ap (option_map (reset_if (effect_resets (effect_of q deep s) a j p))) ih.0
-              ∙ reset_then (effect_resets (effect_of q deep s) a j p) (resets_at q true a j p) (heard_state q (deep_at true p) (reach_at a j p) (place_at a j p)) (asks_here (effect_of q deep s) q a j p)
-              ∙ ap (λ d. option_map (reset_if (effect_resets (effect_of q deep s) a j p || resets_at q true a j p)) (heard_state q d (reach_at a j p) (place_at a j p))) (true_deep p),
-          λ f. let none_of : _ = neither (effect_resets (effect_of q deep s) a j p) (resets_at q true a j p) f in and_kept b.enable _ _ (λ g. ih.1 none_of.1 (asked.1 (same ∙ none_of.0) g)),
-          λ f. elim (either_of (effect_resets (effect_of q deep s) a j p) (resets_at q true a j p) f) [ inl y ↦ asked.2 (same ∙ y) | inr y ↦ asked.3 (ih.2 y) ],
+              ∙ reset_then (effect_resets (effect_of q deep s) a j p) (resets_at q true a j p)
+              (heard_state q (deep_at true p) (reach_at a j p) (place_at a j p))
+              (asks_here (effect_of q deep s) q a j p)
+              ∙ ap (λ d. option_map
+              (reset_if (effect_resets (effect_of q deep s) a j p || resets_at q true a j p))
+              (heard_state q d (reach_at a j p) (place_at a j p))) (true_deep p),
+          λ f.
+              let none_of : _ =
+              neither (effect_resets (effect_of q deep s) a j p) (resets_at q true a j p) f in
+              and_kept b.enable _ _ (λ g. ih.1 none_of.1 (asked.1 (same ∙ none_of.0) g)),
+          λ f. elim (either_of (effect_resets (effect_of q deep s) a j p)
+              (resets_at q true a j p) f)
+              [ inl y ↦ asked.2 (same ∙ y) | inr y ↦ asked.3 (ih.2 y) ],
         )
-    split false ih = (unheard q true a j p ∙ kept_state (heard_state q true false (place_at a j p)), λ f h. h, λ f. no f)
-packet_way q deep (taken b s a k) (suc j) p = split b.enable (packet_way q deep k j p)
-  where
-    split : (x : Bool) → HeardIf q (deep_at deep p) (reach_at k j p) (resets_at q deep k j p) k (after_packet q deep k) j p
-        → HeardIf q (deep_at deep p) (reach_at k j p) (resets_at q deep k j p) (taken b s a k) (met x q deep b s a (after_packet q deep k)) (suc j) p
-    split true h = h
-    split false h = h
+    split false ih = (
+      unheard q true a j p
+          ∙ kept_state (heard_state q true false (place_at a j p)),
+      λ f h. h,
+      λ f. no f,
+    )
+packet_way q deep (taken b s a k) (suc j) p =
+    met_either
+    (λ m. HeardIf q (deep_at deep p) (reach_at k j p) (resets_at q deep k j p) (taken b s a k) m
+    (suc j) p)
+    b.enable q deep b s a (after_packet q deep k) (packet_way q deep k j p)
+    (packet_way q deep k j p)
 
--- a packet changes each device that it reaches by that device's row, and no other, but for those that it resets
+-- a packet changes each device that it reaches by that device's row, and no other, but for those
+-- that it resets
 pub packet_state : (q : Sent) (deep : Bool) (k : Ports) (j : ℕ) (p : List ℕ)
-    → state_at (after_packet q deep k) j p ≡ option_map (reset_if (resets_at q deep k j p)) (heard_state q (deep_at deep p) (reach_at k j p) (place_at k j p))
+    → state_at (after_packet q deep k) j p
+    ≡ option_map (reset_if (resets_at q deep k j p))
+    (heard_state q (deep_at deep p) (reach_at k j p) (place_at k j p))
 packet_state q deep k j p = (packet_way q deep k j p).0

@@ -9,8 +9,9 @@ use Rattle.usb_world.specs.Paths.{live_at, pend_at}
 use Rattle.usb_world.specs.WayEffects.{leaves_port, way_leaves}
 use Rattle.usb_world.specs.AttemptPackets.{deep_at}
 use Rattle.usb_world.proofs.Booleans.{no, both}
-use Rattle.usb_world.proofs.PacketEffects.{true_deep, met}
-use Rattle.usb_world.proofs.WayChanges.{SamePorts, same_head, same_ports, passed_ports, called_apart}
+use Rattle.usb_world.proofs.PacketEffects.{true_deep, met, met_either}
+use Rattle.usb_world.proofs.WayChanges.{SamePorts, same_head, same_ports, passed_ports}
+use Rattle.usb_world.proofs.WayChanges.{called_apart}
 
 -- a device with its ports after a packet that reaches it or does not, where no device above it asks anything
 abbrev pub heard_place : Sent → Bool → Bool → Place → Place
@@ -51,36 +52,52 @@ acted_left e x h = rw (left_is e h) refl
 
 -- and whether it is reached
 abbrev HeardWay : Sent → Bool → Ports → Ports → ℕ → List ℕ → Type 0
-HeardWay q d k m j p = (place_at m j p ≡ option_map (heard_place q d (reach_at k j p)) (place_at k j p)) × (reach_at m j p ≡ reach_at k j p)
+HeardWay q d k m j p =
+    (place_at m j p ≡ option_map (heard_place q d (reach_at k j p)) (place_at k j p))
+    × (reach_at m j p ≡ reach_at k j p)
 
-heard_way : (q : Sent) (deep : Bool) (k : Ports) (j : ℕ) (p : List ℕ) → way_rests q deep k j p ≡ true → HeardWay q (deep_at deep p) k (after_packet q deep k) j p
+heard_way : (q : Sent) (deep : Bool) (k : Ports) (j : ℕ) (p : List ℕ)
+    → way_rests q deep k j p ≡ true → HeardWay q (deep_at deep p) k (after_packet q deep k) j p
 unfolding after_packet place_at reach_at way_rests
 heard_way q deep ended j p h = (refl, refl)
 heard_way q deep (vacant b k) zero [] h = (refl, refl)
 heard_way q deep (vacant b k) zero (n ∷ p) h = (refl, refl)
 heard_way q deep (vacant b k) (suc j) p h = heard_way q deep k j p h
 heard_way q deep (taken b s a k) zero [] h =
-    elim b.enable as (λ x. (place_at (met x q deep b s a (after_packet q deep k)) zero [] ≡ Some (heard_place q deep x (full b s a))) × (reach_at (met x q deep b s a (after_packet q deep k)) zero [] ≡ b.enable)) [ true ↦ (refl, refl) | false ↦ (refl, refl) ]
+    elim b.enable as (λ x. (place_at (met x q deep b s a (after_packet q deep k)) zero []
+    ≡ Some (heard_place q deep x (full b s a)))
+    × (reach_at (met x q deep b s a (after_packet q deep k)) zero [] ≡ b.enable))
+    [ true ↦ (refl, refl) | false ↦ (refl, refl) ]
 heard_way q deep (taken b s a k) zero (zero ∷ p) h =
-    elim b.enable as (λ x. (place_at (met x q deep b s a (after_packet q deep k)) zero (zero ∷ p) ≡ None) × (reach_at (met x q deep b s a (after_packet q deep k)) zero (zero ∷ p) ≡ false)) [ true ↦ (refl, refl) | false ↦ (refl, refl) ]
+    met_either (λ m. HeardWay q true (taken b s a k) m zero (zero ∷ p))
+    b.enable q deep b s a (after_packet q deep k) (refl, refl) (refl, refl)
 heard_way q deep (taken b s a k) zero (suc j ∷ p) h = split b.enable h (heard_way q true a j p)
   where
     split : (x : Bool) → (not x || (is_left (effect_of q deep s) && way_rests q true a j p)) ≡ true
-        → (way_rests q true a j p ≡ true → HeardWay q (deep_at true p) a (after_packet q true a) j p)
-        → (place_at (met x q deep b s a (after_packet q deep k)) zero (suc j ∷ p) ≡ option_map (heard_place q true (x && reach_at a j p)) (place_at a j p))
-        × (reach_at (met x q deep b s a (after_packet q deep k)) zero (suc j ∷ p) ≡ (b.enable && reach_at a j p))
+        → (way_rests q true a j p ≡ true
+        → HeardWay q (deep_at true p) a (after_packet q true a) j p)
+        → (place_at (met x q deep b s a (after_packet q deep k)) zero (suc j ∷ p)
+        ≡ option_map (heard_place q true (x && reach_at a j p)) (place_at a j p))
+        × (reach_at (met x q deep b s a (after_packet q deep k)) zero (suc j ∷ p)
+        ≡ (b.enable && reach_at a j p))
     split true h ih =
         let on : _ = both (is_left (effect_of q deep s)) (way_rests q true a j p) h in
         let same : _ = acted_left (effect_of q deep s) (after_packet q true a) on.0 in (
-          ap (λ x. place_at x j p) same ∙ (ih on.1).0 ∙ ap (λ d. option_map (heard_place q d (reach_at a j p)) (place_at a j p)) (true_deep p),
+          ap (λ x. place_at x j p) same ∙ (ih on.1).0
+              ∙ ap (λ d. option_map (heard_place q d (reach_at a j p)) (place_at a j p))
+              (true_deep p),
           ap (λ x. b.enable && x) (ap (λ x. reach_at x j p) same ∙ (ih on.1).1),
         )
     split false h ih = (unmoved q true (place_at a j p), refl)
 heard_way q deep (taken b s a k) (suc j) p h =
-    elim b.enable as (λ x. HeardWay q (deep_at deep p) (taken b s a k) (met x q deep b s a (after_packet q deep k)) (suc j) p) [ true ↦ heard_way q deep k j p h | false ↦ heard_way q deep k j p h ]
+    met_either (λ m. HeardWay q (deep_at deep p) (taken b s a k) m (suc j) p)
+    b.enable q deep b s a (after_packet q deep k) (heard_way q deep k j p h)
+    (heard_way q deep k j p h)
 
-pub way_place : (q : Sent) (deep : Bool) (k : Ports) (j : ℕ) (p : List ℕ) → way_rests q deep k j p ≡ true
-    → place_at (after_packet q deep k) j p ≡ option_map (heard_place q (deep_at deep p) (reach_at k j p)) (place_at k j p)
+pub way_place : (q : Sent) (deep : Bool) (k : Ports) (j : ℕ) (p : List ℕ)
+    → way_rests q deep k j p ≡ true
+    → place_at (after_packet q deep k) j p
+    ≡ option_map (heard_place q (deep_at deep p) (reach_at k j p)) (place_at k j p)
 way_place q deep k j p h = (heard_way q deep k j p h).0
 
 pub way_reach : (q : Sent) (deep : Bool) (k : Ports) (j : ℕ) (p : List ℕ) → way_rests q deep k j p ≡ true
@@ -89,22 +106,28 @@ way_reach q deep k j p h = (heard_way q deep k j p h).1
 
 -- the ports that nobody asks anything of
 
-left_acted : (e : Effect) (x : Ports) (j : ℕ) (p : List ℕ) → leaves_port e j ≡ true → SamePorts x (acted e x) j p
+left_acted : (e : Effect) (x : Ports) (j : ℕ) (p : List ℕ) → leaves_port e j ≡ true
+    → SamePorts x (acted e x) j p
 left_acted Leaves x j p h = same_ports x j p
 left_acted (Calls c i) x j p h = (called_apart c x i j p h).0
 left_acted PortsOff x j p h = no h
 
 -- and those on the way to them
-pub way_ports : (q : Sent) (deep : Bool) (k : Ports) (j : ℕ) (p : List ℕ) → way_leaves q deep k j p ≡ true
+pub way_ports : (q : Sent) (deep : Bool) (k : Ports) (j : ℕ) (p : List ℕ)
+    → way_leaves q deep k j p ≡ true
     → SamePorts k (after_packet q deep k) j p
 unfolding after_packet reach_at live_at pend_at port_at way_leaves
 way_ports q deep ended j p h = same_ports ended j p
 way_ports q deep (vacant b k) zero p h = (same_head (empty b) k (after_packet q deep k) p).0
 way_ports q deep (vacant b k) (suc j) p h = way_ports q deep k j p h
 way_ports q deep (taken b s a k) zero [] h =
-    elim b.enable as (λ x. SamePorts (taken b s a k) (met x q deep b s a (after_packet q deep k)) zero []) [ true ↦ same_ports (taken b s a k) zero [] | false ↦ same_ports (taken b s a k) zero [] ]
+    met_either (λ m. SamePorts (taken b s a k) m zero []) b.enable q deep b s a
+    (after_packet q deep k)
+    (same_ports (taken b s a k) zero []) (same_ports (taken b s a k) zero [])
 way_ports q deep (taken b s a k) zero (zero ∷ p) h =
-    elim b.enable as (λ x. SamePorts (taken b s a k) (met x q deep b s a (after_packet q deep k)) zero (zero ∷ p)) [ true ↦ same_ports (taken b s a k) zero (zero ∷ p) | false ↦ same_ports (taken b s a k) zero (zero ∷ p) ]
+    met_either (λ m. SamePorts (taken b s a k) m zero (zero ∷ p))
+    b.enable q deep b s a (after_packet q deep k)
+    (same_ports (taken b s a k) zero (zero ∷ p)) (same_ports (taken b s a k) zero (zero ∷ p))
 way_ports q deep (taken b s a k) zero (suc j ∷ p) h = split b.enable h (way_ports q true a j p)
   where
     split : (x : Bool) → (not x || (leaves_port (effect_of q deep s) j && way_leaves q true a j p)) ≡ true
@@ -114,7 +137,10 @@ way_ports q deep (taken b s a k) zero (suc j ∷ p) h = split b.enable h (way_po
         let on : _ = both (leaves_port (effect_of q deep s) j) (way_leaves q true a j p) h in
         let x : _ = left_acted (effect_of q deep s) (after_packet q true a) j p on.0 in
         let y : _ = ih on.1 in
-        passed_ports b s s a (acted (effect_of q deep s) (after_packet q true a)) k k j p (x.0 ∙ y.0, x.1 ∙ y.1, x.2 ∙ y.2, x.3 ∙ y.3)
+        passed_ports b s s a (acted (effect_of q deep s) (after_packet q true a)) k k j p
+        (x.0 ∙ y.0, x.1 ∙ y.1, x.2 ∙ y.2, x.3 ∙ y.3)
     split false h ih = same_ports (taken b s a k) zero (suc j ∷ p)
 way_ports q deep (taken b s a k) (suc j) p h =
-    elim b.enable as (λ x. SamePorts (taken b s a k) (met x q deep b s a (after_packet q deep k)) (suc j) p) [ true ↦ way_ports q deep k j p h | false ↦ way_ports q deep k j p h ]
+    met_either (λ m. SamePorts (taken b s a k) m (suc j) p)
+    b.enable q deep b s a (after_packet q deep k) (way_ports q deep k j p h)
+    (way_ports q deep k j p h)

@@ -1,12 +1,16 @@
 -- What a plug or an unplug does to reachable, live and pending.
 use Rattle.std.proofs.Common.{◌≡◌, ◌∙◌, ℕ, zero, suc, ◌&&◌, ◌||◌, ◌⊎◌, inl, inr, Bool, true, false}
-use Rattle.std.proofs.Common.{List, [], ◌∷◌, Option, None, Some, refl, ap, sym}
+use Rattle.std.proofs.Common.{List, [], ◌∷◌, slice_get, is_some, Option, None, Some, refl, ap, sym}
 use Rattle.usb_device.specs.Spec.{Spec}
 use Rattle.usb_device.specs.Tree.{Ports, ended, vacant, taken, Place, empty, full, before, port_of}
-use Rattle.usb_device.specs.Tree.{replaced, changed_at, reach_at}
-use Rattle.usb_world.specs.Paths.{live_at, pend_at, is_way, on_way}
+use Rattle.usb_device.specs.Tree.{replaced, changed, changed_at, reach, reach_at}
+use Rattle.usb_world.specs.declared.event.Action.{Action}
+use Rattle.usb_world.specs.declared.event.Action.TheVariants.{Plug, Unplug, Show, Send, Receive}
+use Rattle.usb_world.specs.declared.event.Action.TheVariants.{Clear}
+use Rattle.usb_world.specs.Steps.{with_plugged, happened, way_of, names_path}
+use Rattle.usb_world.specs.Paths.{live, live_at, pend, pend_at, is_way, on_way}
 use Rattle.usb_world.proofs.Booleans.{both, decided, and_kept, and_false, or_kept, or_right, no}
-use Rattle.usb_world.proofs.WayChanges.{changed_apart}
+use Rattle.usb_world.proofs.WayChanges.{changed_apart, SameThere, changed_there}
 
 -- a port with power has its change of connection set then
 rises : (p x : Bool) → p ≡ true → (p && (p || x)) ≡ true
@@ -76,29 +80,60 @@ struck o (taken b s a k) zero e (suc j) p w = no w
 struck o (taken b s a k) (suc i) e zero p w = no w
 struck o (taken b s a k) (suc i) e (suc j) p w = struck o k i e j p w
 
--- who is reachable after an event was so before, and the event is not on the way
-pub event_reach : (o : Option Spec) (k : Ports) (i : ℕ) (e : List ℕ) (j : ℕ) (p : List ℕ)
-    → reach_at (changed_at (replaced o) k i e) j p ≡ true
-    → (reach_at k j p ≡ true) × (on_way i e j p ≡ false)
-event_reach o k i e j p h = elim (decided (on_way i e j p)) [
-  | inl w ↦ no (sym (struck o k i e j p w).0 ∙ h)
-  | inr w ↦ (sym (changed_apart (replaced o) k i e j p w).0.0 ∙ h, w)
+-- What an event does to what is asked of a path, where its place is on the way or not: who is
+-- reachable after it was so before, and it is not on the way; what is pending stays so; what is
+-- live
+-- stays so where the event is not on the way, and else it is pending.
+abbrev pub EventWay : Ports → Ports → List ℕ → Bool → Type 0
+EventWay k m p named =
+    (reach m p ≡ true → (reach k p ≡ true) × (named ≡ false))
+    × (pend k p ≡ true → pend m p ≡ true)
+    × (live k p ≡ true → ((live m p ≡ true) × (named ≡ false)) ⊎ (pend m p ≡ true))
+
+no_event : (k : Ports) (p : List ℕ) → EventWay k k p false
+no_event k p = (λ h. (h, refl), λ h. h, λ h. inl (h, refl))
+
+replaced_way : (o : Option Spec) (k : Ports) (x p : List ℕ)
+    → EventWay k (changed (replaced o) k x) p (way_of x p)
+unfolding is_way
+replaced_way o k x [] = (λ h. no h, λ h. no h, λ h. no h)
+replaced_way o k x (zero ∷ p) = (λ h. no h, λ h. no h, λ h. no h)
+replaced_way o k [] (suc j ∷ p) = no_event k (suc j ∷ p)
+replaced_way o k (zero ∷ x) (suc j ∷ p) = no_event k (suc j ∷ p)
+replaced_way o k (suc i ∷ x) (suc j ∷ p) = elim (decided (on_way i x j p)) [
+  | inl w ↦
+      let y : _ = struck o k i x j p w in
+      (λ h. no (sym y.0 ∙ h), y.2, λ h. inr (y.1 h))
+  | inr w ↦
+      let y : _ = (changed_apart (replaced o) k i x j p w).0 in
+      (λ h. (sym y.0 ∙ h, w), λ h. y.2 ∙ h, λ h. inl (y.1 ∙ h, w))
 ]
 
--- what is pending stays pending at an event
-pub event_pend : (o : Option Spec) (k : Ports) (i : ℕ) (e : List ℕ) (j : ℕ) (p : List ℕ)
-    → pend_at k j p ≡ true → pend_at (changed_at (replaced o) k i e) j p ≡ true
-event_pend o k i e j p h = elim (decided (on_way i e j p)) [
-  | inl w ↦ (struck o k i e j p w).2 h
-  | inr w ↦ (changed_apart (replaced o) k i e j p w).0.2 ∙ h
-]
+plugged_way : (o : Option Spec) (k : Ports) (x p : List ℕ)
+    → EventWay k (with_plugged o x k) p (is_some o && way_of x p)
+plugged_way None k x p = no_event k p
+plugged_way (Some s) k x p = replaced_way (Some s) k x p
 
--- what is live and the event not on its way stays live, and else it is pending
-pub event_live : (o : Option Spec) (k : Ports) (i : ℕ) (e : List ℕ) (j : ℕ) (p : List ℕ)
-    → live_at k j p ≡ true
-    → ((live_at (changed_at (replaced o) k i e) j p ≡ true) × (on_way i e j p ≡ false))
-    ⊎ (pend_at (changed_at (replaced o) k i e) j p ≡ true)
-event_live o k i e j p h = elim (decided (on_way i e j p)) [
-  | inl w ↦ inr ((struck o k i e j p w).1 h)
-  | inr w ↦ inl ((changed_apart (replaced o) k i e j p w).0.1 ∙ h, w)
-]
+pub happened_way : (a : Action) (d : List Spec) (k : Ports) (p : List ℕ)
+    → EventWay k (happened a d k) p (names_path d a p)
+happened_way (Plug x i) d k p = plugged_way (slice_get d i) k x p
+happened_way (Unplug x) d k p = replaced_way None k x p
+happened_way Show d k p = no_event k p
+happened_way (Send x b) d k p = no_event k p
+happened_way (Receive x n) d k p = no_event k p
+happened_way (Clear x) d k p = no_event k p
+
+-- an event that is not on the way leaves it as it was
+plugged_there : (o : Option Spec) (k : Ports) (x p : List ℕ)
+    → (is_some o && way_of x p) ≡ false → SameThere k (with_plugged o x k) p
+plugged_there None k x p h = (refl, refl, refl)
+plugged_there (Some s) k x p h = changed_there (replaced (Some s)) k x p h
+
+pub happened_there : (a : Action) (d : List Spec) (k : Ports) (p : List ℕ)
+    → names_path d a p ≡ false → SameThere k (happened a d k) p
+happened_there (Plug x i) d k p h = plugged_there (slice_get d i) k x p h
+happened_there (Unplug x) d k p h = changed_there (replaced None) k x p h
+happened_there Show d k p h = (refl, refl, refl)
+happened_there (Send x b) d k p h = (refl, refl, refl)
+happened_there (Receive x n) d k p h = (refl, refl, refl)
+happened_there (Clear x) d k p h = (refl, refl, refl)

@@ -1,10 +1,12 @@
 -- What a call at a port does to reachable, live and pending, and to the devices and ports.
-use Rattle.std.proofs.Common.{◌≡◌, ℕ, zero, suc, ◌&&◌, ◌||◌, if◌then◌else◌, Bool, true, false, List, [], ◌∷◌, option_map, refl, ap, sym, ◌∙◌}
+use Rattle.std.proofs.Common.{◌≡◌, ℕ, zero, suc, ◌&&◌, ◌||◌, if◌then◌else◌, Bool, true, false, List}
+use Rattle.std.proofs.Common.{[], ◌∷◌, option_map, refl, ap, sym, ◌∙◌}
 use Rattle.usb_port.specs.PortState.{PortState, is_attached, powered_off}
 use Rattle.usb_port.specs.declared.call.PortCall.{PortCall}
 use Rattle.usb_port.specs.declared.call.PortCall.TheVariants.{SetPower, SetReset, ClearEnable, ClearPower, ClearConnectionChange, ClearEnableChange, ClearResetChange}
 use Rattle.usb_device.specs.Rows.{reset_state}
-use Rattle.usb_device.specs.Tree.{Ports, ended, vacant, taken, empty, full, called, reset_where, before, all_off, changed_at, reach_at, state_at, place_at}
+use Rattle.usb_device.specs.Tree.{Ports, ended, vacant, taken, empty, full, called, reset_where}
+use Rattle.usb_device.specs.Tree.{before, all_off, changed_at, reach_at, state_at, place_at}
 use Rattle.usb_port.specs.Calls.{called_port, is_reset}
 use Rattle.usb_world.specs.Paths.{live_at, pend_at, same_number}
 use Rattle.usb_world.specs.WayEffects.{IsNew, call_resets, reset_if, spares, call_spares}
@@ -50,8 +52,8 @@ none_there true true = refl
 none_there true false = refl
 none_there false y = refl
 
--- The device at a path is reset, or not: then its state is what it was, and where it is reached it was so before. One
--- that is reset is new, and so is one that was new.
+-- The device at a path is reset, or not: then its state is what it was, and where it is reached it
+-- was so before. One that is reset is new, and so is one that was new.
 abbrev pub ResetIf : Bool → Ports → Ports → ℕ → List ℕ → Type 0
 ResetIf r k m j p =
     (state_at m j p ≡ option_map (reset_if r) (state_at k j p))
@@ -79,13 +81,18 @@ call_way c (taken b s a k) zero zero [] = split (is_reset c && sees b) refl
   where
     split : (x : Bool) → (is_reset c && sees b) ≡ x
         → ResetIf x (taken b s a k) (before (reset_where x (called_port c b) s a) k) zero []
-    split true e =
-        (refl, λ f. no (sym f), λ f. (refl, refl, refl, all_off_twice a), λ h. (refl, refl, refl, all_off_twice a))
+    split true e = (
+      refl,
+      λ f. no (sym f),
+      λ f. (refl, refl, refl, all_off_twice a),
+      λ h. (refl, refl, refl, all_off_twice a),
+    )
     split false e = (refl, λ f. called_enable c b e, λ f. no f, λ h. h)
 call_way c (taken b s a k) zero zero (n ∷ p) = split n (is_reset c && sees b) refl
   where
     split : (n : ℕ) (x : Bool) → (is_reset c && sees b) ≡ x
-        → ResetIf false (taken b s a k) (before (reset_where x (called_port c b) s a) k) zero (n ∷ p)
+        → ResetIf false (taken b s a k) (before (reset_where x (called_port c b) s a) k) zero
+        (n ∷ p)
     split zero true e = same_reset false (taken b s a k) zero (zero ∷ p) refl
     split zero false e = same_reset false (taken b s a k) zero (zero ∷ p) refl
     split (suc n) true e =
@@ -103,17 +110,21 @@ call_way c (taken b s a k) zero zero (n ∷ p) = split n (is_reset c && sees b) 
     )
 call_way c (taken b s a k) zero (suc j) [] = further (is_reset c && sees b)
   where
-    further : (x : Bool) → ResetIf (is_reset c && false) (taken b s a k) (before (reset_where x (called_port c b) s a) k) (suc j) []
+    further : (x : Bool) → ResetIf (is_reset c && false) (taken b s a k)
+        (before (reset_where x (called_port c b) s a) k) (suc j) []
     further true = same_reset _ k j [] (and_false (is_reset c))
     further false = same_reset _ k j [] (and_false (is_reset c))
 call_way c (taken b s a k) zero (suc j) (n ∷ p) = further (is_reset c && sees b)
   where
-    further : (x : Bool) → ResetIf false (taken b s a k) (before (reset_where x (called_port c b) s a) k) (suc j) (n ∷ p)
+    further : (x : Bool) → ResetIf false (taken b s a k)
+        (before (reset_where x (called_port c b) s a) k) (suc j) (n ∷ p)
     further true = same_reset false k j (n ∷ p) refl
     further false = same_reset false k j (n ∷ p) refl
-call_way c (taken b s a k) (suc i) zero [] = same_reset _ (taken b s a k) zero [] (and_false (is_reset c))
+call_way c (taken b s a k) (suc i) zero [] =
+    same_reset _ (taken b s a k) zero [] (and_false (is_reset c))
 call_way c (taken b s a k) (suc i) zero (zero ∷ p) = same_reset false ended zero [] refl
-call_way c (taken b s a k) (suc i) zero (suc n ∷ p) = same_reset false (taken b s a k) zero (suc n ∷ p) refl
+call_way c (taken b s a k) (suc i) zero (suc n ∷ p) =
+    same_reset false (taken b s a k) zero (suc n ∷ p) refl
 call_way c (taken b s a k) (suc i) (suc j) [] = call_way c k i j []
 call_way c (taken b s a k) (suc i) (suc j) (n ∷ p) = call_way c k i j (n ∷ p)
 

@@ -25,7 +25,9 @@ use Rattle.usb_world.proofs.OneHolderAttempts.{made_is, holder_in, ready_settled
 pub stays_reachable : (a : Attempt) (d : Option Damage) (k : Ports) (h : Holder a.addr k) → reach_on (ports_in a d k) h.spot ≡ true
 unfolding ports_in
 stays_reachable a d k h =
-    (forgotten_ports (after_sent (reply_out a d k) (after_sent (payload_out a d) (after_sent (token_out a d) k))) h.spot.row h.spot.rest).0 ∙ (acts a d k h).on
+    (forgotten_ports (after_sent (reply_out a d k)
+    (after_sent (payload_out a d) (after_sent (token_out a d) k))) h.spot.row h.spot.rest).0
+    ∙ (acts a d k h).on
 
 pub stays_reachable_in : (a : Attempt) (w : World) (h : HolderIn a w) → reach_on (after (attempt a) w).roots h.spot ≡ true
 unfolding with_attempt

@@ -1,8 +1,9 @@
 -- A port of which nothing is asked stands as it stood, or a change of connection is pending on its way.
-use Rattle.std.proofs.Common.{◌≡◌, inl, inr, ℕ, zero, suc, true, false, List, [], ◌∷◌, Option, None, Some, option_map, refl, ap, sym, ◌∙◌}
+use Rattle.std.proofs.Common.{◌≡◌, inl, inr, ℕ, zero, suc, true, false, List, [], ◌∷◌, option_map}
+use Rattle.std.proofs.Common.{refl, ap, sym, ◌∙◌}
 use Rattle.usb_port.specs.declared.call.PortCall.{PortCall}
 use Rattle.usb_device.specs.Spec.{Spec}
-use Rattle.usb_device.specs.Tree.{Ports, called, replaced, changed, reach}
+use Rattle.usb_device.specs.Tree.{Ports, called, changed, reach}
 use Rattle.usb_device.specs.View.{state_there}
 use Rattle.usb_world.specs.declared.event.Action.{Action}
 use Rattle.usb_world.specs.declared.types.Attempt.{Attempt}
@@ -10,17 +11,20 @@ use Rattle.usb_world.specs.Exchange.{token_out, payload_out, reply_out, ports_in
 use Rattle.usb_world.specs.Paths.{live}
 use Rattle.usb_world.specs.PlanCourses.{spec_of}
 use Rattle.usb_world.specs.World.{World}
-use Rattle.usb_world.specs.Steps.{happened, way_of, names_path, took, ready, damage_in, with_attempt, Course}
+use Rattle.usb_world.specs.Steps.{happened, names_path, took, ready, damage_in, with_attempt}
+use Rattle.usb_world.specs.Steps.{Course}
 use Rattle.usb_world.specs.Courses.{UndisturbedOrPends, Spares}
 use Rattle.usb_world.specs.PortRequests.{made_leaves, root_leaves, leaves_step}
 use Rattle.usb_world.specs.RestingPorts.{SameAt, AsksNothingOf, RestsOrPends, StandsOrPends}
-use Rattle.usb_world.proofs.WayChanges.{changed_there, root_there}
+use Rattle.usb_world.proofs.WayChanges.{root_there}
+use Rattle.usb_world.proofs.PlugEvents.{happened_there}
 use Rattle.usb_world.proofs.PluggedShapes.{spec_there}
 use Rattle.usb_world.proofs.PluggedPorts.{shape, described_there, shape_root, shape_attempt}
-use Rattle.usb_world.proofs.LiftedSteps.{OverSteps, happened_by, over_course}
-use Rattle.usb_world.proofs.Courses.{LiveOrPends, over_live, goes, untouched_or_pending, course_wider}
+use Rattle.usb_world.proofs.LiftedSteps.{OverSteps, over_course}
+use Rattle.usb_world.proofs.Courses.{LiveOrPends, over_live, goes, untouched_or_pending}
+use Rattle.usb_world.proofs.Courses.{course_wider}
 use Rattle.usb_world.proofs.PluggedDevices.{undisturbed_keeps}
-use Rattle.usb_world.proofs.ChangeBits.{made_port, root_port, attempt_ports}
+use Rattle.usb_world.proofs.ChangeBits.{made_port, attempt_ports}
 
 pub same_self : (k : Ports) (p : List ℕ) → SameAt k k p
 same_self k p = record { port = refl; on = refl; what = refl }
@@ -35,15 +39,11 @@ shaped k v p h = described_there v p ∙ ap (λ x. spec_there x p) h ∙ sym (de
 
 -- Events
 
-event_same : (o : Option Spec) (k : Ports) (x p : List ℕ) → way_of x p ≡ false → SameAt k (changed (replaced o) k x) p
-event_same o k x p h =
-    let same : _ = changed_there (replaced o) k x p h in
+happened_same : (a : Action) (d : List Spec) (k : Ports) (p : List ℕ)
+    → names_path d a p ≡ false → SameAt k (happened a d k) p
+happened_same a d k p h =
+    let same : _ = happened_there a d k p h in
     record { port = same.1; on = same.0; what = ap (option_map spec_of) same.2 }
-
-happened_same : (a : Action) (d : List Spec) (k : Ports) (p : List ℕ) → names_path d a p ≡ false → SameAt k (happened a d k) p
-happened_same a d k p =
-    happened_by (λ v named. named ≡ false → SameAt k v p) a d k p (λ h. same_self k p)
-    (λ o x. event_same o k x p)
 
 -- Calls at ports
 
@@ -53,7 +53,9 @@ made_on : (a : Attempt) (w : World) (p : List ℕ) → made_leaves a w p ≡ tru
 unfolding with_attempt ports_in
 made_on a w [] h = refl
 made_on a w (zero ∷ p) h = refl
-made_on a w (suc j ∷ p) h = (attempt_ports a.addr (token_out a (damage_in w)) (payload_out a (damage_in w)) (reply_out a (damage_in w) w.roots) (goes a (damage_in w) w.roots) w.roots j p h).0
+made_on a w (suc j ∷ p) h = (attempt_ports a.addr (token_out a (damage_in w))
+    (payload_out a (damage_in w)) (reply_out a (damage_in w) w.roots)
+    (goes a (damage_in w) w.roots) w.roots j p h).0
 
 made_what : (a : Attempt) (w : World) (p : List ℕ) → option_map spec_of (state_there (with_attempt a w).roots p) ≡ option_map spec_of (state_there w.roots p)
 unfolding with_attempt
@@ -65,7 +67,13 @@ made_same a w p h = record { port = made_port a w p h; on = made_on a w p h; wha
 -- Steps
 
 root_same : (c : PortCall) (m : ℕ) (w : World) (p : List ℕ) → root_leaves m p ≡ true → SameAt w.roots (changed (called c) w.roots (m ∷ [])) p
-root_same c m w p h = record { port = root_port c m w.roots p h; on = (root_there c m w.roots p h).0; what = shaped w.roots (changed (called c) w.roots (m ∷ [])) p (shape_root c w.roots (m ∷ [])) }
+root_same c m w p h =
+    let same : _ = root_there c m w.roots p h in
+    record {
+      port = same.1;
+      on = same.0;
+      what = shaped w.roots (changed (called c) w.roots (m ∷ [])) p (shape_root c w.roots (m ∷ []));
+    }
 
 rests_steps : (p : List ℕ)
     → OverSteps (AsksNothingOf p) (LiveOrPends (λ w v. SameAt w.roots v.roots p) p)

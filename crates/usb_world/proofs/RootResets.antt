@@ -1,5 +1,7 @@
 -- PORT_RESET of a root port gives the device there address 0, and leaves the others theirs.
-use Rattle.std.proofs.Common.{◌≡◌, ℕ, zero, suc, ◌&&◌, if◌then◌else◌, ◌⊎◌, inl, inr, Bool, true, false, List, [], ◌∷◌, ◌++◌, Option, None, Some, option_map, refl, ap, sym, subst, ◌∙◌}
+use Rattle.std.proofs.Common.{◌≡◌, ℕ, zero, suc, ◌&&◌, if◌then◌else◌, ◌⊎◌, inl, inr, Bool, true}
+use Rattle.std.proofs.Common.{false, List, [], ◌∷◌, ◌++◌, Option, None, Some, option_map, refl, ap}
+use Rattle.std.proofs.Common.{sym, subst, ◌∙◌}
 use Rattle.usb_port.specs.declared.call.PortCall.{PortCall}
 use Rattle.usb_port.specs.declared.call.PortCall.TheVariants.{SetReset}
 use Rattle.usb_device.specs.Tree.{Ports, ended, vacant, taken, Place, empty, full, called, changed_at, reach_at, state_at, place_at}
@@ -17,15 +19,19 @@ use Rattle.usb_world.proofs.Equality.{self_path}
 use Rattle.usb_world.proofs.States.{kept_address}
 
 -- below a device that was just reset none is reached
-pub new_below : (k : Ports) (i : ℕ) (p : List ℕ) (m : ℕ) (r : List ℕ) → IsNew (place_at k i p) → reach_at k i (p ++ (m ∷ r)) ≡ false
+pub new_below : (k : Ports) (i : ℕ) (p : List ℕ) (m : ℕ) (r : List ℕ) → IsNew (place_at k i p)
+    → reach_at k i (p ++ (m ∷ r)) ≡ false
 unfolding place_at reach_at
 new_below ended i p m r h = refl
 new_below (vacant b k) zero p m r h = refl
 new_below (vacant b k) (suc i) p m r h = new_below k i p m r h
 new_below (taken b s a k) zero [] zero r h = refl
-new_below (taken b s a k) zero [] (suc m) r h = ap (λ x. b.enable && x) (ap (λ x. reach_at x m r) (sym h.3) ∙ (off_way a m r).0) ∙ and_false b.enable
+new_below (taken b s a k) zero [] (suc m) r h =
+    ap (λ x. b.enable && x) (ap (λ x. reach_at x m r) (sym h.3) ∙ (off_way a m r).0)
+    ∙ and_false b.enable
 new_below (taken b s a k) zero (zero ∷ p) m r h = refl
-new_below (taken b s a k) zero (suc j ∷ p) m r h = ap (λ x. b.enable && x) (new_below a j p m r h) ∙ and_false b.enable
+new_below (taken b s a k) zero (suc j ∷ p) m r h = ap (λ x. b.enable && x) (new_below a j p m r h)
+    ∙ and_false b.enable
 new_below (taken b s a k) (suc i) p m r h = new_below k i p m r h
 
 pub new_address : (x : Option Place) → IsNew x → option_map address_of (stands x) ≡ Some 0
@@ -72,7 +78,9 @@ module _ (f : List ℕ → Option ℕ) (k : Ports) (i : ℕ) where
     at_it j [] e d h =
         subst (λ x. option_map address_of (state_at reset_ports x []) ≡ Some 0) (sym e) zero_there
         ∙ ap (λ x. if x && true then Some 0 else if is_way (suc i ∷ []) (suc j ∷ []) then None else f (suc j ∷ [])) (sym d)
-    at_it j (n ∷ p) e d h = no (sym (subst (λ x. reach_at reset_ports x (n ∷ p) ≡ false) (sym e) (new_below reset_ports i [] n p new)) ∙ h)
+    at_it j (n ∷ p) e d h = no (sym
+        (subst (λ x. reach_at reset_ports x (n ∷ p) ≡ false) (sym e)
+        (new_below reset_ports i [] n p new)) ∙ h)
 
     pub reset_given : (j : ℕ) (p : List ℕ) → reach_at reset_ports j p ≡ true → Given j p
     reset_given j p h = pick (decided (same_number i j))

@@ -1,10 +1,11 @@
--- A change at a place: a way that does not lead there stays. One walk answers all that is asked of a way.
+-- A change at a place: a way that does not lead there stays. One walk answers all that is asked.
 use Rattle.std.proofs.Common.{◌≡◌, ℕ, zero, suc, ◌&&◌, ◌||◌, false, List, [], ◌∷◌}
 use Rattle.std.proofs.Common.{not, true, refl, ap, sym}
 use Rattle.usb_port.specs.PortState.{PortState}
 use Rattle.usb_port.specs.declared.call.PortCall.{PortCall}
 use Rattle.usb_device.specs.Rows.{State}
-use Rattle.usb_device.specs.Tree.{Ports, ended, vacant, taken, Place, empty, full, before, changed_at}
+use Rattle.usb_device.specs.Tree.{Ports, ended, vacant, taken, Place, empty, full, before}
+use Rattle.usb_device.specs.Tree.{changed_at}
 use Rattle.usb_device.specs.Tree.{called, reach_at, state_at, port_at}
 use Rattle.usb_device.specs.Tree.{changed, reach}
 use Rattle.usb_device.specs.View.{port_there, state_there}
@@ -13,7 +14,8 @@ use Rattle.usb_world.specs.Steps.{way_of}
 use Rattle.usb_world.specs.Paths.{live_at, pend_at, is_way, on_way, same_number}
 use Rattle.usb_world.proofs.Booleans.{no, not_true}
 
--- the ports on the way to a path are what they were: it is reached, live and pending as it was, and its port is the same
+-- the ports on the way to a path are what they were: it is reached, live and pending as it was, and
+-- its port is the same
 abbrev pub SamePorts : Ports → Ports → ℕ → List ℕ → Type 0
 SamePorts k m j p =
     (reach_at m j p ≡ reach_at k j p) × (live_at m j p ≡ live_at k j p)
@@ -83,13 +85,15 @@ changed_apart f (taken b s a k) (suc i) e (suc j) p h = changed_apart f k i e j 
 pub called_apart : (c : PortCall) (k : Ports) (i j : ℕ) (p : List ℕ)
     → not (same_number i j) ≡ true → SameWay k (changed_at (called c) k i []) j p
 unfolding is_way
-called_apart c k i j p h = changed_apart (called c) k i [] j p (ap (λ x. x && true) (not_true (same_number i j) h))
+called_apart c k i j p h = changed_apart (called c) k i [] j p
+    (ap (λ x. x && true) (not_true (same_number i j) h))
 
 -- The same of whole paths
 
 abbrev pub SameThere : Ports → Ports → List ℕ → Type 0
 SameThere k m p =
-    (reach m p ≡ reach k p) × (port_there m p ≡ port_there k p) × (state_there m p ≡ state_there k p)
+    (reach m p ≡ reach k p) × (port_there m p ≡ port_there k p)
+    × (state_there m p ≡ state_there k p)
 
 pub changed_there : (f : Place → Place) (k : Ports) (x p : List ℕ)
     → way_of x p ≡ false → SameThere k (changed f k x) p

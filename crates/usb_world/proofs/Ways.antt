@@ -1,5 +1,8 @@
 -- Which paths lead to which, and what is so on the way to a path.
-use Rattle.std.proofs.Common.{◌≡◌, ◌∙◌, refl, sym, ap, ap₂, subst, arith, append-nil, append_assoc, length-append, ℕ, zero, suc, ◌+◌, ◌<◌, inl, inr, Bool, true, false, ◌&&◌, ◌||◌, not, List, [], ◌∷◌, ◌++◌, length, Some, is_some, slice_get, nat_eq}
+use Rattle.std.proofs.Common.{◌≡◌, ◌∙◌, refl, sym, ap, ap₂, subst, arith, append-nil, append_assoc}
+use Rattle.std.proofs.Common.{length-append, ℕ, zero, suc, ◌+◌, ◌<◌, inl, inr, Bool, true, false}
+use Rattle.std.proofs.Common.{◌&&◌, ◌||◌, not, List, [], ◌∷◌, ◌++◌, length, Some, is_some}
+use Rattle.std.proofs.Common.{slice_get, nat_eq}
 use Rattle.std.specs.Cmp.Lexicographic.{pointwise, same_text, bytes_decides}
 use Rattle.std.specs.List.{starts_with}
 use Rattle.std.proofs.lemmas.Bool.{eqb-true, eq-eqb}
@@ -8,14 +11,15 @@ use Rattle.usb_port.proofs.Interface.{below, rejoined}
 use Rattle.usb_device.specs.Spec.{Spec}
 use Rattle.usb_device.specs.Tree.{Ports, ended, vacant, taken, reach, reach_at}
 use Rattle.usb_world.specs.declared.event.Action.{Action}
-use Rattle.usb_world.specs.declared.event.Action.TheVariants.{Plug, Unplug, Show, Send, Receive, Clear}
+use Rattle.usb_world.specs.declared.event.Action.TheVariants.{Plug, Unplug, Show, Send, Receive}
+use Rattle.usb_world.specs.declared.event.Action.TheVariants.{Clear}
 use Rattle.usb_world.specs.declared.event.Event.{Event}
 use Rattle.usb_world.specs.Courses.{NoneNames, Undisturbed}
-use Rattle.usb_world.specs.Paths.{is_way, on_way, same_path, same_number}
+use Rattle.usb_world.specs.Paths.{is_way, same_path, same_number}
 use Rattle.usb_world.specs.Steps.{names_path, way_of}
 use Rattle.usb_world.specs.World.{World}
 use Rattle.usb_world.proofs.RootResets.{is_same}
-use Rattle.usb_world.proofs.Booleans.{no, both, and_of, or_left, or_right, either_of, same_bools}
+use Rattle.usb_world.proofs.Booleans.{no, both, or_left, or_right, either_of, same_bools, and_kept}
 use Rattle.usb_world.proofs.Equality.{self_number, self_path}
 
 -- a way goes on to the path
@@ -105,35 +109,31 @@ way_apart p q x on away = not_so (is_way q x) (is_way p x) (way_trans p q x on) 
 
 -- What is so on the way to a path
 
-reached_on_way : (k : Ports) (i : ℕ) (x : List ℕ) (j : ℕ) (p : List ℕ) → on_way i x j p ≡ true → reach_at k j p ≡ true → reach_at k i x ≡ true
-unfolding is_way reach_at
-reached_on_way ended i x j p w h = no h
-reached_on_way (vacant b k) zero x zero p w h = no h
-reached_on_way (vacant b k) zero x (suc j) p w h = no w
-reached_on_way (vacant b k) (suc i) x zero p w h = no w
-reached_on_way (vacant b k) (suc i) x (suc j) p w h = reached_on_way k i x j p w h
-reached_on_way (taken b s a k) zero [] zero [] w h = h
-reached_on_way (taken b s a k) zero [] zero (zero ∷ p) w h = no h
-reached_on_way (taken b s a k) zero [] zero (suc j ∷ p) w h = (both b.enable (reach_at a j p) h).0
-reached_on_way (taken b s a k) zero (n ∷ x) zero [] w h = no w
-reached_on_way (taken b s a k) zero (zero ∷ x) zero (zero ∷ p) w h = no h
-reached_on_way (taken b s a k) zero (zero ∷ x) zero (suc j ∷ p) w h = no w
-reached_on_way (taken b s a k) zero (suc i ∷ x) zero (zero ∷ p) w h = no h
-reached_on_way (taken b s a k) zero (suc i ∷ x) zero (suc j ∷ p) w h =
-    let on : _ = both b.enable (reach_at a j p) h in
-    and_of b.enable (reach_at a i x) on.0 (reached_on_way a i x j p w on.1)
-reached_on_way (taken b s a k) zero [] (suc j) p w h = no w
-reached_on_way (taken b s a k) zero (n ∷ x) (suc j) p w h = no w
-reached_on_way (taken b s a k) (suc i) x zero p w h = no w
-reached_on_way (taken b s a k) (suc i) x (suc j) p w h = reached_on_way k i x j p w h
+reached_above : (k : Ports) (j : ℕ) (x rest : List ℕ)
+    → reach_at k j (x ++ rest) ≡ true → reach_at k j x ≡ true
+unfolding reach_at
+reached_above ended j x rest h = no h
+reached_above (vacant b k) zero x rest h = no h
+reached_above (vacant b k) (suc j) x rest h = reached_above k j x rest h
+reached_above (taken b s a k) zero [] [] h = h
+reached_above (taken b s a k) zero [] (zero ∷ rest) h = no h
+reached_above (taken b s a k) zero [] (suc n ∷ rest) h = (both b.enable (reach_at a n rest) h).0
+reached_above (taken b s a k) zero (zero ∷ x) rest h = no h
+reached_above (taken b s a k) zero (suc i ∷ x) rest h =
+    and_kept b.enable _ _ (reached_above a i x rest) h
+reached_above (taken b s a k) (suc j) x rest h = reached_above k j x rest h
+
+reach_above : (k : Ports) (n : ℕ) (x rest : List ℕ)
+    → reach k (n ∷ (x ++ rest)) ≡ true → reach k (n ∷ x) ≡ true
+reach_above k zero x rest h = no h
+reach_above k (suc i) x rest h = reached_above k i x rest h
 
 -- each device on the way to a reachable one is reachable
-pub reach_on_way : (k : Ports) (n : ℕ) (x p : List ℕ) → is_way (n ∷ x) p ≡ true → reach k p ≡ true → reach k (n ∷ x) ≡ true
-unfolding is_way
-reach_on_way k n x [] w h = no h
-reach_on_way k n x (zero ∷ p) w h = no h
-reach_on_way k zero x (suc j ∷ p) w h = no w
-reach_on_way k (suc i) x (suc j ∷ p) w h = reached_on_way k i x j p w h
+pub reach_on_way : (k : Ports) (n : ℕ) (x p : List ℕ)
+    → is_way (n ∷ x) p ≡ true → reach k p ≡ true → reach k (n ∷ x) ≡ true
+reach_on_way k n x p w h =
+    let more : _ = way_rest (n ∷ x) p w in
+    reach_above k n x more.0 (subst (λ (q : List ℕ). reach k q ≡ true) more.1 h)
 
 way_of_above : (e x p : List ℕ) → is_way x p ≡ true → way_of e p ≡ false → way_of e x ≡ false
 way_of_above [] x p on h = refl

@@ -1,7 +1,7 @@
 -- What a call at a port, and a packet, does on the way to a path: whether it resets the device there, and whether it
 -- leaves what is pending.
-use Rattle.std.specs.Prelude.{◌≡◌, ℕ, zero, suc, ◌&&◌, ◌||◌, not, Bool, true, false, List, [], ◌∷◌, Option, None, Some, if◌then◌else◌}
-use Rattle.usb_port.specs.PortState.{PortState, is_attached, powered_off}
+use Rattle.std.specs.Prelude.{◌≡◌, ℕ, zero, suc, ◌&&◌, ◌||◌, not, Bool, true, false, List, [], ◌∷◌, Option, None, Some}
+use Rattle.usb_port.specs.PortState.{is_attached}
 use Rattle.usb_device.specs.declared.transfer.RememberedPacket.TheVariants.{Nothing}
 use Rattle.usb_device.specs.Rows.{State, reset_state}
 use Rattle.usb_port.specs.declared.call.PortCall.{PortCall}
@@ -9,7 +9,7 @@ use Rattle.usb_port.specs.declared.call.PortCall.TheVariants.{SetReset, ClearPow
 use Rattle.usb_device.specs.declared.effect.Effect.{Effect}
 use Rattle.usb_device.specs.declared.effect.Effect.TheVariants.{Leaves, Calls, PortsOff}
 use Rattle.usb_device.specs.Tree.{Ports, ended, vacant, taken, all_off, Place, empty, full, place_at}
-use Rattle.usb_port.specs.Calls.{is_reset, called_port}
+use Rattle.usb_port.specs.Calls.{is_reset}
 use Rattle.usb_device.specs.Delivery.{effect_of}
 use Rattle.usb_device.specs.declared.delivery.Sent.{Sent}
 use Rattle.usb_world.specs.Paths.{same_number}
@@ -78,12 +78,6 @@ packet_spares q deep (taken b s a k) zero (zero ∷ p) = true
 packet_spares q deep (taken b s a k) zero (suc j ∷ p) =
     not b.enable || (effect_spares (effect_of q deep s) j p && packet_spares q true a j p)
 packet_spares q deep (taken b s a k) (suc i) p = packet_spares q deep k i p
-
--- a port of a device after what the device asks
-abbrev pub port_after : Effect → ℕ → PortState → PortState
-port_after Leaves j b = b
-port_after (Calls c i) j b = if same_number i j then called_port c b else b
-port_after PortsOff j b = powered_off b
 
 -- whether no device on the way asks anything of the port at a path, or of one above it
 abbrev pub leaves_port : Effect → ℕ → Bool

@@ -32,11 +32,11 @@
 //! - Where no address is held twice, at most one device answers, so no line of the trace tells of a collision
 //!   (`one_device_at_most_answers`).
 //! - Lemmas of the *tree* of devices, of what an event, a port call, a packet and a whole attempt leave at each place:
-//!   `PlugEvents`, `PortCalls`, `PacketEffects`, `PacketPlaces`, `AttemptPackets`. What is so of every port stays so
-//!   (`SanePorts`), and so does what is so between two steps (`StepInvariants.between_opening`, `between_after`,
-//!   `between_course`). A relation of worlds that holds over each part of a step holds over steps and courses
-//!   (`LiftedSteps.over_step`, `over_course`). Two devices at one address are found (`Holders.one_path`, `twice_two`).
-//!   Which paths lead to which: `Ways`.
+//!   `PlugEvents`, `PortCalls`, `PacketEffects`, `PacketPlaces`, `AttemptPackets`; a change leaves each way that does
+//!   not lead there (`WayChanges.changed_apart`). What is so of every port stays so (`SanePorts`), and so does what is
+//!   so between two steps (`StepInvariants.between_opening`, `between_after`, `between_course`). A relation of worlds
+//!   that holds over each part of a step holds over steps and courses (`LiftedSteps.over_step`, `over_course`). Two
+//!   devices at one address are found (`Holders.one_path`, `twice_two`). Which paths lead to which: `Ways`.
 //! - Lemmas of an attempt where one reachable device holds the address, which is an exchange with that device alone:
 //!   `OneHolderAttempts.setup_in`, `out_in`, `in_in`, `silent_in`, `others_in`, its ports
 //!   `OneHolderPorts.setup_place_in`, `out_place_in`, `in_place_in`, `silent_place_in`, that it stays reachable
