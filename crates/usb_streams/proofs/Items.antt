@@ -45,7 +45,8 @@ use Rattle.usb_serve.specs.declared.runs.Item.TheVariants as item
 use Rattle.usb_serve.specs.declared.runs.RunFault.{RunFault}
 use Rattle.usb_serve.specs.declared.transfer.TransferFault.{TransferFault}
 use Rattle.usb_serve.specs.RunSegments.{Knows}
-use Rattle.usb_serve.specs.Transfers.{ClearTells, IsItemOf, ReceiveTells, SendTells, Transfers, failed, sent_count, transfer_ended}
+use Rattle.usb_host.specs.HostCalls.{ClearTells, ReceiveTells, SendTells}
+use Rattle.usb_serve.specs.Transfers.{IsItemOf, Transfers, failed, sent_count, transfer_ended}
 use Rattle.usb_serve.proofs.Interface.{count_done, told_cleared, told_received, told_sent}
 use Rattle.usb_streams.specs.Stretches.{ToldItem}
 use Rattle.usb_streams.specs.Streams.{ClearsNoIn, ClearsNoOut, GaveNextBy, IsAtWork, Joins, StreamsAt, bytes_for, bytes_from, is_done}

@@ -12,9 +12,11 @@ use Rattle.usb_host.proofs.Interface.{sound_event, sound_none}
 use Rattle.usb_serve.specs.declared.runs.Item.{Item}
 use Rattle.usb_serve.specs.declared.serving.Mode.{Mode}
 use Rattle.usb_serve.specs.Run.{listing_of}
-use Rattle.usb_serve.specs.RunSegments.{Comes, Knows, Ran, idle, changed as ran_changed, Rounds, none, more as one_more, RoundTells, Settles}
+use Rattle.usb_host.specs.HostCalls.{RoundTells}
+use Rattle.usb_serve.specs.RunSegments.{Comes, Knows, Ran, idle, changed as ran_changed, Rounds, none, more as one_more, Settles}
 use Rattle.usb_serve.specs.Transcript.{AppendsText, Makes, asked, last as run_last, Transcript, begun as run_begun, told as run_told, shown}
-use Rattle.usb_serve.specs.Transfers.{IsItemOf, TransferTells}
+use Rattle.usb_host.specs.HostCalls.{TransferTells}
+use Rattle.usb_serve.specs.Transfers.{IsItemOf}
 use Rattle.usb_serve.proofs.Interface.{Onward, called_onward, comes_onward, item_called, knows_then, puts_knows, puts_onward, round_called}
 use Rattle.usb_streams.specs.Stretches.{IsStretch, LiesBetween, round, changed, last, wrote, Stretch, begun, further, more, ToldItem}
 

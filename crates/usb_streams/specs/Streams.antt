@@ -23,7 +23,7 @@ use Rattle.usb_host.specs.Hosting.{Hosting}
 use Rattle.usb_host.specs.Transfers.{table_in}
 use Rattle.usb_serve.specs.declared.runs.Item.{Item}
 use Rattle.usb_serve.specs.declared.runs.Item.TheVariants.{Listing, Sent, Received, Cleared}
-use Rattle.usb_serve.specs.RunSegments.{RoundTells}
+use Rattle.usb_host.specs.HostCalls.{RoundTells}
 use Rattle.usb_streams.specs.Stretches.{ToldItem, Stretch}
 
 -- Bytes
