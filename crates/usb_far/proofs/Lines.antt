@@ -151,15 +151,18 @@ answered_before r0 r1 r2 w0 w1 w2 a b e so fails = (
 )
 
 pub answered_on : (r0 r1 w0 w1 : Option (List ℕ)) (a b : Far) (e : FarFault) → Refuses e → Answered (streams r0 r1 w0 w1) a b → EndsAt (streams r0 r1 w0 w1) a e
-answered_on r0 r1 w0 w1 a b e other so = (λ (wrote : is_write e ≡ true). cc, λ _. record {
-  text = so.text;
-  line = [];
-  lines = so.lines;
-  mid = b;
-  replies = so.replies;
-  read = Consumes-trans r0 r1 r1 so.text [] so.read (Consumes-nil r1);
-  written = so.written;
-})
+answered_on r0 r1 w0 w1 a b e other so = (
+  λ (wrote : is_write e ≡ true). cc,
+  λ _. record {
+    text = so.text;
+    line = [];
+    lines = so.lines;
+    mid = b;
+    replies = so.replies;
+    read = Consumes-trans r0 r1 r1 so.text [] so.read (Consumes-nil r1);
+    written = so.written;
+  },
+)
 
 -- the first three tests fail
 pub last_of_four : (a b c d r : Bool) → a ≡ false → b ≡ false → c ≡ false → r ≡ d → r ≡ (if a then true else if b then true else if c then true else d)

@@ -105,7 +105,7 @@ impl<T: Trace> FarEnd<T> {
         requires { IsAttempt attempt.now }
         ensures done { IfOk result (λ answer.
             IsDone (attempt_done attempt.now (far_of self.old)) (far_of self.old) answer
-                (far_of self.new)) }
+            (far_of self.new)) }
         ensures fault { IfErr result Refuses }
     {
         let taken = self.bus.events_taken();
@@ -122,7 +122,7 @@ impl<T: Trace> FarEnd<T> {
     fn call(&mut self, number: u8, call: PortCall) -> Result<Answer, FarFault>
         ensures done { IfOk result (λ answer.
             IsDone (call_done number call (far_of self.old)) (far_of self.old) answer
-                (far_of self.new)) }
+            (far_of self.new)) }
         ensures fault { IfErr result Refuses }
     {
         if number < 1 || number > self.bus.root_ports() {

@@ -25,7 +25,7 @@ pub fn serve<T: Trace, R: Read, W: Write>(
     writer: &mut Watched<W>,
 ) -> Result<(), (u64, FarFault)>
     ensures { Serves (streams (R.remaining (inner_of reader.old)) (R.remaining (inner_of reader.new))
-            (W.contents (inner_of writer.old)) (W.contents (inner_of writer.new)))
+        (W.contents (inner_of writer.old)) (W.contents (inner_of writer.new)))
         (far_of far.old) result (far_of far.new) }
 {
     'lines: for number in 1..u64::MAX {
@@ -46,8 +46,8 @@ impl<T: Trace> FarEnd<T> {
         writer: &mut Watched<W>,
     ) -> Result<bool, FarFault>
         ensures { ServesNext (streams (R.remaining (inner_of reader.old))
-                (R.remaining (inner_of reader.new)) (W.contents (inner_of writer.old))
-                (W.contents (inner_of writer.new)))
+            (R.remaining (inner_of reader.new)) (W.contents (inner_of writer.old))
+            (W.contents (inner_of writer.new)))
             (far_of self.old) result (far_of self.new) }
     {
         match read_line(reader) {
@@ -68,7 +68,7 @@ impl<T: Trace> FarEnd<T> {
         requires short { length line.now ≤ 1024 }
         ensures { (unread left : Option (List ℕ)) → Consumes unread left (line.now ++ 10 ∷ [])
             → ServesNext (streams unread left (W.contents (inner_of writer.old))
-                (W.contents (inner_of writer.new))) (far_of self.old) result (far_of self.new) }
+            (W.contents (inner_of writer.new))) (far_of self.old) result (far_of self.new) }
     {
         if is_told(self.phase, line) {
             self.phase = phase_behind(self.phase, line);
@@ -98,7 +98,7 @@ impl<T: Trace> FarEnd<T> {
         ensures { (unread now : Option (List ℕ)) (more : ℕ) → IsUnbroken (front.now ++ more ∷ [])
             → Consumes unread (R.remaining (inner_of reader.old)) (front.now ++ more ∷ [])
             → ServesNext (streams unread (R.remaining (inner_of reader.new)) now now)
-                (far_of self.old) result (far_of self.new) }
+            (far_of self.old) result (far_of self.new) }
     {
         if !is_told(self.phase, front) {
             return Err(FarFault::LineTooLong);

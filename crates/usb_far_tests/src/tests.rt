@@ -56,7 +56,7 @@ path = "2"
 bytes = "00000000000000000000000000000000000000000000000000000000000000000000000000000000000000000000000000000000000000000000000000000000000000000000"
 "#;
 
-/// A hub, and a device that is plugged beside it in the fourth attempt.
+/// A hub, and a device that is plugged beside it in the sixth attempt.
 const HUB: &str = r#"
 limit = 100
 roots = 2
@@ -78,7 +78,7 @@ device = "hub"
 do = "plug"
 path = "2"
 device = "hub"
-after = 3
+after = 5
 "#;
 
 /// A plan, what a host says, what is said to it, and how that ends.
@@ -220,20 +220,22 @@ const ROWS: &[Row] = &[
     // an event that came in the last INs, all of them answered by NAK, is told before the next one is taken
     Row {
         host: "usbplan live 1\nport 1 set PORT_POWER\nport 2 set PORT_POWER\nwait\n\
-               port 1 set PORT_RESET\nSETUP 0.0 / DATA0 0009010000000000\nIN 0.0 8\nIN 0.1 1\n\
-               IN 0.1 1\nIN 0.1 1\nwait\nwait\n",
+               port 1 set PORT_RESET\nSETUP 0.0 / DATA0 0005010000000000\nIN 0.0 8\n\
+               SETUP 1.0 / DATA0 0009010000000000\nIN 1.0 8\nIN 1.1 1\nIN 1.1 1\nIN 1.1 1\n\
+               wait\nwait\n",
         far: "roots 2\nport 1 00010000\nok\nport 2 00010000\nok\nport 1 01010100\nok\n\
-              port 1 03011100\nok\nACK\nDATA1 -\nNAK\nport 2 01010100\nNAK\nNAK\nok\nend\n",
+              port 1 03011100\nok\nACK\nDATA1 -\nACK\nDATA1 -\nNAK\nport 2 01010100\nNAK\nNAK\nok\nend\n",
         plan: HUB,
         ended: Ok(()),
     },
     // and not where another question stands between
     Row {
         host: "usbplan live 1\nport 1 set PORT_POWER\nport 2 set PORT_POWER\nwait\n\
-               port 1 set PORT_RESET\nSETUP 0.0 / DATA0 0009010000000000\nIN 0.0 8\nIN 0.1 1\n\
-               IN 0.1 1\nIN 7.0 1\nwait\n",
+               port 1 set PORT_RESET\nSETUP 0.0 / DATA0 0005010000000000\nIN 0.0 8\n\
+               SETUP 1.0 / DATA0 0009010000000000\nIN 1.0 8\nIN 1.1 1\nIN 1.1 1\nIN 7.0 1\n\
+               wait\n",
         far: "roots 2\nport 1 00010000\nok\nport 2 00010000\nok\nport 1 01010100\nok\n\
-              port 1 03011100\nok\nACK\nDATA1 -\nNAK\nport 2 01010100\nNAK\nnone\nend\n",
+              port 1 03011100\nok\nACK\nDATA1 -\nACK\nDATA1 -\nNAK\nport 2 01010100\nNAK\nnone\nend\n",
         plan: HUB,
         ended: Ok(()),
     },
@@ -296,7 +298,7 @@ struct Played {
 }
 
 /// What is written to a writer that fails behind so many writes, of what a reader gives.
-fn played<R: Read>(
+fn play<R: Read + Drop>(
     alloc: Global,
     plan: &str,
     reader: R,
@@ -356,7 +358,7 @@ impl Read for Torn {
 #[test]
 fn courses(rt: HostRuntime) -> Result<(), Fail> {
     for row in ROWS {
-        let played = played(rt.alloc(), row.plan, row.host.as_bytes(), u64::MAX)?;
+        let played = play(rt.alloc(), row.plan, row.host.as_bytes(), u64::MAX)?;
         assert_eq!(rt; text_of(played.far.as_slice()), row.far, "{}", row.host);
         assert_eq!(rt; played.ended, row.ended, "{}", row.host);
     }
@@ -377,7 +379,7 @@ fn long_lines(rt: HostRuntime) -> Result<(), Fail> {
             host.push('A')?;
         }
         host.push('\n')?;
-        let played = played(rt.alloc(), PLAN, host.as_bytes(), u64::MAX)?;
+        let played = play(rt.alloc(), PLAN, host.as_bytes(), u64::MAX)?;
         assert_eq!(rt; text_of(played.far.as_slice()), "roots 2\n", "{begin}");
         assert_eq!(rt; played.ended, ended, "{begin}");
     }
@@ -392,13 +394,24 @@ fn cut(rt: HostRuntime) -> Result<(), Fail> {
         let front = &host[..count];
         let line = newlines(front).saturating_add(1);
         let in_line = front.last().is_some_and(|byte| *byte != b'\n');
-        let gone = if in_line { Err((line, FarFault::HostGone)) } else { Ok(()) };
-        let ended = played(rt.alloc(), PLAN, front, u64::MAX)?;
+        let gone = if in_line {
+            Err((line, FarFault::HostGone))
+        } else {
+            Ok(())
+        };
+        let ended = play(rt.alloc(), PLAN, front, u64::MAX)?;
         assert_eq!(rt; ended.ended, gone, "{count} bytes");
-        let failed = played(rt.alloc(), PLAN, Torn(front), u64::MAX)?;
+        let failed = play(rt.alloc(), PLAN, Torn(front), u64::MAX)?;
         assert_eq!(rt; failed.ended, Err((line, FarFault::Read)), "{count} bytes");
-        assert_eq!(rt; failed.far.as_slice(), ended.far.as_slice(), "{count} bytes");
-        assert!(rt; COURSE.far.as_bytes().starts_with(ended.far.as_slice()), "{count} bytes");
+        assert_eq!(rt;
+            failed.far.as_slice(),
+            ended.far.as_slice(),
+            "{count} bytes"
+        );
+        assert!(rt;
+            COURSE.far.as_bytes().starts_with(ended.far.as_slice()),
+            "{count} bytes"
+        );
     }
     Ok(())
 }
@@ -406,13 +419,16 @@ fn cut(rt: HostRuntime) -> Result<(), Fail> {
 /// Each write fails in turn: a front of the text has gone out.
 #[test]
 fn writes(rt: HostRuntime) -> Result<(), Fail> {
-    let whole = played(rt.alloc(), PLAN, COURSE.host.as_bytes(), u64::MAX)?;
+    let whole = play(rt.alloc(), PLAN, COURSE.host.as_bytes(), u64::MAX)?;
     assert_eq!(rt; whole.ended, Ok(()));
-    for writes in 0..16u64 {
-        let played = played(rt.alloc(), PLAN, COURSE.host.as_bytes(), writes)?;
+    for writes in 0..15u64 {
+        let played = play(rt.alloc(), PLAN, COURSE.host.as_bytes(), writes)?;
         let fault = played.ended.err().map(|(_, fault)| fault);
         assert_eq!(rt; fault, Some(FarFault::Write), "{writes} writes");
-        assert!(rt; whole.far.starts_with(played.far.as_slice()), "{writes} writes");
+        assert!(rt;
+            whole.far.starts_with(played.far.as_slice()),
+            "{writes} writes"
+        );
         assert!(rt; played.far.len() < whole.far.len(), "{writes} writes");
     }
     Ok(())

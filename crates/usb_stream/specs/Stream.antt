@@ -1,5 +1,5 @@
 -- A bus behind a stream of lines: what a question reads and writes, and what is kept of that.
-use Rattle.std.specs.Prelude.{◌≡◌, ◌⊎◌, ℕ, ◌+◌, ◌-◌, ◌<◌, ◌≤◌, ◌&&◌, nat_le, nat_lt, Bool, true, false, if◌then◌else◌, List, [], ◌∷◌, ◌++◌, length, replicate, slice_index_or, slice_set, Option, Some, None, IfOk, Result, Ok, Err}
+use Rattle.std.specs.Prelude.{◌≡◌, ◌⊎◌, ℕ, ◌+◌, ◌-◌, ◌<◌, ◌≤◌, ◌&&◌, nat_le, nat_lt, Bool, true, false, if◌then◌else◌, List, [], ◌∷◌, ◌++◌, length, replicate, slice_index_or, slice_set, Option, Some, None, Result, Ok, Err}
 use Rattle.std.specs.Io.KnownBytes.{Appends, Consumes, IsAtEnd}
 use Rattle.arrayvec.specs.ArrayVec.{ArrayVec}
 use Rattle.usb_packet.specs.declared.Toggle.{Toggle}
@@ -213,8 +213,31 @@ status_at k port = if nat_lt 0 port && nat_le port 7 then slice_index_or k.statu
 abbrev pub unasked : ℕ → Kept
 unasked limit = record { roots = 1; statuses = replicate 7 (replicate 4 0); left = limit; fault = None }
 
--- the hello was asked, and its answer is how many root ports there are
+-- the answer to the hello is how many root ports there are, 1 to 7
+abbrev pub roots_if : ℕ → Kept → Kept
+roots_if roots k = if nat_lt roots 1 then k else if nat_lt 7 roots then k else record k { roots = roots }
+
+abbrev pub greeted_by : Answer → Kept → Kept
+greeted_by (answer.Roots roots) k = roots_if roots k
+greeted_by (answer.Data sent) k = k
+greeted_by answer.Ack k = k
+greeted_by answer.Nak k = k
+greeted_by answer.Stall k = k
+greeted_by answer.Nothing k = k
+greeted_by answer.Done k = k
+greeted_by answer.Show k = k
+greeted_by answer.End k = k
+greeted_by (answer.Send path bytes) k = k
+greeted_by (answer.Receive path packets) k = k
+greeted_by (answer.Clear path) k = k
+
+abbrev pub greeted : Result Answer LiveFault → Kept → Kept
+greeted (Ok got) k = greeted_by got k
+greeted (Err f) k = k
+
+-- the hello was asked
 pub record Opens (limit : ℕ) (s : Streams) (new : Kept) : Type 0 where
   pub result : Result Answer LiveFault
-  pub asked : AsksOnce Hello s (unasked limit) result (record new { roots = 1 })
-  pub roots : IfOk result (λ got. got ≡ answer.Roots new.roots)
+  pub mid : Kept
+  pub asked : AsksOnce Hello s (unasked limit) result mid
+  pub kept : new ≡ greeted result mid

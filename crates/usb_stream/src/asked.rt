@@ -1,5 +1,6 @@
 //! Attempts as questions, and their answers as outcomes.
 ghost use Rattle.std.specs.Prelude.{◌≡◌, ◌≤◌, length, IfSome};
+ghost use Rattle.usb_packet.specs.Spelling.{IsBytes};
 ghost use Rattle.usb_wire.specs.Questions.{IsEndpoint, IsQuestion, kind_asked};
 ghost use Rattle.usb_wire.specs.declared.question.Asked.TheVariants as asked;
 ghost use Rattle.usb_world.specs.World.{FitsMaximum, IsAttempt};
@@ -80,7 +81,8 @@ fn out_question(
 
 fn copied(bytes: &[u8]) -> ArrayVec<u8, 64>
     requires { length bytes.now ≤ 64 }
-    ensures { result.items ≡ bytes.now }
+    ensures items { result.items ≡ bytes.now }
+    ensures bytes { IsBytes bytes.now }
 {
     let mut copy = ArrayVec::new();
     copy.try_extend_from_slice(bytes).unwrap();

@@ -50,7 +50,7 @@ impl<R: Drop, W> StreamBus<R, W> {
 }
 
 impl<R: Read, W: Write> StreamBus<R, W> {
-    ghost use Rattle.usb_stream.specs.Stream.{AsksOnce, Attempts, Calls, FailsOnce, Heard, ReadSome, Says, Tells, kept_of, status_at, streams};
+    ghost use Rattle.usb_stream.specs.Stream.{AsksOnce, Attempts, Calls, FailsOnce, Heard, Opens, ReadSome, Says, Tells, greeted, kept_of, status_at, streams};
     ghost use Rattle.usb_stream.specs.declared.fault.LiveFault.{LiveFault as AFault};
 
     /// Says the hello to a far end, which tells how many root ports there are; at most so many questions are asked in
@@ -71,10 +71,27 @@ impl<R: Read, W: Write> StreamBus<R, W> {
             lines: 0,
             fault: None,
         };
-        if let Ok(Answer::Roots(roots)) = bus.ask(&Question::Hello) {
-            bus.roots = roots;
-        }
+        let answer = bus.ask(&Question::Hello);
+        bus.greet(answer);
         bus
+    }
+
+    /// Keeps how many root ports there are, by the answer to the hello.
+    fn greet(&mut self, answer: Result<Answer, LiveFault>)
+        ensures kept { kept_of self.new ≡ greeted answer (kept_of self.old) }
+        ensures reader { self.new.reader ≡ self.old.reader }
+        ensures writer { self.new.writer ≡ self.old.writer }
+    {
+        match answer {
+            Ok(Answer::Roots(roots)) => {
+                if roots < 1 || roots > ROOTS {
+                    return;
+                }
+                self.roots = roots;
+            }
+            Ok(_) => {}
+            Err(_) => {}
+        }
     }
 
     /// Why the bus asks no more, if it does not.
@@ -85,8 +102,7 @@ impl<R: Read, W: Write> StreamBus<R, W> {
     }
 
     /// How many lines were read.
-    pub fn lines(&self) -> u64
-    {
+    pub fn lines(&self) -> u64 {
         self.lines
     }
 
@@ -100,8 +116,8 @@ impl<R: Read, W: Write> StreamBus<R, W> {
             → (result ≡ Err f) × (self.new ≡ self.old) }
         ensures asks { (kept_of self.old).fault ≡ None → Attempts attempt.now
             (streams (R.remaining (inner_of self.old.reader))
-                (R.remaining (inner_of self.new.reader)) (W.contents (inner_of self.old.writer))
-                (W.contents (inner_of self.new.writer)))
+            (R.remaining (inner_of self.new.reader)) (W.contents (inner_of self.old.writer))
+            (W.contents (inner_of self.new.writer)))
             (kept_of self.old) result (kept_of self.new) }
         ensures fits { IfOk result (FitsMaximum attempt.now.max) }
     {
@@ -136,8 +152,8 @@ impl<R: Read, W: Write> StreamBus<R, W> {
         ensures again { (kept_of self.old).fault ≢ None → self.new ≡ self.old }
         ensures asks { (kept_of self.old).fault ≡ None → Calls port (set_call feature)
             (streams (R.remaining (inner_of self.old.reader))
-                (R.remaining (inner_of self.new.reader)) (W.contents (inner_of self.old.writer))
-                (W.contents (inner_of self.new.writer)))
+            (R.remaining (inner_of self.new.reader)) (W.contents (inner_of self.old.writer))
+            (W.contents (inner_of self.new.writer)))
             (kept_of self.old) (kept_of self.new) }
     {
         if let Some(call) = PortCall::of_set(feature) {
@@ -150,8 +166,8 @@ impl<R: Read, W: Write> StreamBus<R, W> {
         ensures again { (kept_of self.old).fault ≢ None → self.new ≡ self.old }
         ensures asks { (kept_of self.old).fault ≡ None → Calls port (clear_call feature)
             (streams (R.remaining (inner_of self.old.reader))
-                (R.remaining (inner_of self.new.reader)) (W.contents (inner_of self.old.writer))
-                (W.contents (inner_of self.new.writer)))
+            (R.remaining (inner_of self.new.reader)) (W.contents (inner_of self.old.writer))
+            (W.contents (inner_of self.new.writer)))
             (kept_of self.old) (kept_of self.new) }
     {
         if let Some(call) = PortCall::of_clear(feature) {
@@ -168,8 +184,8 @@ impl<R: Read, W: Write> StreamBus<R, W> {
             → (result ≡ Err f) × (self.new ≡ self.old) }
         ensures asks { (kept_of self.old).fault ≡ None → AsksOnce question.Wait
             (streams (R.remaining (inner_of self.old.reader))
-                (R.remaining (inner_of self.new.reader)) (W.contents (inner_of self.old.writer))
-                (W.contents (inner_of self.new.writer)))
+            (R.remaining (inner_of self.new.reader)) (W.contents (inner_of self.old.writer))
+            (W.contents (inner_of self.new.writer)))
             (kept_of self.old) result (kept_of self.new) }
     {
         self.ask(&Question::Wait)
@@ -215,8 +231,8 @@ impl<R: Read, W: Write> StreamBus<R, W> {
         ensures again { (kept_of self.old).fault ≢ None → self.new ≡ self.old }
         ensures asks { (kept_of self.old).fault ≡ None → Calls port (Some call)
             (streams (R.remaining (inner_of self.old.reader))
-                (R.remaining (inner_of self.new.reader)) (W.contents (inner_of self.old.writer))
-                (W.contents (inner_of self.new.writer)))
+            (R.remaining (inner_of self.new.reader)) (W.contents (inner_of self.old.writer))
+            (W.contents (inner_of self.new.writer)))
             (kept_of self.old) (kept_of self.new) }
     {
         if port < 1 || port > self.roots {
@@ -232,8 +248,8 @@ impl<R: Read, W: Write> StreamBus<R, W> {
             → (result ≡ Err f) × (self.new ≡ self.old) }
         ensures asks { (kept_of self.old).fault ≡ None → AsksOnce question.now
             (streams (R.remaining (inner_of self.old.reader))
-                (R.remaining (inner_of self.new.reader)) (W.contents (inner_of self.old.writer))
-                (W.contents (inner_of self.new.writer)))
+            (R.remaining (inner_of self.new.reader)) (W.contents (inner_of self.old.writer))
+            (W.contents (inner_of self.new.writer)))
             (kept_of self.old) result (kept_of self.new) }
     {
         if let Some(fault) = self.fault {
@@ -254,8 +270,8 @@ impl<R: Read, W: Write> StreamBus<R, W> {
         requires sound { (kept_of self.old).fault ≡ None }
         ensures { FailsOnce question.now
             (streams (R.remaining (inner_of self.old.reader))
-                (R.remaining (inner_of self.new.reader)) (W.contents (inner_of self.old.writer))
-                (W.contents (inner_of self.new.writer)))
+            (R.remaining (inner_of self.new.reader)) (W.contents (inner_of self.old.writer))
+            (W.contents (inner_of self.new.writer)))
             (kept_of self.old) result (kept_of self.new) }
     {
         if self.left == 0 {

@@ -193,7 +193,12 @@ fn push_said(given: &mut String, said: &Said) -> Result<(), AllocError> {
 }
 
 /// All that a bus is asked over a reader, whose writer fails behind so many writes.
-fn played<R: Read>(alloc: Global, reader: R, writes: u64, limit: u64) -> Result<Played, AllocError> {
+fn play<R: Read + Drop>(
+    alloc: Global,
+    reader: R,
+    writes: u64,
+    limit: u64,
+) -> Result<Played, AllocError> {
     let writer = Frail {
         taken: Vec::new(alloc),
         writes_left: writes,
@@ -268,11 +273,11 @@ fn newlines(text: &[u8]) -> usize {
 
 #[test]
 fn courses(rt: HostRuntime) -> Result<(), Fail> {
-    let whole = played(rt.alloc(), FAR.as_bytes(), u64::MAX, 9)?;
+    let whole = play(rt.alloc(), FAR.as_bytes(), u64::MAX, 9)?;
     assert_eq!(rt; str::from_utf8(whole.host.as_slice()).ok(), Some(HOST));
     assert_eq!(rt; whole.given.as_str(), GIVEN);
     for row in FAULTS {
-        let played = played(rt.alloc(), row.far.as_bytes(), u64::MAX, row.limit)?;
+        let played = play(rt.alloc(), row.far.as_bytes(), u64::MAX, row.limit)?;
         assert_eq!(rt; played.fault, row.fault, "{}", row.far);
         assert_eq!(rt; newlines(played.host.as_slice()), row.lines, "{}", row.far);
     }
@@ -284,15 +289,21 @@ fn courses(rt: HostRuntime) -> Result<(), Fail> {
 fn cut(rt: HostRuntime) -> Result<(), Fail> {
     for count in 0..FAR.len() {
         let front = &FAR.as_bytes()[..count];
-        let ended = played(rt.alloc(), front, u64::MAX, 9)?;
-        let failed = played(rt.alloc(), Torn(front), u64::MAX, 9)?;
+        let ended = play(rt.alloc(), front, u64::MAX, 9)?;
+        let failed = play(rt.alloc(), Torn(front), u64::MAX, 9)?;
         // in place of what is wanted the end of the input is the end
         let is_end = front.ends_with(b"ok\nok\n");
         let gone = if is_end { None } else { Some(LiveFault::Gone) };
         assert_eq!(rt; ended.fault, gone, "{count} bytes");
         assert_eq!(rt; failed.fault, Some(LiveFault::Read), "{count} bytes");
-        assert!(rt; HOST.as_bytes().starts_with(failed.host.as_slice()), "{count} bytes");
-        assert!(rt; is_end || ended.host.len() == failed.host.len(), "{count} bytes");
+        assert!(rt;
+            HOST.as_bytes().starts_with(failed.host.as_slice()),
+            "{count} bytes"
+        );
+        assert!(rt;
+            is_end || ended.host.len() == failed.host.len(),
+            "{count} bytes"
+        );
     }
     Ok(())
 }
@@ -301,10 +312,13 @@ fn cut(rt: HostRuntime) -> Result<(), Fail> {
 #[test]
 fn writes(rt: HostRuntime) -> Result<(), Fail> {
     for writes in 0..9usize {
-        let played = played(rt.alloc(), FAR.as_bytes(), writes as u64, 9)?;
+        let played = play(rt.alloc(), FAR.as_bytes(), writes as u64, 9)?;
         assert_eq!(rt; played.fault, Some(LiveFault::Write), "{writes} writes");
         assert_eq!(rt; newlines(played.host.as_slice()), writes, "{writes} writes");
-        assert!(rt; HOST.as_bytes().starts_with(played.host.as_slice()), "{writes} writes");
+        assert!(rt;
+            HOST.as_bytes().starts_with(played.host.as_slice()),
+            "{writes} writes"
+        );
     }
     Ok(())
 }
@@ -321,7 +335,7 @@ fn many_pushes(rt: HostRuntime) -> Result<(), Fail> {
             far.push_str("port 1 00000000\n")?;
         }
         far.push_str("ACK\n")?;
-        let played = played(rt.alloc(), far.as_bytes(), u64::MAX, 9)?;
+        let played = play(rt.alloc(), far.as_bytes(), u64::MAX, 9)?;
         assert_eq!(rt; played.fault, fault, "{count} statuses");
     }
     Ok(())

@@ -14,7 +14,7 @@ returns-in-Ok-put_lines g c = λ unread left read.
 
 pub returns-in-Err-put_lines : goal.returns-in-Err-put_lines
 returns-in-Err-put_lines g c = λ unread left read. (
-      λ _. asked_torn unread left _ _ (far_of c.args.self.now) (far_of c.reply.new.self) c.args.line.now c.in-Ok-reply.reply.items c.in-Ok.question c.requires.unbroken read c.in-Ok.ensures.asked.0 c.in-Ok.ensures.asked.1
+  λ _. asked_torn unread left _ _ (far_of c.args.self.now) (far_of c.reply.new.self) c.args.line.now c.in-Ok-reply.reply.items c.in-Ok.question c.requires.unbroken read c.in-Ok.ensures.asked.0 c.in-Ok.ensures.asked.1
       c.in-Ok-reply.ensures.replied (rw c.as_slice.ensures.value at c.in-Err-put_lines.ensures.front),
-      λ (other : true ≡ false). cc,
-    )
+  λ (other : true ≡ false). cc,
+)
