@@ -7,7 +7,7 @@ use Rattle.clap.specs.declared.builder.action.ArgAction.TheVariants.{Set, SetTru
 use Rattle.clap.specs.declared.builder.value_parser.ValueParser.TheVariants as parser
 use Rattle.usb_words.specs.declared.words.DeviceWords.{DeviceWords}
 use Rattle.usb_words.specs.declared.words.Words.{Words}
-use Rattle.usb_words.specs.declared.words.Words.TheVariants.{Stdin, Packet, Check, Tree, Draw, Run, Pcap, Device}
+use Rattle.usb_words.specs.declared.words.Words.TheVariants.{Stdin, Packet, Check, Tree, Draw, Run, Pcap, Device, Far}
 
 -- the one text that a subcommand wants
 abbrev pub text_rule : Rule
@@ -46,7 +46,7 @@ abbrev pub first_app : App
 first_app = with_text (with_text (with_text plain_app (codes "packet")) (codes "check")) (codes "tree")
 
 abbrev pub program_app : App
-program_app = with_subcommand (with_text (with_text (with_subcommand first_app draw_app.top) (codes "run")) (codes "pcap")) device_app.top
+program_app = with_text (with_subcommand (with_text (with_text (with_subcommand first_app draw_app.top) (codes "run")) (codes "pcap")) device_app.top) (codes "far")
 
 -- clap reads this subcommand from the words, with this text
 pub record HasSubcommand (words : List Text) (name text : List ℕ) : Type 0 where
@@ -88,3 +88,4 @@ ReadsWords words (Draw ascii text) = ReadsDraw words ascii text.now
 ReadsWords words (Run text) = HasSubcommand words (codes "run") text.now
 ReadsWords words (Pcap text) = HasSubcommand words (codes "pcap") text.now
 ReadsWords words (Device asked) = ReadsDevice words asked
+ReadsWords words (Far text) = HasSubcommand words (codes "far") text.now

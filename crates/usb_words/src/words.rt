@@ -32,6 +32,8 @@ pub enum Words<'a> {
     Pcap(&'a str),
     /// The entry of a plan that a device makes.
     Device(DeviceWords<'a>),
+    /// The far end of a bus, played from a plan, by the plan's file.
+    Far(&'a str),
 }
 
 /// What entry a device makes.
@@ -57,7 +59,7 @@ pub enum WordFault {
 }
 
 /// Reads the words after the program's name: `packet HEX`, `check FILE`, `tree FILE`, `draw [--ascii] FILE`,
-/// `run FILE`, `pcap FILE`, `device NAME FILE [--ports N]` or none.
+/// `run FILE`, `pcap FILE`, `device NAME FILE [--ports N]`, `far FILE` or none.
 ///
 /// # Errors
 /// Refused where `clap` reads no such command, or is asked for the help or the version.
@@ -89,6 +91,7 @@ fn words_of<'a>(matches: &ArgMatches<'a>) -> Option<Words<'a>>
         Some(("run", found)) => Some(Words::Run(found.get_str("text")?)),
         Some(("pcap", found)) => Some(Words::Pcap(found.get_str("text")?)),
         Some(("device", found)) => Some(Words::Device(device_words(found)?)),
+        Some(("far", found)) => Some(Words::Far(found.get_str("text")?)),
         Some(_) => None,
     }
 }
@@ -145,7 +148,14 @@ fn program<'a>(alloc: Global) -> Result<Command<'a>, AllocError>
         text(alloc, "FILE", "What `run` wrote; `-` is standard input"),
     )?;
     let device = device_command(alloc)?;
-    with_command(with_pcap, device)
+    let with_device = with_command(with_pcap, device)?;
+    with_text_command(
+        alloc,
+        with_device,
+        "far",
+        "Answers a host, line by line, as the devices of a plan would",
+        text(alloc, "FILE", "The plan's file"),
+    )
 }
 
 /// The program with its first three commands.
@@ -195,7 +205,8 @@ fn plain_program<'a>(alloc: Global) -> Result<Command<'a>, AllocError>
                  All packets of a run: usbplan run plan.toml\n\
                  The same for Wireshark: usbplan run plan.toml | usbplan pcap - > plan.pcap\n\
                  A device of Linux for a plan: usbplan device mouse \
-                 /sys/bus/usb/devices/1-1/descriptors >> plan.toml\n\n\
+                 /sys/bus/usb/devices/1-1/descriptors >> plan.toml\n\
+                 What a host asks on standard input, answered: usbplan far plan.toml\n\n\
                  Status: 0 done, 1 refused, 2 no such command, or help or version, 3 limit reached,\n\
                  4 memory, input or output failed.\n\n\
                  Plans are described in docs/PLANS.md, what is written in docs/OUTPUT.md.",

@@ -16,6 +16,7 @@ Commands:
   run     Runs a plan, and prints each plug, each attempt and the devices that the host found
   pcap    Writes the packets of a run as a pcap file, for Wireshark
   device  Writes the `[[device]]` table of a plan, from a device's descriptors in Linux
+  far     Answers a host, line by line, as the devices of a plan would
   help    Print this message or the help of the given subcommand(s)
 
 Options:
@@ -31,6 +32,7 @@ The same as trees, in plain letters: usbplan draw --ascii plan.toml
 All packets of a run: usbplan run plan.toml
 The same for Wireshark: usbplan run plan.toml | usbplan pcap - > plan.pcap
 A device of Linux for a plan: usbplan device mouse /sys/bus/usb/devices/1-1/descriptors >> plan.toml
+What a host asks on standard input, answered: usbplan far plan.toml
 
 Status: 0 done, 1 refused, 2 no such command, or help or version, 3 limit reached,
 4 memory, input or output failed.
@@ -129,13 +131,14 @@ For more information, try '--help'.
 ";
 
 /// Words, and what they ask for, or the text that is shown in its place.
-const WORDS: [(&[&str], &str); 24] = [
+const WORDS: [(&[&str], &str); 25] = [
     (&["packet", "2D0010"], "Packet(\"2D0010\")"),
     (&[], "Stdin"),
     (&["tree", "plan.toml"], "Tree(\"plan.toml\")"),
     (&["run", "-"], "Run(\"-\")"),
     (&["pcap", "-"], "Pcap(\"-\")"),
     (&["check", "plan.toml"], "Check(\"plan.toml\")"),
+    (&["far", "plan.toml"], "Far(\"plan.toml\")"),
     (&["draw", "plan.toml"], "Draw(false, \"plan.toml\")"),
     (&["draw", "--ascii", "-"], "Draw(true, \"-\")"),
     (&["draw", "-", "--ascii"], "Draw(true, \"-\")"),

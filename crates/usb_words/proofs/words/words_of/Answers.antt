@@ -67,3 +67,8 @@ pub returns-in_ok-get_str-in-Some-pcap-default : goal.returns-in_ok-get_str-in-S
 returns-in_ok-get_str-in-Some-pcap-default c =
     let arm = c.in-Some-pcap-default in
     command_of c.args.matches.now arm.found.now (codes "pcap") _ (sym (ap Some arm.is-pcap) ∙ arm.ensures.name) arm.ensures.rows c.in_ok-get_str-in-Some-pcap-default.ensures
+
+pub returns-in_ok-get_str-in-Some-far-default : goal.returns-in_ok-get_str-in-Some-far-default
+returns-in_ok-get_str-in-Some-far-default c =
+    let arm = c.in-Some-far-default in
+    command_of c.args.matches.now arm.found.now (codes "far") _ (sym (ap Some arm.is-far) ∙ arm.ensures.name) arm.ensures.rows c.in_ok-get_str-in-Some-far-default.ensures

@@ -1,0 +1,2 @@
+mod Deeds
+mod Lines

@@ -1,0 +1,9 @@
+use Rattle.std.proofs.Common.{◌≡◌, take, map}
+use Rattle.usb_port.specs.PortState.{status_of}
+use Rattle.usb_world.specs.World.{root_row}
+use Rattle.usb_bus.specs.Sim.{world_of}
+use Rattle.usb_far.proofs.far_end.statuses.Given as goal
+
+-- those so far
+abbrev pub invariant-ports : goal.invariant-ports
+invariant-ports g l = l.all.items ≡ map status_of (take l.before (root_row (world_of l.bus)))

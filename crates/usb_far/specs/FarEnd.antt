@@ -1,0 +1,258 @@
+-- The far end as plain data, what it does at each question, and the lines that go out behind it.
+use Rattle.std.specs.Prelude.{◌≡◌, ℕ, ◌+◌, ◌==◌, nat_lt, Bool, true, false, not, if◌then◌else◌, List, [], ◌∷◌, ◌++◌, length, map, Option, Some, None}
+use Rattle.std.specs.Str.{bytes_eq}
+use Rattle.usb_packet.specs.declared.TokenKind.{TokenKind}
+use Rattle.usb_packet.specs.declared.TokenKind.TheVariants.{OutTok, InTok, SetupTok}
+use Rattle.usb_packet.specs.declared.Toggle.TheVariants.{Zero}
+use Rattle.usb_port.specs.declared.call.PortCall.{PortCall}
+use Rattle.usb_port.specs.PortState.{status_of}
+use Rattle.usb_request.specs.Layout.{bytes_of}
+use Rattle.usb_request.specs.declared.setup.Setup.{Setup as SetupData}
+use Rattle.usb_world.specs.declared.event.Due.{Due}
+use Rattle.usb_world.specs.declared.event.Due.TheVariants as due
+use Rattle.usb_world.specs.declared.types.Attempt.{Attempt}
+use Rattle.usb_world.specs.declared.types.Outcome.{Outcome}
+use Rattle.usb_world.specs.declared.types.Outcome.TheVariants as outcome
+use Rattle.usb_world.specs.World.{World, root_row, roots_of}
+use Rattle.usb_world.specs.Steps.{after, attempt, event, outcome_in, root_call}
+use Rattle.usb_bus.specs.declared.tracer.Trace.{Ghosts}
+use Rattle.usb_bus.specs.Lines.{next_due}
+use Rattle.usb_bus.specs.Sim.{world_of}
+use Rattle.usb_lines.specs.declared.line.LineFault.{LineFault}
+use Rattle.usb_lines.specs.declared.line.LineFault.TheVariants as line
+use Rattle.usb_wire.specs.Answers.{said_line}
+use Rattle.usb_wire.specs.Questions.{kind_asked}
+use Rattle.usb_wire.specs.declared.answer.Answer.{Answer}
+use Rattle.usb_wire.specs.declared.answer.Answer.TheVariants.{Roots, Ack, Nak, Stall, Nothing, Data, Done, Show, End, Send, Receive, Clear}
+use Rattle.usb_wire.specs.declared.answer.Said.{Said}
+use Rattle.usb_wire.specs.declared.answer.Said.TheVariants.{Changed, Answered}
+use Rattle.usb_wire.specs.declared.question.Asked.{Asked}
+use Rattle.usb_wire.specs.declared.question.Asked.TheVariants as asked
+use Rattle.usb_wire.specs.declared.question.DataPacket.{DataPacket}
+use Rattle.usb_wire.specs.declared.question.Endpoint.{Endpoint}
+use Rattle.usb_wire.specs.declared.question.Question.{Question}
+use Rattle.usb_wire.specs.declared.question.Question.TheVariants.{Hello, Setup, Out, In, Port, Wait}
+use Rattle.usb_wire.specs.declared.question.Speed.{Speed}
+use Rattle.usb_wire.specs.declared.question.Speed.TheVariants.{Full, Low, LowBelowHub}
+use Rattle.usb_far.specs.declared.far_end.FarEnd.{FarEnd}
+use Rattle.usb_far.specs.declared.far_end.Phase.{Phase}
+use Rattle.usb_far.specs.declared.far_end.Phase.TheVariants.{New, Asks, Tells}
+use Rattle.usb_far.specs.declared.fault.FarFault.{FarFault}
+use Rattle.usb_far.specs.declared.fault.FarFault.TheVariants as fault
+
+-- the far end: the world of its bus, the statuses of root ports as they were told last, whether an event came in the INs
+-- answered by NAK since the last other question, and what the host does
+pub record Far : Type 0 where
+  pub world : World
+  pub told : List (List ℕ)
+  pub came : Bool
+  pub phase : Phase
+
+abbrev pub far_of : {T : Type 0} {g : Ghosts T} → FarEnd T g → Far
+far_of f = record { world = world_of f.bus; told = f.told.items; came = f.came; phase = f.phase }
+
+-- wPortStatus and wPortChange of each root port (11.24.2.7)
+unfoldable pub statuses : World → List (List ℕ)
+statuses w = map status_of (root_row w)
+
+-- before the first question, what was told is what is so
+abbrev pub far_begun : World → Far
+far_begun w = record { world = w; told = statuses w; came = false; phase = New }
+
+-- ---- attempts
+
+abbrev pub is_low : Speed → Bool
+is_low Full = false
+is_low Low = true
+is_low LowBelowHub = true
+
+abbrev pub is_pre : Speed → Bool
+is_pre Full = false
+is_pre Low = false
+is_pre LowBelowHub = true
+
+abbrev pub setup_attempt : Speed → Endpoint → SetupData → Attempt
+setup_attempt speed e setup = record {
+  kind = SetupTok;
+  addr = e.address;
+  ep = e.number;
+  low = is_low speed;
+  pre = is_pre speed;
+  max = 8;
+  payload = Some (Zero, record { items = bytes_of setup });
+}
+
+abbrev pub out_attempt : Speed → Endpoint → DataPacket → Attempt
+out_attempt speed e sent = record {
+  kind = OutTok;
+  addr = e.address;
+  ep = e.number;
+  low = is_low speed;
+  pre = is_pre speed;
+  max = 64;
+  payload = Some (sent.toggle, sent.bytes);
+}
+
+abbrev pub in_attempt : Speed → Endpoint → ℕ → Attempt
+in_attempt speed e most = record {
+  kind = InTok;
+  addr = e.address;
+  ep = e.number;
+  low = is_low speed;
+  pre = is_pre speed;
+  max = most;
+  payload = None;
+}
+
+-- what the host gets, as it is told
+abbrev pub outcome_answer : Outcome → Answer
+outcome_answer (outcome.Payload toggle bytes) = Data (record { toggle = toggle; bytes = bytes })
+outcome_answer outcome.Ack = Ack
+outcome_answer outcome.Nak = Nak
+outcome_answer outcome.Stall = Stall
+outcome_answer outcome.Nothing = Nothing
+
+abbrev pub is_nak : Outcome → Bool
+is_nak (outcome.Payload toggle bytes) = false
+is_nak outcome.Ack = false
+is_nak outcome.Nak = true
+is_nak outcome.Stall = false
+is_nak outcome.Nothing = false
+
+-- an IN that is answered by NAK
+abbrev pub is_poll : TokenKind → Outcome → Bool
+is_poll InTok o = is_nak o
+is_poll OutTok o = false
+is_poll SetupTok o = false
+
+-- ---- what is done at a question
+
+-- the answer, where a line has room for it; the world behind it, and whether an event came that the host may not have seen
+pub record Deed : Type 0 where
+  pub answer : Option Answer
+  pub world : World
+  pub came : Bool
+
+-- an event came in the last INs, all of them answered by NAK
+abbrev pub came_in : Bool → Bool → ℕ → ℕ → Bool
+came_in false came before now = false
+came_in true true before now = true
+came_in true false before now = not (now == before)
+
+unfoldable pub attempt_done : Attempt → Far → Deed
+attempt_done a f = record {
+  answer = Some (outcome_answer (outcome_in a f.world));
+  world = after (attempt a) f.world;
+  came = came_in (is_poll a.kind (outcome_in a f.world)) f.came f.world.taken (after (attempt a) f.world).taken;
+}
+
+unfoldable pub call_done : ℕ → PortCall → Far → Deed
+call_done number call f = record { answer = Some Done; world = after (root_call call number) f.world; came = false }
+
+-- at most 64 bytes
+unfoldable pub send_answer : List ℕ → List ℕ → Option Answer
+send_answer path bytes = if nat_lt 64 (length bytes) then None else Some (Send path (record { items = bytes }))
+
+-- what an event asks, and the end where none is left
+abbrev pub due_answer : Option Due → Option Answer
+due_answer None = Some End
+due_answer (Some due.Changed) = Some Done
+due_answer (Some due.Show) = Some Show
+due_answer (Some (due.Send path bytes)) = send_answer path bytes
+due_answer (Some (due.Receive path packets)) = Some (Receive path packets)
+due_answer (Some (due.Clear path)) = Some (Clear path)
+
+unfoldable pub wait_done : Far → Deed
+wait_done f =
+    if f.came then record { answer = Some Done; world = f.world; came = false }
+    else record { answer = due_answer (next_due f.world); world = after event f.world; came = false }
+
+unfoldable pub hello_done : Far → Deed
+hello_done f = record { answer = Some (Roots (roots_of f.world)); world = f.world; came = f.came }
+
+abbrev pub done : Question → Far → Deed
+done Hello f = hello_done f
+done (Setup speed endpoint setup) f = attempt_done (setup_attempt speed endpoint setup) f
+done (Out speed endpoint sent) f = attempt_done (out_attempt speed endpoint sent) f
+done (In speed endpoint most) f = attempt_done (in_attempt speed endpoint most) f
+done (Port number call) f = call_done number call f
+done Wait f = wait_done f
+
+-- a deed was done, with this answer
+pub record IsDone (d : Deed) (old : Far) (answer : Answer) (new : Far) : Type 0 where
+  pub answered : d.answer ≡ Some answer
+  pub far : new ≡ record old { world = d.world; came = d.came }
+
+-- ---- the lines behind a question
+
+abbrev pub line_of : Said → List ℕ
+line_of said = said_line said ++ 10 ∷ []
+
+abbrev pub is_first : List (List ℕ) → List ℕ → Bool
+is_first [] status = false
+is_first (t ∷ ts) status = bytes_eq t status
+
+abbrev pub behind_first : List (List ℕ) → List (List ℕ)
+behind_first [] = []
+behind_first (t ∷ ts) = ts
+
+abbrev pub push_of : ℕ → List (List ℕ) → List ℕ → List ℕ
+push_of number told status = if is_first told status then [] else line_of (Changed number status)
+
+-- a line for each status that is not what was told, of the ports from a number on
+unfoldable pub pushes : ℕ → List (List ℕ) → List (List ℕ) → List ℕ
+pushes number told [] = []
+pushes number told (status ∷ more) = push_of number told status ++ pushes (number + 1) (behind_first told) more
+
+-- the hello is told no status
+abbrev pub pushed : Asked → Far → List ℕ
+pushed asked.Hello f = []
+pushed asked.Attempt f = pushes 1 f.told (statuses f.world)
+pushed asked.Port f = pushes 1 f.told (statuses f.world)
+pushed asked.Wait f = pushes 1 f.told (statuses f.world)
+
+abbrev pub told_behind : Asked → Far → List (List ℕ)
+told_behind asked.Hello f = f.told
+told_behind asked.Attempt f = statuses f.world
+told_behind asked.Port f = statuses f.world
+told_behind asked.Wait f = statuses f.world
+
+pub record ChangesTold (a : Asked) (old new : Far) (lines : List ℕ) : Type 0 where
+  pub pushed : lines ≡ pushed a old
+  pub far : new ≡ record old { told = told_behind a old; phase = Asks }
+
+-- the hello stands first, and nowhere else
+abbrev pub may_ask_as : Phase → Asked → Bool
+may_ask_as New asked.Hello = true
+may_ask_as New asked.Attempt = false
+may_ask_as New asked.Port = false
+may_ask_as New asked.Wait = false
+may_ask_as Asks asked.Hello = false
+may_ask_as Asks asked.Attempt = true
+may_ask_as Asks asked.Port = true
+may_ask_as Asks asked.Wait = true
+may_ask_as Tells asked = false
+
+abbrev pub may_ask : Phase → Question → Bool
+may_ask phase q = may_ask_as phase (kind_asked q)
+
+-- behind the deed
+abbrev pub far_done : Question → Far → Far
+far_done q f = record f { world = (done q f).world; came = (done q f).came }
+
+abbrev pub far_after : Question → Far → Far
+far_after q f = record (far_done q f) { told = told_behind (kind_asked q) (far_done q f); phase = Asks }
+
+-- what was asked was done and told: a line for each status that is not what was told, and that of the answer
+pub record IsReplied (q : Question) (old new : Far) (lines : List ℕ) : Type 0 where
+  pub asks : may_ask old.phase q ≡ true
+  pub answer : Answer
+  pub answered : (done q old).answer ≡ Some answer
+  pub far : new ≡ far_after q old
+  pub is : lines ≡ pushed (kind_asked q) (far_done q old) ++ line_of (Answered answer)
+
+-- of the private functions
+
+abbrev pub line_fault : LineFault → FarFault
+line_fault line.Read = fault.Read
+line_fault line.Cut = fault.HostGone

@@ -1,0 +1,2 @@
+pub mod FarEnd
+pub mod Serving

@@ -1,0 +1,219 @@
+//! What the far end does at each question.
+ghost use Rattle.std.specs.Prelude.{◌≡◌, ◌∷◌, [], false, true, IfErr, IfOk};
+ghost use Rattle.usb_world.specs.Steps.{after, opening, root_call};
+ghost use Rattle.usb_world.specs.World.{IsAttempt, IsRootPort};
+ghost use Rattle.usb_bus.specs.Watch.{has_failed};
+ghost use Rattle.usb_bus.specs.Sim.{world_of};
+ghost use Rattle.usb_wire.specs.Questions.{IsQuestion};
+ghost use Rattle.usb_far.specs.Serving.{Refuses};
+ghost use Rattle.usb_far.specs.FarEnd.{IsDone, attempt_done, call_done, came_in, done, due_answer, send_answer, statuses, wait_done};
+
+use crate::attempt::{answer_of, in_attempt, is_poll, out_attempt, setup_attempt};
+use crate::fault::FarFault;
+use arrayvec::ArrayVec;
+use std::alloc::{AllocError, Global};
+use std::io::Write;
+use usb_bus::{Attempt, Bus, Due, Plan, SentBytes, SimBus, Trace, Tracer, Watched};
+use usb_port::{PortCall, PortPath};
+use usb_request::feature::{
+    C_PORT_CONNECTION, C_PORT_ENABLE, C_PORT_RESET, PORT_ENABLE, PORT_POWER, PORT_RESET,
+};
+use usb_wire::{Answer, Question};
+
+/// The statuses of root ports, port 1 first.
+pub(crate) type Statuses = ArrayVec<[u8; 4], 7>;
+
+/// What the host does.
+#[derive(Clone, Copy, Debug, PartialEq, Eq)]
+pub enum Phase {
+    /// It has not said the hello.
+    New,
+    /// It asks.
+    Asks,
+    /// It tells a listing.
+    Tells,
+}
+
+/// A simulated bus as a far end plays it.
+#[derive(Drop)]
+pub struct FarEnd<T: Trace> {
+    pub(crate) bus: SimBus<T>,
+    /// What the status of each root port was when it was last told.
+    pub(crate) told: Statuses,
+    /// An event came in the INs answered by NAK since the last other question.
+    pub(crate) came: bool,
+    pub(crate) phase: Phase,
+}
+
+impl<W: Write + Drop> FarEnd<Tracer<W>> {
+    ghost use Rattle.usb_far.specs.FarEnd.{far_begun, far_of};
+
+    /// The far end of a plan, before anything came: all root ports are off. Its trace goes to a writer.
+    ///
+    /// # Errors
+    /// Memory is refused.
+    pub fn new(alloc: Global, plan: &Plan, writer: Watched<W>) -> Result<Self, AllocError>
+        requires { has_failed writer ≡ false }
+        ensures { IfOk result (λ far. far_of far ≡ far_begun (opening plan.now)) }
+    {
+        match SimBus::new(alloc, plan, writer) {
+            Ok(bus) => Ok(FarEnd {
+                told: statuses(&bus),
+                bus,
+                came: false,
+                phase: Phase::New,
+            }),
+            Err((error, _)) => Err(error),
+        }
+    }
+}
+
+impl<T: Trace> FarEnd<T> {
+    ghost use Rattle.usb_far.specs.FarEnd.{far_of};
+
+    /// Does what is asked, and answers it.
+    pub(crate) fn answer(&mut self, question: Question) -> Result<Answer, FarFault>
+        requires { IsQuestion question }
+        ensures done { IfOk result (λ answer.
+            IsDone (done question (far_of self.old)) (far_of self.old) answer (far_of self.new)) }
+        ensures fault { IfErr result Refuses }
+    {
+        match question {
+            Question::Hello => Ok(Answer::Roots(self.bus.root_ports())),
+            Question::Setup {
+                speed,
+                endpoint,
+                setup,
+            } => self.attempt(&setup_attempt(speed, endpoint, setup)),
+            Question::Out {
+                speed,
+                endpoint,
+                sent,
+            } => self.attempt(&out_attempt(speed, endpoint, sent)),
+            Question::In {
+                speed,
+                endpoint,
+                most,
+            } => self.attempt(&in_attempt(speed, endpoint, most)),
+            Question::Port { number, call } => self.call(number, call),
+            Question::Wait => self.wait(),
+        }
+    }
+
+    /// Makes an attempt.
+    fn attempt(&mut self, attempt: &Attempt) -> Result<Answer, FarFault>
+        requires { IsAttempt attempt.now }
+        ensures done { IfOk result (λ answer.
+            IsDone (attempt_done attempt.now (far_of self.old)) (far_of self.old) answer
+            (far_of self.new)) }
+        ensures fault { IfErr result Refuses }
+    {
+        let taken = self.bus.events_taken();
+        let outcome = match self.bus.attempt(attempt) {
+            Ok(outcome) => outcome,
+            Err(fault) => return Err(FarFault::Bus(fault)),
+        };
+        let poll = is_poll(attempt.kind, &outcome);
+        self.came = came_in(poll, self.came, taken, self.bus.events_taken());
+        Ok(answer_of(outcome))
+    }
+
+    /// Makes a call at a root port, where there is one of that number.
+    fn call(&mut self, number: u8, call: PortCall) -> Result<Answer, FarFault>
+        ensures done { IfOk result (λ answer.
+            IsDone (call_done number call (far_of self.old)) (far_of self.old) answer
+            (far_of self.new)) }
+        ensures fault { IfErr result Refuses }
+    {
+        if number < 1 || number > self.bus.root_ports() {
+            return Err(FarFault::BadNumber);
+        }
+        call_root(&mut self.bus, number, call);
+        self.came = false;
+        Ok(Answer::Done)
+    }
+
+    /// Tells what is wanted: nothing where an event came that the host may not have seen, else what the next event asks.
+    fn wait(&mut self) -> Result<Answer, FarFault>
+        ensures done { IfOk result (λ answer.
+            IsDone (wait_done (far_of self.old)) (far_of self.old) answer (far_of self.new)) }
+        ensures fault { IfErr result Refuses }
+    {
+        if self.came {
+            self.came = false;
+            return Ok(Answer::Done);
+        }
+        match self.bus.apply_next_event() {
+            Ok(due) => match answer_of_due(due) {
+                Some(answer) => Ok(answer),
+                None => Err(FarFault::LongSend),
+            },
+            Err(fault) => Err(FarFault::Bus(fault)),
+        }
+    }
+}
+
+/// Whether an event came in the last INs, all of them answered by NAK: in those before, or in this one.
+fn came_in(poll: bool, came: bool, before: u64, now: u64) -> bool
+    ensures { result ≡ came_in poll came before now }
+{
+    match (poll, came) {
+        (false, _) => false,
+        (true, true) => true,
+        (true, false) => now != before,
+    }
+}
+
+/// The statuses of all root ports.
+pub(crate) fn statuses<T: Trace>(bus: &SimBus<T>) -> Statuses
+    ensures { result.items ≡ statuses (world_of bus.now) }
+{
+    let mut all = Statuses::new();
+    'ports: for before in 0..bus.root_ports() {
+        all.push(bus.root_status(before + 1));
+    }
+    all
+}
+
+/// Makes a call at a root port, by its feature (11.24).
+fn call_root<T: Trace>(bus: &mut SimBus<T>, port: u8, call: PortCall)
+    requires { IsRootPort (world_of bus.old) port }
+    ensures { world_of bus.new ≡ after (root_call call port) (world_of bus.old) }
+{
+    match call {
+        PortCall::SetPower => bus.root_set(port, PORT_POWER),
+        PortCall::SetReset => bus.root_set(port, PORT_RESET),
+        PortCall::ClearEnable => bus.root_clear(port, PORT_ENABLE),
+        PortCall::ClearPower => bus.root_clear(port, PORT_POWER),
+        PortCall::ClearConnectionChange => bus.root_clear(port, C_PORT_CONNECTION),
+        PortCall::ClearEnableChange => bus.root_clear(port, C_PORT_ENABLE),
+        PortCall::ClearResetChange => bus.root_clear(port, C_PORT_RESET),
+    }
+}
+
+/// What an event asks, as it is told; None where it sends more than a line has room for.
+fn answer_of_due(due: Option<Due>) -> Option<Answer>
+    ensures { result ≡ due_answer due }
+{
+    match due {
+        None => Some(Answer::End),
+        Some(Due::Changed) => Some(Answer::Done),
+        Some(Due::Show) => Some(Answer::Show),
+        Some(Due::Send(path, bytes)) => send_answer(path, &bytes),
+        Some(Due::Receive(path, packets)) => Some(Answer::Receive { path, packets }),
+        Some(Due::Clear(path)) => Some(Answer::Clear(path)),
+    }
+}
+
+/// What is to be sent, where a line has room for it.
+#[tactic(auto, unfolding(crate::specs::FarEnd::send_answer))]
+fn send_answer(path: PortPath, bytes: &SentBytes) -> Option<Answer>
+    ensures { result ≡ send_answer path bytes.now }
+{
+    if bytes.as_slice().len() > 64 {
+        return None;
+    }
+    let mut sent = ArrayVec::new();
+    sent.try_extend_from_slice(bytes.as_slice()).unwrap();
+    Some(Answer::Send { path, bytes: sent })
+}

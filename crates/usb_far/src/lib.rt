@@ -1,0 +1,27 @@
+//! The far end of a bus behind two pipes, played from a plan: what a host asks line by line, a simulated bus answers.
+//!
+//! `FarEnd` is a `SimBus` with the statuses of its root ports as they were told last; `serve` reads the lines of
+//! `usb_wire` and writes its answers. Events that are due come in an attempt, as a `SimBus` has it; where the host asks
+//! what is wanted, the next event comes at once and is the answer, but *ok* stands first where an event came in the INs
+//! before, all of them answered by NAK. What a host tells (a listing, how a transfer went) is read over.
+//!
+//! # What is proved
+//!
+//! `serve`, of readers and writers whose bytes are known (*Serves*, `specs/Serving.antt`): what was read is lines, each a
+//! question of `usb_wire`'s grammar or one that tells something, and what has gone out is, for each question in its
+//! order and once, its reply: a line for each root port whose status is not what was told last, and the line of the
+//! answer. The answer to an attempt is what `outcome_in` of usb_world gives at that attempt's world, and the world
+//! behind it is the world `after` it (*answer_in*, *far_after*, `specs/FarEnd.antt`); so with root calls and events. At
+//! a fault the replies to the lines before have gone out and nothing more, or a front of them where the writer failed.
+//! *Only tested*: the words of the faults.
+#![tactic(auto)]
+
+mod attempt;
+mod far_end;
+mod fault;
+mod reply;
+mod serving;
+
+pub use far_end::FarEnd;
+pub use fault::FarFault;
+pub use serving::serve;

@@ -1,0 +1,128 @@
+//! The lines that go out behind a question.
+ghost use Rattle.std.specs.Prelude.{◌≡◌, ◌+◌, ◌*◌, ◌≤◌, ◌∷◌, ◌++◌, [], length, IfErr, IfOk};
+ghost use Rattle.usb_wire.specs.Questions.{IsQuestion};
+ghost use Rattle.usb_far.specs.FarEnd.{ChangesTold, IsReplied, behind_first, is_first, line_of, may_ask, pushes};
+ghost use Rattle.usb_far.specs.Serving.{Refuses};
+
+use crate::far_end::{FarEnd, Phase, statuses};
+use crate::fault::FarFault;
+use arrayvec::ArrayVec;
+use usb_bus::Trace;
+use usb_wire::{Asked, Question, Said, said_line};
+
+/// Room for the status of each root port and an answer: eight lines of 700 bytes.
+const ROOM: usize = 5608;
+
+/// The lines that go out behind a question.
+pub(crate) type Reply = ArrayVec<u8, ROOM>;
+
+impl<T: Trace> FarEnd<T> {
+    ghost use Rattle.usb_far.specs.FarEnd.{far_of};
+
+    /// Does what is asked, and gives the lines to that: the statuses of root ports that are not what was last told, and
+    /// the answer.
+    ///
+    /// # Errors
+    /// NoQuestion where it is the hello and not the first question, or the first one and not the hello; BadNumber where
+    /// there is no such root port; LongSend where an event sends more than 64 bytes; the fault of the bus.
+    pub(crate) fn reply(&mut self, question: Question) -> Result<Reply, FarFault>
+        requires { IsQuestion question }
+        ensures replied { IfOk result (λ reply.
+            IsReplied question (far_of self.old) (far_of self.new) reply.items) }
+        ensures fault { IfErr result Refuses }
+    {
+        if !may_ask(self.phase, &question) {
+            return Err(FarFault::NoQuestion);
+        }
+        let asked = question.asked();
+        let answer = match self.answer(question) {
+            Ok(answer) => answer,
+            Err(fault) => return Err(fault),
+        };
+        let mut lines = self.changes(asked);
+        push_said(&mut lines, &Said::Answered(answer));
+        Ok(lines)
+    }
+
+    /// The lines of root ports whose status is not what was last told, which it is then.
+    fn changes(&mut self, asked: Asked) -> Reply
+        ensures told { ChangesTold asked (far_of self.old) (far_of self.new) result.items }
+        ensures few { length result.items ≤ 4907 }
+    {
+        self.phase = Phase::Asks;
+        let mut lines = Reply::new();
+        if asked == Asked::Hello {
+            return lines;
+        }
+        let now = statuses(&self.bus);
+        push_changes(&mut lines, 1, self.told.as_slice(), now.as_slice());
+        self.told = now;
+        lines
+    }
+}
+
+/// Whether the question may stand there: the hello first, and no other one.
+fn may_ask(phase: Phase, question: &Question) -> bool
+    ensures { result ≡ may_ask phase question.now }
+{
+    match (phase, question.asked()) {
+        (Phase::New, Asked::Hello) => true,
+        (Phase::New, _) | (Phase::Tells, _) | (Phase::Asks, Asked::Hello) => false,
+        (Phase::Asks, _) => true,
+    }
+}
+
+/// The lines of statuses that are not what was told, of the ports from a number on.
+#[tactic(auto, unfolding(crate::specs::FarEnd::pushes))]
+fn push_changes(lines: &mut Reply, number: u8, told: &[[u8; 4]], now: &[[u8; 4]])
+    requires room { length lines.old.items + 701 * length now.now ≤ 4907 }
+    requires few { number + length now.now ≤ 100 }
+    ensures lines { lines.new.items ≡ lines.old.items ++ pushes number told.now now.now }
+    ensures left { length lines.new.items ≤ length lines.old.items + 701 * length now.now }
+{
+    let Some((status, rest)) = now.split_first() else {
+        return;
+    };
+    if !is_first(told, status) {
+        push_said(
+            lines,
+            &Said::Changed {
+                number,
+                status: *status,
+            },
+        );
+    }
+    push_changes(lines, number + 1, behind_first(told), rest);
+}
+
+/// Whether it is the first of these.
+fn is_first(all: &[[u8; 4]], status: &[u8; 4]) -> bool
+    ensures { result ≡ is_first all.now status.now }
+{
+    match all.first() {
+        Some(first) => first == status,
+        None => false,
+    }
+}
+
+fn behind_first(all: &[[u8; 4]]) -> &[[u8; 4]]
+    ensures { result.now ≡ behind_first all.now }
+{
+    match all.split_first() {
+        Some((_, rest)) => rest,
+        None => all,
+    }
+}
+
+/// The line of what is said, with its newline.
+fn push_said(lines: &mut Reply, said: &Said)
+    requires { length lines.old.items ≤ 4907 }
+    ensures line { lines.new.items ≡ lines.old.items ++ line_of said.now }
+    ensures left { length lines.new.items ≤ length lines.old.items + 701 }
+{
+    let line = said_line(said);
+    lines
+        .try_extend_from_slice(line.as_str().as_bytes())
+        .unwrap();
+    lines.push(b'\n');
+}

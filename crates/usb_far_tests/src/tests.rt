@@ -1,0 +1,443 @@
+//! A test is a loop over rows: what a host says, and what the far end of a plan says to it.
+use std::alloc::{AllocError, Global};
+use std::io;
+use std::io::{Error, ErrorKind, Read, Write};
+use std::test::Fail;
+use usb_bus::{BusFault, Watched};
+use usb_far::{FarEnd, FarFault, serve};
+use usb_plan::read_plan;
+
+/// A disk that is plugged, pulled out in the fourth attempt and plugged elsewhere, and what its user wants then.
+const PLAN: &str = r#"
+limit = 8
+roots = 2
+
+[[device]]
+name = "disk"
+speed = "full"
+descriptor = "120100020000004034127856000100000001"
+configs = ["0902120001010080320904000000FF000000"]
+
+[[event]]
+do = "plug"
+path = "1"
+device = "disk"
+
+[[event]]
+do = "unplug"
+path = "1"
+after = 3
+
+[[event]]
+do = "plug"
+path = "2"
+device = "disk"
+
+[[event]]
+do = "send"
+path = "1"
+bytes = "0102"
+
+[[event]]
+do = "receive"
+path = "2"
+packets = 3
+
+[[event]]
+do = "clear"
+path = "2"
+
+[[event]]
+do = "show"
+
+[[event]]
+do = "send"
+path = "2"
+bytes = "00000000000000000000000000000000000000000000000000000000000000000000000000000000000000000000000000000000000000000000000000000000000000000000"
+"#;
+
+/// A hub, and a device that is plugged beside it in the sixth attempt.
+const HUB: &str = r#"
+limit = 100
+roots = 2
+
+[[device]]
+name = "hub"
+speed = "full"
+descriptor = "120100020900004001000200000100000001"
+configs = ["09021900010100C000090400000109000000070581030100FF"]
+ports = 4
+self_powered = true
+
+[[event]]
+do = "plug"
+path = "1"
+device = "hub"
+
+[[event]]
+do = "plug"
+path = "2"
+device = "hub"
+after = 5
+"#;
+
+/// A plan, what a host says, what is said to it, and how that ends.
+#[derive(Clone, Copy)]
+struct Row {
+    plan: &'static str,
+    host: &'static str,
+    far: &'static str,
+    ended: Result<(), (u64, FarFault)>,
+}
+
+/// A course with each question, a push before some answers, and told lines.
+const COURSE: Row = Row {
+    plan: PLAN,
+    host: "usbplan live 1\n\
+           port 1 set PORT_POWER\n\
+           wait\n\
+           port 1 clear C_PORT_CONNECTION\n\
+           port 1 set PORT_RESET\n\
+           SETUP 0.0 / DATA0 8006000100000800\n\
+           IN 0.0 64\n\
+           low OUT 0.0 / DATA1 -\n\
+           PRE OUT 0.0 / PRE DATA1 -\n\
+           port 1 clear C_PORT_RESET\n\
+           wait\n\
+           send 1 failed no device\n\
+           port 2 set PORT_POWER\n\
+           wait\n\
+           receive 2 failed no device\n\
+           wait\n\
+           clear 2 failed no device\n\
+           wait\n\
+           listing 1\n\
+           wait\n\
+           \u{e9}\n\
+           end\n",
+    far: "roots 2\n\
+          port 1 00010000\nok\n\
+          port 1 01010100\nok\n\
+          port 1 01010000\nok\n\
+          port 1 03011000\nok\n\
+          ACK\n\
+          DATA1 1201000200000040\n\
+          none\n\
+          port 1 00011100\nnone\n\
+          port 1 00010100\nok\n\
+          send 1 0102\n\
+          port 2 01010100\nok\n\
+          receive 2 3\n\
+          clear 2\n\
+          show\n",
+    ended: Ok(()),
+};
+
+/// The course of docs/LIVE.md, over examples/one_device.toml.
+const PAGE: Row = Row {
+    plan: r#"
+limit = 10000
+roots = 1
+
+[[device]]
+name = "thermometer"
+speed = "full"
+descriptor = "120100020000004034127856000100000001"
+configs = ["0902120001010080320904000000FF000000"]
+
+[[event]]
+do = "plug"
+path = "1"
+device = "thermometer"
+"#,
+    host: "usbplan live 1\n\
+           port 1 set PORT_POWER\n\
+           wait\n\
+           port 1 clear C_PORT_CONNECTION\n\
+           port 1 set PORT_RESET\n\
+           port 1 clear C_PORT_RESET\n\
+           SETUP 0.0 / DATA0 8006000100000800\n\
+           IN 0.0 8\n\
+           OUT 0.0 / DATA1 -\n\
+           SETUP 0.0 / DATA0 0005010000000000\n\
+           IN 0.0 64\n\
+           SETUP 1.0 / DATA0 8006000100001200\n\
+           IN 1.0 64\n\
+           OUT 1.0 / DATA1 -\n\
+           SETUP 1.0 / DATA0 8006000200000900\n\
+           IN 1.0 64\n\
+           OUT 1.0 / DATA1 -\n\
+           SETUP 1.0 / DATA0 8006000200001200\n\
+           IN 1.0 64\n\
+           OUT 1.0 / DATA1 -\n\
+           SETUP 1.0 / DATA0 0009010000000000\n\
+           IN 1.0 64\n\
+           wait\n\
+           listing 1\n\
+           1 address 1 full 120100020000004034127856000100000001\n\
+           1 config 0 0902120001010080320904000000FF000000 *\n\
+           end\n",
+    far: "roots 1\n\
+          port 1 00010000\n\
+          ok\n\
+          port 1 01010100\n\
+          ok\n\
+          port 1 01010000\n\
+          ok\n\
+          port 1 03011000\n\
+          ok\n\
+          port 1 03010000\n\
+          ok\n\
+          ACK\n\
+          DATA1 1201000200000040\n\
+          ACK\n\
+          ACK\n\
+          DATA1 -\n\
+          ACK\n\
+          DATA1 120100020000004034127856000100000001\n\
+          ACK\n\
+          ACK\n\
+          DATA1 090212000101008032\n\
+          ACK\n\
+          ACK\n\
+          DATA1 0902120001010080320904000000FF000000\n\
+          ACK\n\
+          ACK\n\
+          DATA1 -\n\
+          end\n",
+    ended: Ok(()),
+};
+
+const ROWS: &[Row] = &[
+    COURSE,
+    PAGE,
+    Row {
+        plan: PLAN,
+        host: "",
+        far: "",
+        ended: Ok(()),
+    },
+    // an event that came in the last INs, all of them answered by NAK, is told before the next one is taken
+    Row {
+        host: "usbplan live 1\nport 1 set PORT_POWER\nport 2 set PORT_POWER\nwait\n\
+               port 1 set PORT_RESET\nSETUP 0.0 / DATA0 0005010000000000\nIN 0.0 8\n\
+               SETUP 1.0 / DATA0 0009010000000000\nIN 1.0 8\nIN 1.1 1\nIN 1.1 1\nIN 1.1 1\n\
+               wait\nwait\n",
+        far: "roots 2\nport 1 00010000\nok\nport 2 00010000\nok\nport 1 01010100\nok\n\
+              port 1 03011100\nok\nACK\nDATA1 -\nACK\nDATA1 -\nNAK\nport 2 01010100\nNAK\nNAK\nok\nend\n",
+        plan: HUB,
+        ended: Ok(()),
+    },
+    // and not where another question stands between
+    Row {
+        host: "usbplan live 1\nport 1 set PORT_POWER\nport 2 set PORT_POWER\nwait\n\
+               port 1 set PORT_RESET\nSETUP 0.0 / DATA0 0005010000000000\nIN 0.0 8\n\
+               SETUP 1.0 / DATA0 0009010000000000\nIN 1.0 8\nIN 1.1 1\nIN 1.1 1\nIN 7.0 1\n\
+               wait\n",
+        far: "roots 2\nport 1 00010000\nok\nport 2 00010000\nok\nport 1 01010100\nok\n\
+              port 1 03011100\nok\nACK\nDATA1 -\nACK\nDATA1 -\nNAK\nport 2 01010100\nNAK\nnone\nend\n",
+        plan: HUB,
+        ended: Ok(()),
+    },
+    Row {
+        plan: PLAN,
+        host: "wait\n",
+        far: "",
+        ended: Err((1, FarFault::NoQuestion)),
+    },
+    Row {
+        plan: PLAN,
+        host: "listing 1\n",
+        far: "",
+        ended: Err((1, FarFault::NoQuestion)),
+    },
+    Row {
+        plan: PLAN,
+        host: "usbplan live 1\nusbplan live 1\n",
+        far: "roots 2\n",
+        ended: Err((2, FarFault::NoQuestion)),
+    },
+    Row {
+        plan: PLAN,
+        host: "usbplan live 1\nwait \n",
+        far: "roots 2\n",
+        ended: Err((2, FarFault::NoQuestion)),
+    },
+    Row {
+        plan: PLAN,
+        host: "usbplan live 1\nwait\r\n",
+        far: "roots 2\n",
+        ended: Err((2, FarFault::BadCharacter)),
+    },
+    Row {
+        plan: PLAN,
+        host: "usbplan live 1\nport 3 set PORT_POWER\nwait\n",
+        far: "roots 2\n",
+        ended: Err((2, FarFault::BadNumber)),
+    },
+    Row {
+        plan: PLAN,
+        host: "usbplan live 1\nwait\nwait\nwait\nwait\nwait\nwait\nwait\nwait\n",
+        far: "roots 2\nok\nok\nok\nsend 1 0102\nreceive 2 3\nclear 2\nshow\n",
+        ended: Err((9, FarFault::LongSend)),
+    },
+    Row {
+        plan: PLAN,
+        host: "usbplan live 1\nIN 1.0 8\nIN 1.0 8\nIN 1.0 8\nIN 1.0 8\nIN 1.0 8\nIN 1.0 8\nIN 1.0 8\n\
+               IN 1.0 8\nIN 1.0 8\nwait\n",
+        far: "roots 2\nnone\nnone\nnone\nnone\nnone\nnone\nnone\nnone\n",
+        ended: Err((10, FarFault::Bus(BusFault::LimitReached))),
+    },
+];
+
+/// What is said to the host, and how that ended.
+#[derive(Drop)]
+struct Played {
+    far: Vec<u8>,
+    ended: Result<(), (u64, FarFault)>,
+}
+
+/// What is written to a writer that fails behind so many writes, of what a reader gives.
+fn play<R: Read + Drop>(
+    alloc: Global,
+    plan: &str,
+    reader: R,
+    writes: u64,
+) -> Result<Played, AllocError> {
+    let Ok(plan) = read_plan(alloc, plan) else {
+        return Err(AllocError);
+    };
+    let mut far = FarEnd::new(alloc, &plan, Watched::new(Vec::new(alloc)))?;
+    let mut reader = Watched::new(reader);
+    let mut writer = Watched::new(Frail {
+        taken: Vec::new(alloc),
+        writes_left: writes,
+    });
+    let ended = serve(&mut far, &mut reader, &mut writer);
+    Ok(Played {
+        far: writer.into_inner().taken,
+        ended,
+    })
+}
+
+/// A writer that fails behind so many writes.
+#[derive(Drop)]
+struct Frail {
+    taken: Vec<u8>,
+    writes_left: u64,
+}
+
+impl Write for Frail {
+    fn write(&mut self, buf: &[u8]) -> io::Result<usize> {
+        let Some(left) = self.writes_left.checked_sub(1) else {
+            return Err(Error::from(ErrorKind::Other));
+        };
+        self.writes_left = left;
+        self.taken.extend_from_slice(buf)?;
+        Ok(buf.len())
+    }
+
+    fn flush(&mut self) -> io::Result<()> {
+        Ok(())
+    }
+}
+
+/// A reader that fails behind a text.
+#[derive(Drop)]
+struct Torn(&'static [u8]);
+
+impl Read for Torn {
+    fn read(&mut self, buf: &mut [u8]) -> io::Result<usize> {
+        if self.0.is_empty() {
+            return Err(Error::from(ErrorKind::Other));
+        }
+        self.0.read(buf)
+    }
+}
+
+#[test]
+fn courses(rt: HostRuntime) -> Result<(), Fail> {
+    for row in ROWS {
+        let played = play(rt.alloc(), row.plan, row.host.as_bytes(), u64::MAX)?;
+        assert_eq!(rt; text_of(played.far.as_slice()), row.far, "{}", row.host);
+        assert_eq!(rt; played.ended, row.ended, "{}", row.host);
+    }
+    Ok(())
+}
+
+/// A told line may be longer than any other one.
+#[test]
+fn long_lines(rt: HostRuntime) -> Result<(), Fail> {
+    for (begin, ended) in [
+        ("listing 1\n", Ok(())),
+        ("receive 1 done ", Ok(())),
+        ("IN ", Err((2, FarFault::LineTooLong))),
+    ] {
+        let mut host = String::from_str(rt.alloc(), "usbplan live 1\n")?;
+        host.push_str(begin)?;
+        for _ in 0..2000u16 {
+            host.push('A')?;
+        }
+        host.push('\n')?;
+        let played = play(rt.alloc(), PLAN, host.as_bytes(), u64::MAX)?;
+        assert_eq!(rt; text_of(played.far.as_slice()), "roots 2\n", "{begin}");
+        assert_eq!(rt; played.ended, ended, "{begin}");
+    }
+    Ok(())
+}
+
+/// The input ends, or fails, behind each number of bytes: what has gone out are the replies to whole lines.
+#[test]
+fn cut(rt: HostRuntime) -> Result<(), Fail> {
+    let host = COURSE.host.as_bytes();
+    for count in 0..host.len() {
+        let front = &host[..count];
+        let line = newlines(front).saturating_add(1);
+        let in_line = front.last().is_some_and(|byte| *byte != b'\n');
+        let gone = if in_line {
+            Err((line, FarFault::HostGone))
+        } else {
+            Ok(())
+        };
+        let ended = play(rt.alloc(), PLAN, front, u64::MAX)?;
+        assert_eq!(rt; ended.ended, gone, "{count} bytes");
+        let failed = play(rt.alloc(), PLAN, Torn(front), u64::MAX)?;
+        assert_eq!(rt; failed.ended, Err((line, FarFault::Read)), "{count} bytes");
+        assert_eq!(rt;
+            failed.far.as_slice(),
+            ended.far.as_slice(),
+            "{count} bytes"
+        );
+        assert!(rt;
+            COURSE.far.as_bytes().starts_with(ended.far.as_slice()),
+            "{count} bytes"
+        );
+    }
+    Ok(())
+}
+
+/// Each write fails in turn: a front of the text has gone out.
+#[test]
+fn writes(rt: HostRuntime) -> Result<(), Fail> {
+    let whole = play(rt.alloc(), PLAN, COURSE.host.as_bytes(), u64::MAX)?;
+    assert_eq!(rt; whole.ended, Ok(()));
+    for writes in 0..15u64 {
+        let played = play(rt.alloc(), PLAN, COURSE.host.as_bytes(), writes)?;
+        let fault = played.ended.err().map(|(_, fault)| fault);
+        assert_eq!(rt; fault, Some(FarFault::Write), "{writes} writes");
+        assert!(rt;
+            whole.far.starts_with(played.far.as_slice()),
+            "{writes} writes"
+        );
+        assert!(rt; played.far.len() < whole.far.len(), "{writes} writes");
+    }
+    Ok(())
+}
+
+fn newlines(text: &[u8]) -> u64 {
+    text.iter().filter(|byte| **byte == b'\n').count() as u64
+}
+
+fn text_of(bytes: &[u8]) -> &str {
+    str::from_utf8(bytes).ok().unwrap_or("no text")
+}

@@ -1,0 +1,10 @@
+use Rattle.std.proofs.Common.{List, ℕ}
+use Rattle.usb_bus.specs.Watch.{inner_of}
+use Rattle.std.specs.Io.KnownBytes.{Consumes}
+use Rattle.usb_lines.specs.Lines.{IsUnbroken}
+use Rattle.usb_lines.proofs.line.skip_line.Given as goal
+
+-- what was read is the front of the rest
+abbrev pub invariant-bytes : goal.invariant-bytes
+invariant-bytes g l = (rest : List ℕ) × IsUnbroken rest
+    × Consumes (g.R.Read.remaining (inner_of l.fn.reader)) (g.R.Read.remaining (inner_of l.reader)) rest

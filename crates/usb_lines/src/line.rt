@@ -1,0 +1,124 @@
+//! Lines, in and out.
+ghost use Rattle.std.specs.Prelude.{◌≡◌, ◌≤◌, ◌∷◌, ◌++◌, [], length, true, MatchOption, MatchResult, IfErr, IsErrOf, OnErr, OnOk};
+ghost use Rattle.std.specs.Io.KnownBytes.{Appends, Consumes, IsAtEnd, Keeps};
+ghost use Rattle.usb_bus.specs.Watch.{AppendsFront, has_failed, inner_of};
+ghost use Rattle.usb_lines.specs.Lines.{EndsLine, IsNextLine, ReadsByte};
+
+use arrayvec::ArrayVec;
+use std::io::{Read, Write};
+use thiserror::Error;
+use usb_bus::{Watched, WriteFailed, put_piece};
+
+/// The most bytes of a line, without its newline.
+const LINE_LIMIT: usize = 1024;
+
+/// What comes next of a reader.
+#[derive(Drop)]
+pub enum Line {
+    /// A line of at most 1,024 bytes, without its newline.
+    Whole(ArrayVec<u8, LINE_LIMIT>),
+    /// The first 1,024 bytes of a longer one; one more was read.
+    Long(ArrayVec<u8, LINE_LIMIT>),
+    /// Nothing: the input ended.
+    Ended,
+}
+
+/// Why a line was not read.
+#[derive(Clone, Copy, Debug, PartialEq, Eq, Error)]
+pub enum LineFault {
+    /// The reader failed.
+    #[error("read failed")]
+    Read,
+    /// The input ended in mid-line.
+    #[error("input ended")]
+    Cut,
+}
+
+/// The next line of a reader. Nothing behind its newline is read.
+///
+/// # Errors
+/// Read where the reader failed, Cut where the input ended in mid-line.
+pub fn read_line<R: Read>(reader: &mut Watched<R>) -> Result<Line, LineFault>
+    ensures line { IsNextLine (R.remaining (inner_of reader.old)) (R.remaining (inner_of reader.new))
+        result }
+    ensures read { IsErrOf result LineFault.Read → has_failed reader.new ≡ true }
+{
+    let mut line = ArrayVec::new();
+    'bytes: loop {
+        match next_byte(reader) {
+            Err(fault) => return Err(fault),
+            Ok(None) => return at_end(&line),
+            Ok(Some(b'\n')) => return Ok(Line::Whole(line)),
+            Ok(Some(byte)) => {
+                if line.is_full() {
+                    return Ok(Line::Long(line));
+                }
+                line.push(byte);
+            }
+        }
+    }
+}
+
+/// Reads the rest of a line, with its newline.
+///
+/// # Errors
+/// Read where the reader failed, Cut where the input ended first, or 2 ^ 64 - 1 bytes had no newline.
+pub fn skip_line<R: Read>(reader: &mut Watched<R>) -> Result<(), LineFault>
+    ensures line { EndsLine (R.remaining (inner_of reader.old)) (R.remaining (inner_of reader.new))
+        result }
+    ensures read { IsErrOf result LineFault.Read → has_failed reader.new ≡ true }
+{
+    'bytes: for _ in 0..u64::MAX {
+        match next_byte(reader) {
+            Err(fault) => return Err(fault),
+            Ok(None) => return Err(LineFault::Cut),
+            Ok(Some(b'\n')) => return Ok(()),
+            Ok(Some(_)) => {}
+        }
+    }
+    Err(LineFault::Cut)
+}
+
+/// What the end of the input is, behind the front of a line.
+fn at_end(line: &ArrayVec<u8, LINE_LIMIT>) -> Result<Line, LineFault>
+    ensures ok { OnOk result (line.now.items ≡ []) }
+    ensures ended { MatchResult result (λ l. l ≡ Line.Ended) (λ fault. fault ≡ LineFault.Cut) }
+{
+    if line.is_empty() {
+        Ok(Line::Ended)
+    } else {
+        Err(LineFault::Cut)
+    }
+}
+
+/// The next byte of a reader, None where the input ended.
+fn next_byte<R: Read>(reader: &mut Watched<R>) -> Result<Option<u8>, LineFault>
+    ensures byte { ReadsByte (R.remaining (inner_of reader.old)) (R.remaining (inner_of reader.new))
+        result }
+    ensures fault { IfErr result (λ fault. fault ≡ LineFault.Read) }
+    ensures read { OnErr result (has_failed reader.new ≡ true) }
+{
+    let mut byte = [0u8];
+    match reader.read(&mut byte) {
+        Err(_) => Err(LineFault::Read),
+        Ok(0) => Ok(None),
+        Ok(_) => Ok(Some(byte[0])),
+    }
+}
+
+/// Writes lines with their newlines, and flushes.
+///
+/// # Errors
+/// The writer failed, and a front of them has gone out.
+pub fn put_lines<W: Write>(writer: &mut Watched<W>, lines: &[u8]) -> Result<(), WriteFailed>
+    ensures front { AppendsFront (W.contents (inner_of writer.old))
+        (W.contents (inner_of writer.new)) lines.now }
+    ensures ok { OnOk result (Appends (W.contents (inner_of writer.old))
+        (W.contents (inner_of writer.new)) lines.now) }
+{
+    put_piece(writer, lines)?;
+    match writer.flush() {
+        Ok(()) => Ok(()),
+        Err(_) => Err(WriteFailed),
+    }
+}

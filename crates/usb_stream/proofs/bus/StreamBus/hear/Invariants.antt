@@ -1,0 +1,13 @@
+use Rattle.std.proofs.Common.{◌≡◌}
+use Rattle.usb_bus.specs.Watch.{inner_of}
+use Rattle.usb_stream.specs.Stream.{kept_of}
+use Rattle.usb_stream.proofs.Hearing.{ToldSo}
+use Rattle.usb_stream.proofs.bus.StreamBus.hear.Given as goal
+
+-- the statuses so far are kept
+abbrev pub invariant-lines : goal.invariant-lines
+invariant-lines g l = record {
+  told : ToldSo l.asked l.fn.self.roots (g.R.Read.remaining (inner_of l.fn.self.reader)) (g.R.Read.remaining (inner_of l.self.reader)) l.fn.self.statuses l.self.statuses;
+  same : kept_of l.self ≡ record (kept_of l.fn.self) { statuses = l.self.statuses };
+  writer : l.self.writer ≡ l.fn.self.writer;
+}

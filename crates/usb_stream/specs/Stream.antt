@@ -1,0 +1,243 @@
+-- A bus behind a stream of lines: what a question reads and writes, and what is kept of that.
+use Rattle.std.specs.Prelude.{◌≡◌, ◌⊎◌, ℕ, ◌+◌, ◌-◌, ◌<◌, ◌≤◌, ◌&&◌, nat_le, nat_lt, Bool, true, false, if◌then◌else◌, List, [], ◌∷◌, ◌++◌, length, replicate, slice_index_or, slice_set, Option, Some, None, Result, Ok, Err}
+use Rattle.std.specs.Io.KnownBytes.{Appends, Consumes, IsAtEnd}
+use Rattle.arrayvec.specs.ArrayVec.{ArrayVec}
+use Rattle.usb_packet.specs.declared.Toggle.{Toggle}
+use Rattle.usb_request.specs.declared.setup.Setup.{Setup as SetupData}
+use Rattle.usb_packet.specs.declared.Toggle.TheVariants.{Zero, One}
+use Rattle.usb_packet.specs.declared.TokenKind.{TokenKind}
+use Rattle.usb_packet.specs.declared.TokenKind.TheVariants.{OutTok, InTok, SetupTok}
+use Rattle.usb_port.specs.declared.call.PortCall.{PortCall}
+use Rattle.usb_bus.specs.Watch.{AppendsFront}
+use Rattle.usb_lines.specs.Lines.{IsUnbroken}
+use Rattle.usb_wire.specs.Answers.{IsSaidLine, MaySay}
+use Rattle.usb_wire.specs.QuestionReading.{setup_by}
+use Rattle.usb_wire.specs.Questions.{kind_asked, question_line}
+use Rattle.usb_wire.specs.declared.answer.Answer.{Answer}
+use Rattle.usb_wire.specs.declared.answer.Answer.TheVariants as answer
+use Rattle.usb_wire.specs.declared.answer.Said.{Said}
+use Rattle.usb_wire.specs.declared.answer.Said.TheVariants.{Changed, Answered}
+use Rattle.usb_wire.specs.declared.question.Asked.{Asked}
+use Rattle.usb_wire.specs.declared.question.Asked.TheVariants as asked
+use Rattle.usb_wire.specs.declared.question.DataPacket.{DataPacket}
+use Rattle.usb_wire.specs.declared.question.Endpoint.{Endpoint}
+use Rattle.usb_wire.specs.declared.question.Question.{Question}
+use Rattle.usb_wire.specs.declared.question.Question.TheVariants.{Hello, Setup, Out, In, Port}
+use Rattle.usb_wire.specs.declared.question.Speed.{Speed}
+use Rattle.usb_wire.specs.declared.question.Speed.TheVariants.{Full, Low, LowBelowHub}
+use Rattle.usb_world.specs.declared.types.Attempt.{Attempt}
+use Rattle.usb_world.specs.declared.types.Outcome.{Outcome}
+use Rattle.usb_world.specs.declared.types.Outcome.TheVariants.{Payload, Ack, Nak, Stall, Nothing}
+use Rattle.usb_stream.specs.declared.bus.StreamBus.{StreamBus}
+use Rattle.usb_stream.specs.declared.fault.LiveFault.{LiveFault}
+use Rattle.usb_stream.specs.declared.fault.LiveFault.TheVariants.{LimitReached, Write}
+
+-- ---- attempts as questions
+
+abbrev pub speed_of : Bool → Bool → Speed
+speed_of true true = LowBelowHub
+speed_of false true = LowBelowHub
+speed_of true false = Low
+speed_of false false = Full
+
+abbrev pub setup_with : Speed → Endpoint → Option SetupData → Option Question
+setup_with speed e None = None
+setup_with speed e (Some setup) = Some (Setup speed e setup)
+
+abbrev pub setup_question : Speed → Endpoint → Option (Toggle × ArrayVec ℕ) → Option Question
+setup_question speed e None = None
+setup_question speed e (Some (Zero, bytes)) = setup_with speed e (setup_by Zero bytes.items)
+setup_question speed e (Some (One, bytes)) = None
+
+abbrev pub out_question : Speed → Endpoint → Option (Toggle × ArrayVec ℕ) → Option Question
+out_question speed e None = None
+out_question speed e (Some (toggle, bytes)) = Some (Out speed e (record { toggle = toggle; bytes = bytes }))
+
+abbrev pub question_by : TokenKind → Speed → Endpoint → ℕ → Option (Toggle × ArrayVec ℕ) → Option Question
+question_by SetupTok speed e most payload = setup_question speed e payload
+question_by OutTok speed e most payload = out_question speed e payload
+question_by InTok speed e most payload = Some (In speed e most)
+
+-- the question for an attempt, where there is a line for it
+abbrev pub question_for : Attempt → Option Question
+question_for a = question_by a.kind (speed_of a.low a.pre) (record { address = a.addr; number = a.ep }) a.max a.payload
+
+-- more data than the endpoint's maximum packet are none (8.7.4)
+abbrev pub data_for : ℕ → DataPacket → Outcome
+data_for most sent = if nat_lt most (length sent.bytes.items) then Nothing else Payload sent.toggle sent.bytes
+
+abbrev pub outcome_for : ℕ → Answer → Outcome
+outcome_for most (answer.Data sent) = data_for most sent
+outcome_for most answer.Ack = Ack
+outcome_for most answer.Nak = Nak
+outcome_for most answer.Stall = Stall
+outcome_for most answer.Nothing = Nothing
+outcome_for most (answer.Roots roots) = Nothing
+outcome_for most answer.Done = Nothing
+outcome_for most answer.Show = Nothing
+outcome_for most answer.End = Nothing
+outcome_for most (answer.Send path bytes) = Nothing
+outcome_for most (answer.Receive path packets) = Nothing
+outcome_for most (answer.Clear path) = Nothing
+
+-- ---- what is kept
+
+-- how many root ports there are, their statuses as they were told last, how many more questions may be asked, and why
+-- none is asked any more
+pub record Kept : Type 0 where
+  pub roots : ℕ
+  pub statuses : List (List ℕ)
+  pub left : ℕ
+  pub fault : Option LiveFault
+
+abbrev pub kept_of : {R W : Type 0} → StreamBus R W → Kept
+kept_of b = record { roots = b.roots; statuses = b.statuses; left = b.left; fault = b.fault }
+
+-- ---- what is read and written
+
+-- the bytes that the reader has left and those that the writer has, before and after, where they are known
+pub record Streams : Type 0 where
+  pub unread : Option (List ℕ)
+  pub left : Option (List ℕ)
+  pub before : Option (List ℕ)
+  pub now : Option (List ℕ)
+
+abbrev pub streams : Option (List ℕ) → Option (List ℕ) → Option (List ℕ) → Option (List ℕ) → Streams
+streams unread left before now = record { unread = unread; left = left; before = before; now = now }
+
+-- lines that tell statuses of root ports were read, each is kept
+pub data Told (a : Asked) (roots : ℕ) (old : List (List ℕ)) : List ℕ → List (List ℕ) → Type 0 where
+  none : Told a roots old [] old
+  next : {text : List ℕ} {mid : List (List ℕ)} (line : List ℕ) (number : ℕ) (status : List ℕ) → Told a roots old text mid → IsUnbroken line
+      → MaySay a roots (Changed number status) → IsSaidLine line (Changed number status)
+      → Told a roots old (text ++ (line ++ 10 ∷ [])) (slice_set mid (number - 1) status)
+
+-- a line was read that says this
+pub record SaidLine (a : Asked) (roots : ℕ) (unread left : Option (List ℕ)) (said : Said) : Type 0 where
+  pub line : List ℕ
+  pub unbroken : IsUnbroken line
+  pub may : MaySay a roots said
+  pub says : IsSaidLine line said
+  pub read : Consumes unread left (line ++ 10 ∷ [])
+
+-- the input has ended in place of what is wanted
+pub record SaidEnd (a : Asked) (unread left : Option (List ℕ)) (said : Said) : Type 0 where
+  pub wanted : a ≡ asked.Wait
+  pub is : said ≡ Answered answer.End
+  pub read : Consumes unread left []
+  pub ended : IsAtEnd left
+
+abbrev pub Says : Asked → ℕ → Option (List ℕ) → Option (List ℕ) → Said → Type 0
+Says a roots unread left said = SaidLine a roots unread left said ⊎ SaidEnd a unread left said
+
+-- statuses, and then the answer
+pub record Heard (a : Asked) (roots : ℕ) (unread left : Option (List ℕ)) (old : List (List ℕ)) (got : Answer) (new : List (List ℕ)) : Type 0 where
+  pub text : List ℕ
+  pub mid : Option (List ℕ)
+  pub told : Told a roots old text new
+  pub read : Consumes unread mid text
+  pub answered : Says a roots mid left (Answered got)
+
+-- some bytes were read
+abbrev pub ReadSome : Option (List ℕ) → Option (List ℕ) → Type 0
+ReadSome unread left = (text : List ℕ) × Consumes unread left text
+
+-- a question went out as one line, one question less is left, and its answer was heard
+pub record AskedWell (q : Question) (s : Streams) (old : Kept) (got : Answer) (new : Kept) : Type 0 where
+  pub written : Appends s.before s.now (question_line q ++ 10 ∷ [])
+  pub heard : Heard (kind_asked q) old.roots s.unread s.left old.statuses got new.statuses
+  pub one : new.left + 1 ≡ old.left
+  pub roots : new.roots ≡ old.roots
+  pub sound : new.fault ≡ None
+
+-- a fault is kept; at most one question went out, or a front of it, and one less is left; at the limit nothing did
+pub record AsksNoMore (q : Question) (s : Streams) (old : Kept) (f : LiveFault) (new : Kept) : Type 0 where
+  pub kept : new.fault ≡ Some f
+  pub written : AppendsFront s.before s.now (question_line q ++ 10 ∷ [])
+  pub read : ReadSome s.unread s.left
+  pub limit : f ≡ LimitReached → (old.left ≡ 0) × Consumes s.unread s.left [] × Appends s.before s.now []
+  pub fewer : new.left ≤ old.left
+  pub roots : new.roots ≡ old.roots
+
+abbrev pub AsksOnce : Question → Streams → Kept → Result Answer LiveFault → Kept → Type 0
+AsksOnce q s old (Ok got) new = AskedWell q s old got new
+AsksOnce q s old (Err f) new = AsksNoMore q s old f new
+
+-- the same of a bus that has not kept the fault yet
+abbrev pub FailsOnce : Question → Streams → Kept → Result Answer LiveFault → Kept → Type 0
+FailsOnce q s old (Ok got) new = AskedWell q s old got new
+FailsOnce q s old (Err f) new = AsksNoMore q s old f (record new { fault = Some f })
+
+-- nothing was asked
+pub record AsksNothing (s : Streams) (old new : Kept) : Type 0 where
+  pub same : new ≡ old
+  pub read : Consumes s.unread s.left []
+  pub written : Appends s.before s.now []
+
+-- an attempt was asked for, and this is what its answer gives
+pub record GivesAs (q : Question) (most : ℕ) (s : Streams) (old : Kept) (outcome : Outcome) (new : Kept) : Type 0 where
+  pub got : Answer
+  pub asked : AskedWell q s old got new
+  pub is : outcome ≡ outcome_for most got
+
+abbrev pub AttemptsBy : Option Question → ℕ → Streams → Kept → Result Outcome LiveFault → Kept → Type 0
+AttemptsBy (Some q) most s old (Ok outcome) new = GivesAs q most s old outcome new
+AttemptsBy (Some q) most s old (Err f) new = AsksNoMore q s old f new
+AttemptsBy None most s old result new = AsksNothing s old new × (result ≡ Ok Nothing)
+
+-- an attempt is one question, where there is a line for it
+abbrev pub Attempts : Attempt → Streams → Kept → Result Outcome LiveFault → Kept → Type 0
+Attempts a s old result new = AttemptsBy (question_for a) a.max s old result new
+
+-- a call at a root port that there is is one question
+pub record CallsPort (port : ℕ) (c : PortCall) (s : Streams) (old new : Kept) : Type 0 where
+  pub result : Result Answer LiveFault
+  pub asked : AsksOnce (Port port c) s old result new
+
+abbrev pub Calls : ℕ → Option PortCall → Streams → Kept → Kept → Type 0
+Calls port None s old new = AsksNothing s old new
+Calls port (Some c) s old new = (1 ≤ port → port ≤ old.roots → CallsPort port c s old new)
+    × (port ≡ 0 → AsksNothing s old new) × (old.roots < port → AsksNothing s old new)
+
+-- lines were told, or a front of them where the writer failed, and that is kept
+abbrev pub Tells : List ℕ → Option (List ℕ) → Option (List ℕ) → Kept → Result (Unit {0}) LiveFault → Kept → Type 0
+Tells lines before now old (Ok done) new = Appends before now lines × (new ≡ old)
+Tells lines before now old (Err f) new =
+    AppendsFront before now lines × (f ≡ Write) × (new ≡ record old { fault = Some Write })
+
+-- as it was told last, 0 where there is no such port
+abbrev pub status_at : Kept → ℕ → List ℕ
+status_at k port = if nat_lt 0 port && nat_le port 7 then slice_index_or k.statuses (port - 1) [] else 0 ∷ 0 ∷ 0 ∷ 0 ∷ []
+
+-- before the hello all statuses are 0
+abbrev pub unasked : ℕ → Kept
+unasked limit = record { roots = 1; statuses = replicate 7 (replicate 4 0); left = limit; fault = None }
+
+-- the answer to the hello is how many root ports there are, 1 to 7
+abbrev pub roots_if : ℕ → Kept → Kept
+roots_if roots k = if nat_lt roots 1 then k else if nat_lt 7 roots then k else record k { roots = roots }
+
+abbrev pub greeted_by : Answer → Kept → Kept
+greeted_by (answer.Roots roots) k = roots_if roots k
+greeted_by (answer.Data sent) k = k
+greeted_by answer.Ack k = k
+greeted_by answer.Nak k = k
+greeted_by answer.Stall k = k
+greeted_by answer.Nothing k = k
+greeted_by answer.Done k = k
+greeted_by answer.Show k = k
+greeted_by answer.End k = k
+greeted_by (answer.Send path bytes) k = k
+greeted_by (answer.Receive path packets) k = k
+greeted_by (answer.Clear path) k = k
+
+abbrev pub greeted : Result Answer LiveFault → Kept → Kept
+greeted (Ok got) k = greeted_by got k
+greeted (Err f) k = k
+
+-- the hello was asked
+pub record Opens (limit : ℕ) (s : Streams) (new : Kept) : Type 0 where
+  pub result : Result Answer LiveFault
+  pub mid : Kept
+  pub asked : AsksOnce Hello s (unasked limit) result mid
+  pub kept : new ≡ greeted result mid

@@ -1,0 +1,364 @@
+//! The bus behind a stream of lines.
+ghost use Rattle.std.specs.Prelude.{◌≡◌, ◌≢◌, ◌-◌, ◌≤◌, ◌∷◌, ◌++◌, [], slice_set, IfErr, IfOk, None, Ok, Err};
+ghost use Rattle.std.specs.Io.KnownBytes.{Appends};
+ghost use Rattle.usb_bus.specs.Watch.{AppendsFront, inner_of};
+ghost use Rattle.usb_port.specs.Calls.{clear_call, set_call};
+ghost use Rattle.usb_world.specs.World.{FitsMaximum, IsAttempt};
+ghost use Rattle.usb_wire.specs.Questions.{IsQuestion, kind_asked, question_line};
+ghost use Rattle.usb_wire.specs.declared.question.Question.TheVariants as question;
+
+use crate::asked::{outcome_for, question_for};
+use crate::fault::LiveFault;
+use arrayvec::ArrayVec;
+use std::io::{Read, Write};
+use usb_bus::{Attempt, Outcome, Watched};
+use usb_lines::{Line, LineFault, put_lines, read_line};
+use usb_port::PortCall;
+use usb_wire::{Answer, Asked, Question, Said, WireFault, question_line, read_said};
+
+/// The most root ports.
+const ROOTS: u8 = 7;
+
+/// A bus whose far end is behind a reader and a writer of lines.
+///
+/// A fault is kept: behind it nothing is read or written, and each later call tells the same fault.
+#[derive(Drop)]
+pub struct StreamBus<R, W> {
+    reader: Watched<R>,
+    writer: Watched<W>,
+    /// How many root ports there are.
+    roots: u8,
+    /// wPortStatus and wPortChange of each root port as they were told last, port 1 first (11.24.2.7).
+    statuses: [[u8; 4]; 7],
+    /// How many more questions may be asked.
+    left: u64,
+    /// How many lines were read, up to the greatest `u64`.
+    lines: u64,
+    fault: Option<LiveFault>,
+    ghost some_root: { 1 ≤ roots },
+    ghost few_roots: { roots ≤ 7 },
+}
+
+impl<R: Drop, W> StreamBus<R, W> {
+    /// Gives the writer back.
+    pub fn into_writer(self) -> Watched<W>
+        ensures { result ≡ self.writer }
+    {
+        let StreamBus { writer, .. } = self;
+        writer
+    }
+}
+
+impl<R: Read, W: Write> StreamBus<R, W> {
+    ghost use Rattle.usb_stream.specs.Stream.{AsksOnce, Attempts, Calls, FailsOnce, Heard, Opens, ReadSome, Says, Tells, greeted, kept_of, status_at, streams};
+    ghost use Rattle.usb_stream.specs.declared.fault.LiveFault.{LiveFault as AFault};
+
+    /// Says the hello to a far end, which tells how many root ports there are; at most so many questions are asked in
+    /// all. At the hello all statuses are 0.
+    ///
+    /// The bus is made whatever is answered: it may have a fault from the first.
+    pub fn open(reader: Watched<R>, writer: Watched<W>, limit: u64) -> Self
+        ensures { Opens limit (streams (R.remaining (inner_of reader))
+            (R.remaining (inner_of result.reader)) (W.contents (inner_of writer))
+            (W.contents (inner_of result.writer))) (kept_of result) }
+    {
+        let mut bus = StreamBus {
+            reader,
+            writer,
+            roots: 1,
+            statuses: [[0; 4]; 7],
+            left: limit,
+            lines: 0,
+            fault: None,
+        };
+        let answer = bus.ask(&Question::Hello);
+        bus.greet(answer);
+        bus
+    }
+
+    /// Keeps how many root ports there are, by the answer to the hello.
+    fn greet(&mut self, answer: Result<Answer, LiveFault>)
+        ensures kept { kept_of self.new ≡ greeted answer (kept_of self.old) }
+        ensures reader { self.new.reader ≡ self.old.reader }
+        ensures writer { self.new.writer ≡ self.old.writer }
+    {
+        match answer {
+            Ok(Answer::Roots(roots)) => {
+                if roots < 1 || roots > ROOTS {
+                    return;
+                }
+                self.roots = roots;
+            }
+            Ok(_) => {}
+            Err(_) => {}
+        }
+    }
+
+    /// Why the bus asks no more, if it does not.
+    pub fn fault(&self) -> Option<LiveFault>
+        ensures { result ≡ (kept_of self.now).fault }
+    {
+        self.fault
+    }
+
+    /// How many lines were read.
+    pub fn lines(&self) -> u64 {
+        self.lines
+    }
+
+    /// Makes one attempt. Setup data that are not 8 bytes in DATA0 have no line, and no answer comes.
+    ///
+    /// # Errors
+    /// The fault that was told before, or told now.
+    pub fn attempt(&mut self, attempt: &Attempt) -> Result<Outcome, LiveFault>
+        requires { IsAttempt attempt.now }
+        ensures again { (f : AFault) → (kept_of self.old).fault ≡ Some f
+            → (result ≡ Err f) × (self.new ≡ self.old) }
+        ensures asks { (kept_of self.old).fault ≡ None → Attempts attempt.now
+            (streams (R.remaining (inner_of self.old.reader))
+            (R.remaining (inner_of self.new.reader)) (W.contents (inner_of self.old.writer))
+            (W.contents (inner_of self.new.writer)))
+            (kept_of self.old) result (kept_of self.new) }
+        ensures fits { IfOk result (FitsMaximum attempt.now.max) }
+    {
+        let Some(question) = question_for(attempt) else {
+            return self.unasked();
+        };
+        let answer = self.ask(&question)?;
+        Ok(outcome_for(attempt.max, answer))
+    }
+
+    /// The number of root ports, 1 to 7.
+    pub fn root_ports(&self) -> u8
+        ensures roots { result ≡ (kept_of self.now).roots }
+        ensures least { 1 ≤ result }
+        ensures most { result ≤ 7 }
+    {
+        self.roots
+    }
+
+    /// The status of a root port as it was told last, 0 where there is no such port (11.24.2.7).
+    pub fn root_status(&self, port: u8) -> [u8; 4]
+        ensures { result ≡ status_at (kept_of self.now) port }
+    {
+        if port < 1 || port > ROOTS {
+            return [0; 4];
+        }
+        self.statuses[usize::from(port) - 1]
+    }
+
+    /// Sets a feature of a root port (11.24.2.13). A fault is told by the next question.
+    pub fn root_set(&mut self, port: u8, feature: u16)
+        ensures again { (kept_of self.old).fault ≢ None → self.new ≡ self.old }
+        ensures asks { (kept_of self.old).fault ≡ None → Calls port (set_call feature)
+            (streams (R.remaining (inner_of self.old.reader))
+            (R.remaining (inner_of self.new.reader)) (W.contents (inner_of self.old.writer))
+            (W.contents (inner_of self.new.writer)))
+            (kept_of self.old) (kept_of self.new) }
+    {
+        if let Some(call) = PortCall::of_set(feature) {
+            self.call(port, call);
+        }
+    }
+
+    /// Clears a feature of a root port (11.24.2.2). A fault is told by the next question.
+    pub fn root_clear(&mut self, port: u8, feature: u16)
+        ensures again { (kept_of self.old).fault ≢ None → self.new ≡ self.old }
+        ensures asks { (kept_of self.old).fault ≡ None → Calls port (clear_call feature)
+            (streams (R.remaining (inner_of self.old.reader))
+            (R.remaining (inner_of self.new.reader)) (W.contents (inner_of self.old.writer))
+            (W.contents (inner_of self.new.writer)))
+            (kept_of self.old) (kept_of self.new) }
+    {
+        if let Some(call) = PortCall::of_clear(feature) {
+            self.call(port, call);
+        }
+    }
+
+    /// Asks what is wanted.
+    ///
+    /// # Errors
+    /// The fault that was told before, or told now.
+    pub fn wait(&mut self) -> Result<Answer, LiveFault>
+        ensures again { (f : AFault) → (kept_of self.old).fault ≡ Some f
+            → (result ≡ Err f) × (self.new ≡ self.old) }
+        ensures asks { (kept_of self.old).fault ≡ None → AsksOnce question.Wait
+            (streams (R.remaining (inner_of self.old.reader))
+            (R.remaining (inner_of self.new.reader)) (W.contents (inner_of self.old.writer))
+            (W.contents (inner_of self.new.writer)))
+            (kept_of self.old) result (kept_of self.new) }
+    {
+        self.ask(&Question::Wait)
+    }
+
+    /// Tells lines, each with its newline.
+    ///
+    /// # Errors
+    /// The fault that was told before, or Write where the writer failed.
+    pub fn tell(&mut self, lines: &[u8]) -> Result<(), LiveFault>
+        ensures again { (f : AFault) → (kept_of self.old).fault ≡ Some f
+            → (result ≡ Err f) × (self.new ≡ self.old) }
+        ensures told { (kept_of self.old).fault ≡ None → Tells lines.now
+            (W.contents (inner_of self.old.writer)) (W.contents (inner_of self.new.writer))
+            (kept_of self.old) result (kept_of self.new) }
+        ensures reader { self.new.reader ≡ self.old.reader }
+    {
+        if let Some(fault) = self.fault {
+            return Err(fault);
+        }
+        match put_lines(&mut self.writer, lines) {
+            Ok(()) => Ok(()),
+            Err(_) => {
+                self.fault = Some(LiveFault::Write);
+                Err(LiveFault::Write)
+            }
+        }
+    }
+
+    /// An attempt that no line asks for.
+    fn unasked(&self) -> Result<Outcome, LiveFault>
+        ensures again { (f : AFault) → (kept_of self.now).fault ≡ Some f → result ≡ Err f }
+        ensures none { (kept_of self.now).fault ≡ None → result ≡ Ok Outcome.Nothing }
+    {
+        match self.fault {
+            Some(fault) => Err(fault),
+            None => Ok(Outcome::Nothing),
+        }
+    }
+
+    /// Makes a call at a root port, where there is one of that number.
+    fn call(&mut self, port: u8, call: PortCall)
+        ensures again { (kept_of self.old).fault ≢ None → self.new ≡ self.old }
+        ensures asks { (kept_of self.old).fault ≡ None → Calls port (Some call)
+            (streams (R.remaining (inner_of self.old.reader))
+            (R.remaining (inner_of self.new.reader)) (W.contents (inner_of self.old.writer))
+            (W.contents (inner_of self.new.writer)))
+            (kept_of self.old) (kept_of self.new) }
+    {
+        if port < 1 || port > self.roots {
+            return;
+        }
+        let _kept = self.ask(&Question::Port { number: port, call });
+    }
+
+    /// Asks a question, and hears its answer. A fault is kept.
+    fn ask(&mut self, question: &Question) -> Result<Answer, LiveFault>
+        requires { IsQuestion question.now }
+        ensures again { (f : AFault) → (kept_of self.old).fault ≡ Some f
+            → (result ≡ Err f) × (self.new ≡ self.old) }
+        ensures asks { (kept_of self.old).fault ≡ None → AsksOnce question.now
+            (streams (R.remaining (inner_of self.old.reader))
+            (R.remaining (inner_of self.new.reader)) (W.contents (inner_of self.old.writer))
+            (W.contents (inner_of self.new.writer)))
+            (kept_of self.old) result (kept_of self.new) }
+    {
+        if let Some(fault) = self.fault {
+            return Err(fault);
+        }
+        match self.exchange(question) {
+            Ok(answer) => Ok(answer),
+            Err(fault) => {
+                self.fault = Some(fault);
+                Err(fault)
+            }
+        }
+    }
+
+    /// Writes a question, and reads up to its answer.
+    fn exchange(&mut self, question: &Question) -> Result<Answer, LiveFault>
+        requires asks { IsQuestion question.now }
+        requires sound { (kept_of self.old).fault ≡ None }
+        ensures { FailsOnce question.now
+            (streams (R.remaining (inner_of self.old.reader))
+            (R.remaining (inner_of self.new.reader)) (W.contents (inner_of self.old.writer))
+            (W.contents (inner_of self.new.writer)))
+            (kept_of self.old) result (kept_of self.new) }
+    {
+        if self.left == 0 {
+            return Err(LiveFault::LimitReached);
+        }
+        self.left -= 1;
+        let line = line_for(question);
+        match put_lines(&mut self.writer, line.as_slice()) {
+            Ok(()) => self.hear(question.asked()),
+            Err(_) => Err(LiveFault::Write),
+        }
+    }
+
+    /// Reads up to an answer; each status before it is kept.
+    fn hear(&mut self, asked: Asked) -> Result<Answer, LiveFault>
+        ensures ok { IfOk result (λ got. Heard asked self.old.roots
+            (R.remaining (inner_of self.old.reader)) (R.remaining (inner_of self.new.reader))
+            self.old.statuses got self.new.statuses) }
+        ensures err { IfErr result (λ f. (f ≢ LiveFault.LimitReached) × ReadSome
+            (R.remaining (inner_of self.old.reader)) (R.remaining (inner_of self.new.reader))) }
+        ensures same { kept_of self.new
+            ≡ record (kept_of self.old) { statuses = self.new.statuses } }
+        ensures writer { self.new.writer ≡ self.old.writer }
+    {
+        'lines: for _ in 0..65u8 {
+            match self.next_said(asked) {
+                Ok(Said::Changed { number, status }) => {
+                    keep(&mut self.statuses, number, status);
+                }
+                Ok(Said::Answered(answer)) => return Ok(answer),
+                Err(fault) => return Err(fault),
+            }
+        }
+        Err(LiveFault::TooManyPushes)
+    }
+
+    /// What the next line says. The end of the input is the end, in place of what is wanted.
+    fn next_said(&mut self, asked: Asked) -> Result<Said, LiveFault>
+        ensures ok { IfOk result (Says asked self.old.roots (R.remaining (inner_of self.old.reader))
+            (R.remaining (inner_of self.new.reader))) }
+        ensures err { IfErr result (λ f. (f ≢ LiveFault.LimitReached) × ReadSome
+            (R.remaining (inner_of self.old.reader)) (R.remaining (inner_of self.new.reader))) }
+        ensures same { kept_of self.new ≡ kept_of self.old }
+        ensures writer { self.new.writer ≡ self.old.writer }
+    {
+        self.lines = self.lines.saturating_add(1);
+        match read_line(&mut self.reader) {
+            Ok(Line::Whole(line)) => match read_said(asked, self.roots, line.as_slice()) {
+                Ok(said) => Ok(said),
+                Err(fault) => Err(LiveFault::Line(fault)),
+            },
+            Ok(Line::Long(_)) => Err(LiveFault::Line(WireFault::LineTooLong)),
+            Ok(Line::Ended) => at_end(asked),
+            Err(LineFault::Read) => Err(LiveFault::Read),
+            Err(LineFault::Cut) => Err(LiveFault::Gone),
+        }
+    }
+}
+
+/// Keeps the status of a root port.
+fn keep(statuses: &mut [[u8; 4]; 7], number: u8, status: [u8; 4])
+    requires least { 1 ≤ number }
+    requires most { number ≤ 7 }
+    ensures { statuses.new ≡ slice_set statuses.old (number - 1) status }
+{
+    statuses[usize::from(number) - 1] = status;
+}
+
+/// What the end of the input says.
+fn at_end(asked: Asked) -> Result<Said, LiveFault>
+    ensures ok { IfOk result (λ said. (asked ≡ Asked.Wait) × (said ≡ Said.Answered Answer.End)) }
+    ensures err { IfErr result (λ f. f ≡ LiveFault.Gone) }
+{
+    match asked {
+        Asked::Wait => Ok(Said::Answered(Answer::End)),
+        Asked::Hello | Asked::Attempt | Asked::Port => Err(LiveFault::Gone),
+    }
+}
+
+/// The line of a question, with its newline.
+fn line_for(question: &Question) -> ArrayVec<u8, 701>
+    ensures { result.items ≡ question_line question.now ++ 10 ∷ [] }
+{
+    let text = question_line(question);
+    let mut line = ArrayVec::new();
+    line.try_extend_from_slice(text.as_str().as_bytes())
+        .unwrap();
+    line.push(b'\n');
+    line
+}

@@ -1,0 +1,26 @@
+//! Why a bus asks no more.
+use thiserror::Error;
+use usb_wire::WireFault;
+
+/// Why a bus asks no more.
+#[derive(Clone, Copy, Debug, PartialEq, Eq, Error)]
+pub enum LiveFault {
+    /// The reader failed.
+    #[error("read failed")]
+    Read,
+    /// A line says nothing.
+    #[error("{0}")]
+    Line(WireFault),
+    /// More than 64 statuses of root ports came before an answer.
+    #[error("too many port lines")]
+    TooManyPushes,
+    /// The input ended, but not in place of what is wanted.
+    #[error("far end gone")]
+    Gone,
+    /// The writer failed.
+    #[error("write failed")]
+    Write,
+    /// As many questions were asked as the limit allows.
+    #[error("limit reached")]
+    LimitReached,
+}

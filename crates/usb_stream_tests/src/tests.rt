@@ -1,0 +1,342 @@
+//! A test is a loop over rows: what a far end says, and what the bus before it asks and gives.
+use arrayvec::ArrayVec;
+use std::alloc::{AllocError, Global};
+use std::io;
+use std::io::{Error, ErrorKind, Read, Write};
+use std::test::Fail;
+use usb_bus::{Attempt, Outcome, Watched};
+use usb_packet::{Toggle, TokenKind};
+use usb_request::feature::{C_PORT_CONNECTION, PORT_RESET};
+use usb_stream::{LiveFault, StreamBus};
+use usb_wire::{Answer, DataPacket, Said, WireFault, said_line};
+
+/// All that the bus of these tests says.
+const HOST: &str = "usbplan live 1\n\
+                    SETUP 0.0 / DATA0 8006000100000800\n\
+                    PRE IN 5.1 8\n\
+                    low IN 0.0 1\n\
+                    OUT 1.2 / DATA1 0102\n\
+                    port 1 set PORT_RESET\n\
+                    port 2 clear C_PORT_CONNECTION\n\
+                    wait\n\
+                    listing 1\nend\n";
+
+/// What a far end may say to it, and what is given of that.
+const FAR: &str = "roots 2\n\
+                   port 1 01010100\nport 2 00010000\nport 1 01010000\nACK\n\
+                   DATA1 1122\n\
+                   DATA0 1122\n\
+                   NAK\n\
+                   port 1 03011000\nok\n\
+                   ok\n\
+                   send 1.2 FF\n";
+
+const GIVEN: &str =
+    "roots 2; ACK; DATA1 1122; none; NAK; none; port 1 03011000; port 2 00010000; send 1.2 FF; told; ";
+
+/// What a far end says, how many questions may be asked, how many lines of the host go out, and why no more do.
+#[derive(Clone, Copy)]
+struct Row {
+    far: &'static str,
+    limit: u64,
+    lines: usize,
+    fault: Option<LiveFault>,
+}
+
+const FAULTS: &[Row] = &[
+    Row {
+        far: FAR,
+        limit: 8,
+        lines: 10,
+        fault: None,
+    },
+    Row {
+        far: FAR,
+        limit: 7,
+        lines: 7,
+        fault: Some(LiveFault::LimitReached),
+    },
+    Row {
+        far: FAR,
+        limit: 0,
+        lines: 0,
+        fault: Some(LiveFault::LimitReached),
+    },
+    Row {
+        far: "",
+        limit: 9,
+        lines: 1,
+        fault: Some(LiveFault::Gone),
+    },
+    Row {
+        far: "roots 2",
+        limit: 9,
+        lines: 1,
+        fault: Some(LiveFault::Gone),
+    },
+    Row {
+        far: "roots 8\n",
+        limit: 9,
+        lines: 1,
+        fault: Some(LiveFault::Line(WireFault::BadNumber)),
+    },
+    // statuses come behind the hello alone
+    Row {
+        far: "port 1 00000000\nroots 2\n",
+        limit: 9,
+        lines: 1,
+        fault: Some(LiveFault::Line(WireFault::NoAnswer)),
+    },
+    Row {
+        far: "roots 2\nport 3 00000000\nACK\n",
+        limit: 9,
+        lines: 2,
+        fault: Some(LiveFault::Line(WireFault::BadNumber)),
+    },
+    Row {
+        far: "roots 2\nok\n",
+        limit: 9,
+        lines: 2,
+        fault: Some(LiveFault::Line(WireFault::NoAnswer)),
+    },
+    Row {
+        far: "roots 2\nDATA1 1\n",
+        limit: 9,
+        lines: 2,
+        fault: Some(LiveFault::Line(WireFault::BadHex)),
+    },
+    Row {
+        far: "roots 2\nACK\r\n",
+        limit: 9,
+        lines: 2,
+        fault: Some(LiveFault::Line(WireFault::BadCharacter)),
+    },
+    // the end is what is wanted where the input ends in its place
+    Row {
+        far: "roots 2\nACK\nNAK\nSTALL\nnone\nok\nok\n",
+        limit: 9,
+        lines: 10,
+        fault: None,
+    },
+];
+
+/// What was asked of a far end, what it gave, and why no more was asked.
+#[derive(Drop)]
+struct Played {
+    host: Vec<u8>,
+    given: String,
+    fault: Option<LiveFault>,
+}
+
+/// An attempt at an endpoint, with what it sends.
+fn attempt(
+    kind: TokenKind,
+    (addr, ep): (u8, u8),
+    (low, pre): (bool, bool),
+    max: u8,
+    sent: Option<(Toggle, &[u8])>,
+) -> Attempt {
+    let payload = match sent {
+        Some((toggle, sent)) => {
+            let mut bytes = ArrayVec::new();
+            let _ = bytes.try_extend_from_slice(sent);
+            Some((toggle, bytes))
+        }
+        None => None,
+    };
+    Attempt {
+        kind,
+        addr,
+        ep,
+        low,
+        pre,
+        max,
+        payload,
+    }
+}
+
+/// The attempts of these tests; no line asks for the last one, whose setup data are one byte.
+fn attempts() -> [Attempt; 5] {
+    let setup = [0x80, 6, 0, 1, 0, 0, 8, 0];
+    let (full, low, pre) = ((false, false), (true, false), (true, true));
+    let (setup_tok, in_tok) = (TokenKind::SetupTok, TokenKind::InTok);
+    [
+        attempt(setup_tok, (0, 0), full, 8, Some((Toggle::Zero, &setup))),
+        attempt(in_tok, (5, 1), pre, 8, None),
+        attempt(in_tok, (0, 0), low, 1, None),
+        attempt(
+            TokenKind::OutTok,
+            (1, 2),
+            full,
+            64,
+            Some((Toggle::One, &[1, 2])),
+        ),
+        attempt(setup_tok, (0, 0), full, 8, Some((Toggle::Zero, &[1]))),
+    ]
+}
+
+/// What the host got, as a far end says it.
+fn push_outcome(given: &mut String, outcome: Outcome) -> Result<(), AllocError> {
+    let answer = match outcome {
+        Outcome::Payload(toggle, bytes) => Answer::Data(DataPacket { toggle, bytes }),
+        Outcome::Ack => Answer::Ack,
+        Outcome::Nak => Answer::Nak,
+        Outcome::Stall => Answer::Stall,
+        Outcome::Nothing => Answer::Nothing,
+    };
+    push_said(given, &Said::Answered(answer))
+}
+
+fn push_said(given: &mut String, said: &Said) -> Result<(), AllocError> {
+    given.push_str(said_line(said).as_str())?;
+    given.push_str("; ")
+}
+
+/// All that a bus is asked over a reader, whose writer fails behind so many writes.
+fn play<R: Read + Drop>(
+    alloc: Global,
+    reader: R,
+    writes: u64,
+    limit: u64,
+) -> Result<Played, AllocError> {
+    let writer = Frail {
+        taken: Vec::new(alloc),
+        writes_left: writes,
+    };
+    let mut given = String::new(alloc);
+    let mut bus = StreamBus::open(Watched::new(reader), Watched::new(writer), limit);
+    push_said(&mut given, &Said::Answered(Answer::Roots(bus.root_ports())))?;
+    for attempt in &attempts() {
+        if let Ok(outcome) = bus.attempt(attempt) {
+            push_outcome(&mut given, outcome)?;
+        }
+    }
+    bus.root_set(1, PORT_RESET);
+    bus.root_set(3, PORT_RESET);
+    bus.root_clear(2, C_PORT_CONNECTION);
+    for number in [1, 2] {
+        let status = bus.root_status(number);
+        push_said(&mut given, &Said::Changed { number, status })?;
+    }
+    if let Ok(answer) = bus.wait() {
+        push_said(&mut given, &Said::Answered(answer))?;
+    }
+    if bus.tell(b"listing 1\nend\n").is_ok() {
+        given.push_str("told; ")?;
+    }
+    let fault = bus.fault();
+    Ok(Played {
+        host: bus.into_writer().into_inner().taken,
+        given,
+        fault,
+    })
+}
+
+/// A writer that fails behind so many writes.
+#[derive(Drop)]
+struct Frail {
+    taken: Vec<u8>,
+    writes_left: u64,
+}
+
+impl Write for Frail {
+    fn write(&mut self, buf: &[u8]) -> io::Result<usize> {
+        let Some(left) = self.writes_left.checked_sub(1) else {
+            return Err(Error::from(ErrorKind::Other));
+        };
+        self.writes_left = left;
+        self.taken.extend_from_slice(buf)?;
+        Ok(buf.len())
+    }
+
+    fn flush(&mut self) -> io::Result<()> {
+        Ok(())
+    }
+}
+
+/// A reader that fails behind a text.
+#[derive(Drop)]
+struct Torn(&'static [u8]);
+
+impl Read for Torn {
+    fn read(&mut self, buf: &mut [u8]) -> io::Result<usize> {
+        if self.0.is_empty() {
+            return Err(Error::from(ErrorKind::Other));
+        }
+        self.0.read(buf)
+    }
+}
+
+fn newlines(text: &[u8]) -> usize {
+    text.iter().filter(|byte| **byte == b'\n').count()
+}
+
+#[test]
+fn courses(rt: HostRuntime) -> Result<(), Fail> {
+    let whole = play(rt.alloc(), FAR.as_bytes(), u64::MAX, 9)?;
+    assert_eq!(rt; str::from_utf8(whole.host.as_slice()).ok(), Some(HOST));
+    assert_eq!(rt; whole.given.as_str(), GIVEN);
+    for row in FAULTS {
+        let played = play(rt.alloc(), row.far.as_bytes(), u64::MAX, row.limit)?;
+        assert_eq!(rt; played.fault, row.fault, "{}", row.far);
+        assert_eq!(rt; newlines(played.host.as_slice()), row.lines, "{}", row.far);
+    }
+    Ok(())
+}
+
+/// The input ends, or fails, behind each number of bytes: nothing more is asked.
+#[test]
+fn cut(rt: HostRuntime) -> Result<(), Fail> {
+    for count in 0..FAR.len() {
+        let front = &FAR.as_bytes()[..count];
+        let ended = play(rt.alloc(), front, u64::MAX, 9)?;
+        let failed = play(rt.alloc(), Torn(front), u64::MAX, 9)?;
+        // in place of what is wanted the end of the input is the end
+        let is_end = front.ends_with(b"ok\nok\n");
+        let gone = if is_end { None } else { Some(LiveFault::Gone) };
+        assert_eq!(rt; ended.fault, gone, "{count} bytes");
+        assert_eq!(rt; failed.fault, Some(LiveFault::Read), "{count} bytes");
+        assert!(rt;
+            HOST.as_bytes().starts_with(failed.host.as_slice()),
+            "{count} bytes"
+        );
+        assert!(rt;
+            is_end || ended.host.len() == failed.host.len(),
+            "{count} bytes"
+        );
+    }
+    Ok(())
+}
+
+/// Each write fails in turn: no more than the questions before it has gone out.
+#[test]
+fn writes(rt: HostRuntime) -> Result<(), Fail> {
+    for writes in 0..9usize {
+        let played = play(rt.alloc(), FAR.as_bytes(), writes as u64, 9)?;
+        assert_eq!(rt; played.fault, Some(LiveFault::Write), "{writes} writes");
+        assert_eq!(rt; newlines(played.host.as_slice()), writes, "{writes} writes");
+        assert!(rt;
+            HOST.as_bytes().starts_with(played.host.as_slice()),
+            "{writes} writes"
+        );
+    }
+    Ok(())
+}
+
+/// No more than 64 statuses stand before an answer.
+#[test]
+fn many_pushes(rt: HostRuntime) -> Result<(), Fail> {
+    for (count, fault) in [
+        (64u8, Some(LiveFault::Gone)),
+        (65, Some(LiveFault::TooManyPushes)),
+    ] {
+        let mut far = String::from_str(rt.alloc(), "roots 1\n")?;
+        for _ in 0..count {
+            far.push_str("port 1 00000000\n")?;
+        }
+        far.push_str("ACK\n")?;
+        let played = play(rt.alloc(), far.as_bytes(), u64::MAX, 9)?;
+        assert_eq!(rt; played.fault, fault, "{count} statuses");
+    }
+    Ok(())
+}
