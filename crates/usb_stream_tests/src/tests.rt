@@ -1,4 +1,6 @@
 //! A test is a loop over rows: what a far end says, and what the bus before it asks and gives.
+ghost use Rattle.usb_world.specs.World.{IsAttempt};
+
 use arrayvec::ArrayVec;
 use std::alloc::{AllocError, Global};
 use std::io;
@@ -128,51 +130,70 @@ struct Played {
     fault: Option<LiveFault>,
 }
 
-/// An attempt at an endpoint, with what it sends.
-fn attempt(
-    kind: TokenKind,
-    (addr, ep): (u8, u8),
-    (low, pre): (bool, bool),
-    max: u8,
-    sent: Option<(Toggle, &[u8])>,
-) -> Attempt {
-    let payload = match sent {
-        Some((toggle, sent)) => {
-            let mut bytes = ArrayVec::new();
-            let _ = bytes.try_extend_from_slice(sent);
-            Some((toggle, bytes))
-        }
-        None => None,
-    };
+/// What the host sends in an attempt.
+fn data(toggle: Toggle, sent: &[u8]) -> (Toggle, ArrayVec<u8, 64>) {
+    let mut bytes = ArrayVec::new();
+    let _ = bytes.try_extend_from_slice(sent);
+    (toggle, bytes)
+}
+
+/// SETUP of a full-speed device at address 0, with its setup data.
+fn setup(bytes: &[u8]) -> Attempt
+    ensures { IsAttempt result }
+{
     Attempt {
-        kind,
-        addr,
-        ep,
-        low,
-        pre,
-        max,
-        payload,
+        kind: TokenKind::SetupTok,
+        addr: 0,
+        ep: 0,
+        low: false,
+        pre: false,
+        max: 8,
+        payload: Some(data(Toggle::Zero, bytes)),
     }
 }
 
-/// The attempts of these tests; no line asks for the last one, whose setup data are one byte.
-fn attempts() -> [Attempt; 5] {
-    let setup = [0x80, 6, 0, 1, 0, 0, 8, 0];
-    let (full, low, pre) = ((false, false), (true, false), (true, true));
-    let (setup_tok, in_tok) = (TokenKind::SetupTok, TokenKind::InTok);
-    [
-        attempt(setup_tok, (0, 0), full, 8, Some((Toggle::Zero, &setup))),
-        attempt(in_tok, (5, 1), pre, 8, None),
-        attempt(in_tok, (0, 0), low, 1, None),
-        attempt(
-            TokenKind::OutTok,
-            (1, 2),
-            full,
-            64,
-            Some((Toggle::One, &[1, 2])),
-        ),
-        attempt(setup_tok, (0, 0), full, 8, Some((Toggle::Zero, &[1]))),
-    ]
+/// IN at low speed: of endpoint 1 below a hub, else of endpoint 0 at a root port.
+fn take(is_below: bool) -> Attempt
+    ensures { IsAttempt result }
+{
+    Attempt {
+        kind: TokenKind::InTok,
+        addr: if is_below { 5 } else { 0 },
+        ep: if is_below { 1 } else { 0 },
+        low: true,
+        pre: is_below,
+        max: if is_below { 8 } else { 1 },
+        payload: None,
+    }
+}
+
+/// OUT with two bytes.
+fn out() -> Attempt
+    ensures { IsAttempt result }
+{
+    Attempt {
+        kind: TokenKind::OutTok,
+        addr: 1,
+        ep: 2,
+        low: false,
+        pre: false,
+        max: 64,
+        payload: Some(data(Toggle::One, &[1, 2])),
+    }
+}
+
+/// Makes an attempt; what the host got is put behind what it got before.
+fn make<R: Read + Drop, W: Write + Drop>(
+    bus: &mut StreamBus<R, W>,
+    given: &mut String,
+    attempt: &Attempt,
+) -> Result<(), AllocError>
+    requires { IsAttempt attempt.now }
+{
+    match bus.attempt(attempt) {
+        Ok(outcome) => push_outcome(given, outcome),
+        Err(_) => Ok(()),
+    }
 }
 
 /// What the host got, as a far end says it.
@@ -206,11 +227,12 @@ fn play<R: Read + Drop>(
     let mut given = String::new(alloc);
     let mut bus = StreamBus::open(Watched::new(reader), Watched::new(writer), limit);
     push_said(&mut given, &Said::Answered(Answer::Roots(bus.root_ports())))?;
-    for attempt in &attempts() {
-        if let Ok(outcome) = bus.attempt(attempt) {
-            push_outcome(&mut given, outcome)?;
-        }
-    }
+    make(&mut bus, &mut given, &setup(&[0x80, 6, 0, 1, 0, 0, 8, 0]))?;
+    make(&mut bus, &mut given, &take(true))?;
+    make(&mut bus, &mut given, &take(false))?;
+    make(&mut bus, &mut given, &out())?;
+    // no line asks for this one: its setup data are one byte
+    make(&mut bus, &mut given, &setup(&[1]))?;
     bus.root_set(1, PORT_RESET);
     bus.root_set(3, PORT_RESET);
     bus.root_clear(2, C_PORT_CONNECTION);
