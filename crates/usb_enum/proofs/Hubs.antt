@@ -1,12 +1,13 @@
 -- What a hub tells, and what its refusal means.
-use Rattle.std.proofs.Common.{◌≡◌, ◌≢◌, ◌⊎◌, ◌∙◌, inl, inr, refl, sym, ap, add-one}
-use Rattle.std.specs.Prelude.{ℕ, ◌+◌, List, Bool, true, false, ◌&&◌, ◌==◌, Result, Ok, Err, if◌then◌else◌}
+use Rattle.std.proofs.Common.{◌≡◌, ◌≢◌, ◌⊎◌, ◌∙◌, inl, inr, refl, sym, ap, add-one, subst}
+use Rattle.std.specs.Prelude.{ℕ, ◌+◌, List, Bool, true, false, ◌&&◌, ◌==◌, Result, Ok, Err, if◌then◌else◌, IfOk}
 use Rattle.usb_world.specs.World.{World}
 use Rattle.usb_transaction.specs.declared.target.Target.{Target}
 use Rattle.usb_pipe.specs.declared.fault.PipeFault.{PipeFault}
 use Rattle.std.specs.Global.{Vec}
-use Rattle.usb_request.specs.Requests.{get_hub_descriptor}
-use Rattle.usb_hub.specs.Requests.{AskedData}
+use Rattle.usb_request.specs.Features.{PORT_POWER}
+use Rattle.usb_request.specs.Requests.{get_hub_descriptor, set_port_feature}
+use Rattle.usb_hub.specs.Requests.{AskedData, Ordered}
 use Rattle.usb_descriptor.specs.Hub.{hub_spelled, port_count}
 use Rattle.usb_resources.specs.Power.{supply_of}
 use Rattle.usb_enum.specs.declared.cause.Cause.{Cause}
@@ -31,7 +32,7 @@ not_last_by true tier done is fits e = let last = rw e at fits in absurd cc
 not_last_by false tier done is fits e = absurd cc
 
 -- a hub that fits its tier is not in the last
-not_last : (tier : ℕ) (bytes : List ℕ) → is_hub_device bytes ≡ true → fits_tier tier bytes ≡ Ok tt → tier ≢ 7
+pub not_last : (tier : ℕ) (bytes : List ℕ) → is_hub_device bytes ≡ true → fits_tier tier bytes ≡ Ok tt → tier ≢ 7
 not_last tier bytes = not_last_by (is_hub_device bytes) tier tt
 
 pub told_of_hub : (tier : ℕ) (bytes : List ℕ) (stop : Stop) (t : Target) (text : List ℕ) (old new : World) → fits_tier tier bytes ≡ Ok tt → is_hub_device bytes ≡ true → ToldAtStart t text stop old new → ToldOfDevice tier stop new
@@ -52,6 +53,12 @@ count_told hub stalled outcome bytes view old new answered asked good same = rec
   good = sym good ∙ ap Ok same;
   said = ap port_count same;
 }
+
+-- a port whose power was ordered, where that was done
+pub powered_by : (hub : Target) (port : ℕ) (old new : World) (outcome : Result (Unit {0}) PipeFault) (result : Result (Unit {0}) Stop) → result ≡ answered_or cause.BadHub outcome → Ordered hub (set_port_feature PORT_POWER port) old outcome new
+    → IfOk result (λ _. IsPowered hub port old new)
+powered_by hub port old new outcome (Ok done) is ordered = subst (λ r. Ordered hub (set_port_feature PORT_POWER port) old r new) (answered_ok cause.BadHub outcome tt (sym is)) ordered
+powered_by hub port old new outcome (Err stop) is ordered = tt
 
 -- one port more
 pub powered_more : (hub : Target) (n : ℕ) (old between new : World) → Powered hub n old between → IsPowered hub (n + 1) between new → Powered hub (n + 1) old new

@@ -12,7 +12,7 @@ use Rattle.usb_world.specs.declared.types.Attempt.{Attempt}
 use Rattle.usb_world.specs.Losses.{one_more, counted, after_clearing}
 use Rattle.usb_world.specs.OneHolder.{IsMade, IsOut}
 use Rattle.usb_world.specs.AttemptPackets.{IsSettled}
-use Rattle.usb_world.specs.Steps.{Step, attempt, root_call, event, report, after, Course, step}
+use Rattle.usb_world.specs.Steps.{Step, attempt, root_call, event, report, after, Course}
 use Rattle.usb_world.specs.World.{World}
 use Rattle.usb_world.proofs.Interface.{MadeOrNot, attempt_cases, in_clears, kept_course, loses, losses_as, made_here, not_true, out_counts, set_up_counts, settled_after}
 use Rattle.usb_transaction.specs.declared.target.Target.{Target}

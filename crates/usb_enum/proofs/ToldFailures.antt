@@ -1,6 +1,6 @@
 -- What a failed call tells, in the words of the calls above it.
-use Rattle.std.proofs.Common.{ℕ, Bool, true, false, List, Some, Result, Ok, Err, if◌then◌else◌, refl, sym, subst}
-use Rattle.std.specs.Prelude.{◌≡◌, IfOk, IfErr, IfSome, IsErr, IsErrAnd}
+use Rattle.std.proofs.Common.{ℕ, Result, Ok, Err, refl, sym, subst}
+use Rattle.std.specs.Prelude.{◌≡◌, IfErr, IsErr, IsErrAnd}
 use Rattle.usb_world.specs.World.{World}
 use Rattle.usb_port.specs.declared.status.PortStatus.{PortStatus}
 use Rattle.usb_pipe.specs.declared.fault.PipeFault.{PipeFault}
@@ -13,8 +13,6 @@ use Rattle.usb_enum.specs.declared.cause.Cause.{Cause}
 use Rattle.usb_enum.specs.declared.cause.Cause.TheVariants as cause
 use Rattle.usb_enum.specs.declared.fault.EnumFault.{EnumFault}
 use Rattle.usb_enum.specs.declared.fault.EnumFault.TheVariants as fault
-use Rattle.usb_enum.specs.declared.stop.Stop.TheVariants.{Refused}
-use Rattle.usb_enum.specs.Device.{is_device, device_bytes}
 use Rattle.usb_enum.specs.Stop.{CanFail, FitsTier, IsPlain, FaultAt, FaultTold, at_port}
 
 pub plain_fits : (tier : ℕ) (why : Cause) → IsPlain why → FitsTier tier why
@@ -65,13 +63,3 @@ port_told port n old new (Err pipe.Memory) can told = tt
 pub handed_on : {A E : Type 0} (r : Result A E) (P : E → Type 0) (why : E) → IsErrAnd r (λ e. e ≡ why) → P why → IfErr r P
 handed_on (Ok x) P why same p = tt
 handed_on (Err e) P why same p = subst P (sym same) p
-
--- what the bytes of a device descriptor tell
-
-module _ (low : Bool) (bytes : List ℕ) where
-  pub device_good : IfOk (device_bytes low bytes) (λ found. IfSome found (λ good. is_device low good ≡ true))
-  device_good = split (is_device low bytes) refl
-    where
-      split : (is : Bool) → is_device low bytes ≡ is → IfOk (if is then Ok (Some bytes) else Err (Refused cause.BadDevice)) (λ found. IfSome found (λ good. is_device low good ≡ true))
-      split true e = e
-      split false e = tt

@@ -191,8 +191,7 @@ target_is t address low pre at slow before = rw (at, slow, ← before) refl
 pub accepted : (port : HubPort) (address tier supply n m : ℕ) (addressed : Addressed) (result : Result Accepted Stop) {old mid new : World} {a b c d : Option (List ℕ)} → WentOn n old a mid b → Within port address old mid → HasTaken port address old mid addressed
     → OnlySets address mid new → WentOn m mid c new d → IfOk result (λ device. IsWhole supply device) → IfOk result (IsListed addressed tier mid new) → IfOk result (IsAccepted port address tier supply old new)
 accepted port address tier supply n m addressed (Ok device) {old} {mid} {new} went within taken sets later whole is = record {
-  address = is.address ∙ taken.address;
-  whole = whole;
+  served = is.served;
   takes = takes_then port address old mid new taken.takes sets.addresses;
   own = own_found port address tier supply n addressed device went within taken sets.addresses whole is;
   reaches = reaches_set port address m later taken.takes sets taken.reaches;

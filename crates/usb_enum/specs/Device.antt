@@ -69,21 +69,15 @@ pub record AreFacts (facts : HubFacts) : Type 0 where
   pub ports : IsPortNumber facts.ports
   pub supply : (facts.supply ≡ 500) ⊎ (facts.supply ≡ 100)
 
--- a hub with a status endpoint told its facts, and its ports were given power
-pub record StartsHub (hub : Target) (text : List ℕ) (old new : World) (told : HubFacts) : Type 0 where
+-- a hub of this text has a status endpoint, and these facts
+pub record CanServe (text : List ℕ) (told : HubFacts) : Type 0 where
   pub facts : AreFacts told
   pub status : is_some (status_endpoint_of text) ≡ true
-  pub started : Started hub old new told
 
 -- a hub, and nothing else, has facts and a status endpoint
 abbrev pub HasFacts : List ℕ → List ℕ → Option HubFacts → Type 0
 HasFacts bytes text (Some facts) = (is_hub_device bytes ≡ true) × AreFacts facts × (is_some (status_endpoint_of text) ≡ true)
 HasFacts bytes text None = is_hub_device bytes ≡ false
-
--- what is known of the ports of the device with this address
-pub record IsKnown (address : ℕ) (bytes text : List ℕ) (told : Option HubFacts) : Type 0 where
-  pub facts : HasFacts bytes text told
-  pub served : IsStarted address told
 
 -- endpoint 0 of a device at a port that was reset, before it has its address
 pub record IsUnaddressed (port : HubPort) (target : Target) : Type 0 where

@@ -1,5 +1,5 @@
 -- What an enumeration finds, and what it leaves.
-use Rattle.std.specs.Prelude.{◌≡◌, ◌⊎◌, ◌≤◌, ℕ, ◌+◌, ◌*◌, List, true, false, Option, None, Some, Result, Ok, Err, MatchResult, length}
+use Rattle.std.specs.Prelude.{◌≡◌, ◌⊎◌, ◌≤◌, ℕ, ◌+◌, ◌*◌, List, true, false, Option, None, Some, Result, Ok, Err, IfOk, MatchResult, length}
 use Rattle.usb_request.specs.Features.{PORT_ENABLE}
 use Rattle.usb_device.specs.View.{state_there}
 use Rattle.usb_world.specs.Paths.{pend}
@@ -52,7 +52,6 @@ pub record IsWhole (supply : ℕ) (device : Accepted) : Type 0 where
   pub differ : ValuesDiffer device.configs
   pub chosen : choice_of supply device.configs ≡ Some device.chosen
   pub hub : HasFacts device.bytes (configuration_of device) device.hub
-  pub served : IsStarted device.address device.hub
 
 -- where a path claims the address, and as long as the bus is at work, the ports of the hub that was found there are empty, or a change is pending
 pub record EmptiesPorts (address : ℕ) (told : Option HubFacts) (old new : World) : Type 0 where
@@ -64,6 +63,7 @@ pub record IsListed (addressed : Addressed) (tier : ℕ) (old new : World) (devi
   pub low : device.low ≡ addressed.target.low
   pub bytes : device.bytes ≡ addressed.bytes
   pub fits : fits_tier tier addressed.bytes ≡ Ok tt
+  pub served : IsStarted device.address device.hub
   pub learned : LearnsSet (AtMaximum addressed.target (HasReadings addressed.bytes device)) addressed.target (configuration_value (configuration_of device)) old new
   pub below : EmptiesPorts addressed.target.addr device.hub old new
   pub strings : EndsWithStrings addressed.target (string_indexes addressed.bytes) old new device.strings
@@ -72,10 +72,9 @@ pub record IsListed (addressed : Addressed) (tier : ℕ) (old new : World) (devi
 abbrev pub IsOwn : ℕ → ℕ → Accepted → State → Type 0
 IsOwn tier supply device s = IsFindingOf s.spec tier supply (Device device) × IsSet device s × IsFresh s
 
--- the device that was read and configured has the address, took it at the port, and the finding is its own
+-- the device that was read and configured told its facts where it is a hub, took the address at the port, and the finding is its own
 pub record IsAccepted (port : HubPort) (given tier supply : ℕ) (old new : World) (device : Accepted) : Type 0 where
-  pub address : device.address ≡ given
-  pub whole : IsWhole supply device
+  pub served : IsStarted device.address device.hub
   pub takes : TakesAt port given old new
   pub own : Finds (IsOwn tier supply device) port given old new
   pub reaches : ReachesDevice port given old new
@@ -91,6 +90,11 @@ pub record LastDisabled (hub : Target) (port : ℕ) (w : World) : Type 0 where
 abbrev pub IsDisabled : HubPort → World → Type 0
 IsDisabled (Root number) w = (root_port_at w number).enable ≡ false
 IsDisabled (External hub port) w = LastDisabled hub port w
+
+-- a refusal has a finding of its cause, and a fault none
+abbrev pub HandsOn : Stop → Result Finding EnumFault → Type 0
+HandsOn (stops.Refused cause) result = IfOk result (λ finding. finding ≡ Refused cause)
+HandsOn (stops.Fault fault) result = result ≡ Err fault
 
 -- what is left after an enumeration that was given up: a refused device's port is disabled, or its parent is lost
 abbrev pub GivesUp : HubPort → Stop → World → Result Finding EnumFault → World → Type 0
@@ -114,9 +118,15 @@ pub record Closes (port : HubPort) (address : ℕ) (stop : Stop) (old : World) (
 abbrev pub IsCause : Addresses → ℕ → Cause → Type 0
 IsCause addresses tier cause = (cause ≡ NoAddress × IsFull addresses) ⊎ FitsTier tier cause
 
-abbrev pub IsFound : HubPort → Addresses → ℕ → ℕ → Finding → World → Type 0
-IsFound port addresses tier supply (Device device) w = IsWhole supply device
-IsFound port addresses tier supply (Refused cause) w = IsDisabled port w × IsCause addresses tier cause
+-- what a finding says of itself, over any bus
+abbrev pub IsFound : Addresses → ℕ → ℕ → Finding → Type 0
+IsFound addresses tier supply (Device device) = IsWhole supply device
+IsFound addresses tier supply (Refused cause) = IsCause addresses tier cause
+
+-- the hub that was found told its facts, or the port of a refused device is disabled
+abbrev pub IsLeft : HubPort → Finding → World → Type 0
+IsLeft port (Device device) w = IsStarted device.address device.hub
+IsLeft port (Refused cause) w = IsDisabled port w
 
 -- an accepted device takes the least free address, and nothing else takes any
 abbrev pub TakesFor : Result Finding EnumFault → Addresses → Addresses → Type 0
@@ -165,7 +175,7 @@ pub record MakesFew (port : HubPort) (addresses : Addresses) (old new : World) :
       → new.attempts ≤ old.attempts + (250000 + 100 * most)
 
 -- who holds which address at each end, that what was found is so and there, why a device is refused, where all is fair and whatever is damaged, how
--- few attempts that takes, and how strings are asked for
+-- few attempts that takes, how strings are asked for, and what is left at the port
 pub record Enumerates (port : HubPort) (before : Addresses) (tier supply : ℕ) (old : World) (result : Result Finding EnumFault) (new : World) : Type 0 where
   pub addresses : KeepsEnumerated port before old result new
   pub own : IsTruthful port before tier supply old result new
@@ -174,3 +184,4 @@ pub record Enumerates (port : HubPort) (before : Addresses) (tier supply : ℕ) 
   pub ended : EndsFor port before tier supply old result new
   pub few : MakesFew port before old new
   pub strings : (device : Accepted) → result ≡ Ok (Device device) → AsksStrings port old new device
+  pub left : (finding : Finding) → result ≡ Ok finding → IsLeft port finding new

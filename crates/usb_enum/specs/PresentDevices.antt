@@ -22,7 +22,7 @@ use Rattle.usb_enum.specs.declared.finding.Accepted.{Accepted}
 use Rattle.usb_enum.specs.declared.hub.HubFacts.{HubFacts}
 use Rattle.usb_enum.specs.Addresses.{IsSpare, TakesAddress}
 use Rattle.usb_enum.specs.Verdicts.{strings_by}
-use Rattle.usb_enum.specs.Device.{IsKnown, string_indexes, configuration_of, needs_pre}
+use Rattle.usb_enum.specs.Device.{IsStarted, string_indexes, configuration_of, needs_pre}
 use Rattle.usb_enum.specs.Hub.{Started}
 use Rattle.usb_enum.specs.LearnedFacts.{Learns}
 use Rattle.usb_enum.specs.Losses.{NoNewStretch}
@@ -120,9 +120,9 @@ abbrev pub TellsPorts : List ℕ → Option HubFacts → Spec → Type 0
 TellsPorts text (Some facts) spec = Ruled (IsGoodHub text facts) spec
 TellsPorts text None spec = ⊤
 
--- what is known of the ports of a device, and was learned of it, and how they were given power
+-- what a device told of its ports, what was learned of it, and how they were given power
 pub record LearnsPorts (device : Addressed) (text : List ℕ) (old new : World) (told : Option HubFacts) : Type 0 where
-  pub known : IsKnown device.target.addr device.bytes text told
+  pub served : IsStarted device.target.addr told
   pub learned : Learns (AtMaximum device.target (TellsPorts text told)) device.target old new
   pub started : (facts : HubFacts) → told ≡ Some facts → Started device.target old new facts
 

@@ -82,6 +82,26 @@ IsPlain cause.BadHub = ⊥
 IsPlain cause.Lost = ⊤
 IsPlain cause.NoAddress = ⊥
 
+-- so it is at a stop
+abbrev pub IsPlainStop : Stop → Type 0
+IsPlainStop (Refused why) = IsPlain why
+IsPlainStop (Fault f) = ⊤
+
+-- a hub is asked: it is bad, or the cause is a plain one
+abbrev pub IsHubStop : Stop → Type 0
+IsHubStop (Refused why) = (why ≡ cause.BadHub) ⊎ IsPlain why
+IsHubStop (Fault f) = ⊤
+
+-- no address was free, or the cause is a plain one
+abbrev pub IsStopWithout : Stop → Type 0
+IsStopWithout (Refused why) = (why ≡ cause.NoAddress) ⊎ IsPlain why
+IsStopWithout (Fault f) = ⊤
+
+-- the cause fits the tier
+abbrev pub FitsStop : ℕ → Stop → Type 0
+FitsStop tier (Refused why) = FitsTier tier why
+FitsStop tier (Fault f) = ⊤
+
 -- a stop that is no refusal is told by the bus
 abbrev pub StopFaults : Stop → World → Type 0
 StopFaults (Refused why) w = ⊤

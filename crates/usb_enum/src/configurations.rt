@@ -1,5 +1,5 @@
 //! The configurations of a device: each is read, and one is chosen.
-ghost use Rattle.std.specs.Prelude.{◌≡◌, ◌≤◌, ◌<◌, ◌*◌, length, Some, IfOk, IfErr, IfSome, MatchResult};
+ghost use Rattle.std.specs.Prelude.{◌≡◌, ◌≤◌, ◌<◌, ◌*◌, length, true, Some, IfOk, IfErr, IfSome, MatchResult};
 ghost use Rattle.usb_request.specs.Codes.{CONFIGURATION_LENGTH};
 ghost use Rattle.usb_bus.specs.Traces.{Went};
 ghost use Rattle.usb_transaction.specs.Transactions.{IsTarget};
@@ -12,6 +12,7 @@ ghost use Rattle.usb_enum.specs.Reasons.{StopTold, TextRead, TextsAsked};
 ghost use Rattle.usb_enum.specs.Text.{ValuesDiffer, choice_of};
 ghost use Rattle.usb_enum.specs.TextLengths.{IsAnswered, ReadsText, FewFor};
 ghost use Rattle.usb_enum.specs.Frames.{OnlyAsks};
+ghost use Rattle.usb_enum.specs.Stop.{IsPlainStop};
 
 use crate::stop::{Stop, answered_or};
 use crate::{Cause, ConfigText, ConfigTexts, Request};
@@ -26,16 +27,17 @@ use usb_transaction::Target;
 fn total_length<B: Bus>(alloc: Global, bus: &mut B, target: Target, index: u8) -> Result<u16, Stop>
     requires target { IsTarget target }
     requires max { 8 ≤ target.max }
-    ensures went { Went B.world B.trace (read_bound CONFIGURATION_LENGTH) bus.old bus.new }
-    ensures ends { MatchResult result (λ _. IsAnswered target (B.world bus.new))
+    ensures went { B.modelled ≡ true
+        → Went B.world B.trace (read_bound CONFIGURATION_LENGTH) bus.old bus.new }
+    ensures ends { B.modelled ≡ true → MatchResult result (λ _. IsAnswered target (B.world bus.new))
         (λ stop. StopTold target stop (B.world bus.old) (B.world bus.new)) }
-    ensures fits { IfOk result (λ total. (9 ≤ total) × (total ≤ 65535)) }
-    ensures learned { MatchResult result
+    ensures fits { MatchResult result (λ total. (9 ≤ total) × (total ≤ 65535)) IsPlainStop }
+    ensures learned { B.modelled ≡ true → MatchResult result
         (λ total. Learns (AtMaximum target (HasTotal index total)) target
         (B.world bus.old) (B.world bus.new))
         (λ stop. Explains (Refuses target (λ spec. config_fault spec index) stop) target
         (B.world bus.old) (B.world bus.new)) }
-    ensures keeps { OnlyAsks (B.world bus.old) (B.world bus.new) }
+    ensures keeps { B.modelled ≡ true → OnlyAsks (B.world bus.old) (B.world bus.new) }
 {
     let stalled = Cause::Stalled(Request::Config);
     let head = answered_or(stalled, get_config(alloc, bus, target, index, 9))?;
@@ -54,17 +56,20 @@ fn read_text<B: Bus>(
 ) -> Result<ConfigText, Stop>
     requires target { IsTarget target }
     requires max { 8 ≤ target.max }
-    ensures went { Went B.world B.trace configuration_bound bus.old bus.new }
-    ensures count { ReadsText target index (B.world bus.old) result (B.world bus.new) }
+    ensures went { B.modelled ≡ true → Went B.world B.trace configuration_bound bus.old bus.new }
+    ensures count { B.modelled ≡ true
+        → ReadsText target index (B.world bus.old) result (B.world bus.new) }
     ensures told { MatchResult result
-        (λ text. TextRead target index text (B.world bus.old) (B.world bus.new))
-        (λ stop. StopTold target stop (B.world bus.old) (B.world bus.new)) }
-    ensures learned { MatchResult result
+        (λ text. B.modelled ≡ true
+        → TextRead target index text (B.world bus.old) (B.world bus.new))
+        (λ stop. IsPlainStop stop × (B.modelled ≡ true
+        → StopTold target stop (B.world bus.old) (B.world bus.new))) }
+    ensures learned { B.modelled ≡ true → MatchResult result
         (λ text. Learns (AtMaximum target (HasConfiguration index text)) target
         (B.world bus.old) (B.world bus.new))
         (λ stop. Explains (Refuses target (λ spec. config_fault spec index) stop) target
         (B.world bus.old) (B.world bus.new)) }
-    ensures keeps { OnlyAsks (B.world bus.old) (B.world bus.new) }
+    ensures keeps { B.modelled ≡ true → OnlyAsks (B.world bus.old) (B.world bus.new) }
 {
     let total = total_length(alloc, bus, target, index)?;
     let stalled = Cause::Stalled(Request::Config);
@@ -84,18 +89,21 @@ pub(crate) fn read_configurations<B: Bus>(
 ) -> Result<ConfigTexts, Stop>
     requires target { IsTarget target }
     requires max { 8 ≤ target.max }
-    ensures went { Went B.world B.trace (255 * configuration_bound) bus.old bus.new }
-    ensures few { FewFor texts_bound target (B.world bus.old) (B.world bus.new) }
+    ensures went { B.modelled ≡ true
+        → Went B.world B.trace (255 * configuration_bound) bus.old bus.new }
+    ensures few { B.modelled ≡ true
+        → FewFor texts_bound target (B.world bus.old) (B.world bus.new) }
     ensures ends { MatchResult result
-        (λ texts. (length texts ≡ count) × ValuesDiffer texts
-        × TextsAsked target (B.world bus.old) texts (B.world bus.new))
-        (λ stop. StopTold target stop (B.world bus.old) (B.world bus.new)) }
-    ensures learned { MatchResult result
+        (λ texts. (length texts ≡ count) × ValuesDiffer texts × (B.modelled ≡ true
+        → TextsAsked target (B.world bus.old) texts (B.world bus.new)))
+        (λ stop. IsPlainStop stop × (B.modelled ≡ true
+        → StopTold target stop (B.world bus.old) (B.world bus.new))) }
+    ensures learned { B.modelled ≡ true → MatchResult result
         (λ texts. Learns (AtMaximum target (HasConfigurations count texts)) target
         (B.world bus.old) (B.world bus.new))
         (λ stop. Explains (Refuses target (λ spec. first_fault spec count) stop) target
         (B.world bus.old) (B.world bus.new)) }
-    ensures keeps { OnlyAsks (B.world bus.old) (B.world bus.new) }
+    ensures keeps { B.modelled ≡ true → OnlyAsks (B.world bus.old) (B.world bus.new) }
 {
     let mut texts = ConfigTexts::new(alloc);
     for index in 0..count {

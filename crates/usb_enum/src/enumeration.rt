@@ -1,12 +1,12 @@
 //! The whole enumeration.
 ghost use Rattle.std.specs.Prelude.{◌≡◌, ℕ, IfOk, IfErr, MatchResult, true};
 ghost use Rattle.usb_bus.specs.Traces.{Went};
-ghost use Rattle.usb_hub.specs.Port.{IsPort, order_bound};
+ghost use Rattle.usb_hub.specs.Port.{IsAsked, order_bound};
 ghost use Rattle.usb_enum.specs.Bounds.{unaddressed_bound, examination_bound, enumeration_bound, configured_bound, configured_by, hub_bound};
 ghost use Rattle.usb_enum.specs.Reasons.{StoppedWithout, StopsAtPort, StopsDevice, ToldAtStart};
-ghost use Rattle.usb_enum.specs.Stop.{FaultAt, StopToldWithout};
-ghost use Rattle.usb_enum.specs.Findings.{Closes, Enumerates, GivesUp, IsAccepted, IsFound, IsListed, IsWhole, TakesFor};
-ghost use Rattle.usb_enum.specs.Device.{fits_tier, is_hub_device};
+ghost use Rattle.usb_enum.specs.Stop.{FaultAt, FitsStop, IsHubStop, IsStopWithout, StopToldWithout};
+ghost use Rattle.usb_enum.specs.Findings.{Closes, Enumerates, GivesUp, HandsOn, IsAccepted, IsFound, IsListed, IsWhole, TakesFor};
+ghost use Rattle.usb_enum.specs.Device.{HasFacts, fits_tier, is_hub_device};
 ghost use Rattle.usb_enum.specs.Addresses.{AtPort};
 ghost use Rattle.usb_enum.specs.FairEnumerations.{StopsFairly};
 ghost use Rattle.usb_enum.specs.LearnedFacts.{Explains, ExplainsSet};
@@ -55,13 +55,15 @@ pub fn enumerate<B: Bus>(
     tier: u8,
     supply: u16,
 ) -> Result<Finding, EnumFault>
-    requires port { IsPort (B.world bus.old) port }
-    ensures went { Went B.world B.trace (enumeration_bound port) bus.old bus.new }
-    ensures told { IfErr result (λ fault. FaultAt port fault (B.world bus.new)) }
+    requires port { IsAsked B.modelled (B.world bus.old) port }
+    ensures went { B.modelled ≡ true
+        → Went B.world B.trace (enumeration_bound port) bus.old bus.new }
+    ensures told { B.modelled ≡ true
+        → IfErr result (λ fault. FaultAt port fault (B.world bus.new)) }
     ensures pool { TakesFor result pool.old pool.new }
-    ensures found { IfOk result (λ finding. IsFound port pool.old tier supply finding
-        (B.world bus.new)) }
-    ensures ends { Enumerates port pool.old tier supply (B.world bus.old) result (B.world bus.new) }
+    ensures found { IfOk result (IsFound pool.old tier supply) }
+    ensures ends { B.modelled ≡ true
+        → Enumerates port pool.old tier supply (B.world bus.old) result (B.world bus.new) }
 {
     let Some(address) = pool.take() else {
         let stop = without_address(alloc, bus, port);
@@ -79,12 +81,16 @@ pub fn enumerate<B: Bus>(
 
 /// Goes on as far as a device is given its address, where none is free.
 fn without_address<B: Bus>(alloc: Global, bus: &mut B, port: HubPort) -> Stop
-    requires { IsPort (B.world bus.old) port }
-    ensures went { Went B.world B.trace (unaddressed_bound port) bus.old bus.new }
-    ensures told { StopToldWithout port result (B.world bus.new) }
-    ensures within { AtPort port 0 (B.world bus.old) (B.world bus.new) }
-    ensures because { StoppedWithout port result (B.world bus.old) (B.world bus.new) }
-    ensures why { StopsFairly unaddressed_fault port 0 result (B.world bus.old) (B.world bus.new) }
+    requires { IsAsked B.modelled (B.world bus.old) port }
+    ensures went { B.modelled ≡ true
+        → Went B.world B.trace (unaddressed_bound port) bus.old bus.new }
+    ensures told { IsStopWithout result × (B.modelled ≡ true
+        → StopToldWithout port result (B.world bus.new)) }
+    ensures within { B.modelled ≡ true → AtPort port 0 (B.world bus.old) (B.world bus.new) }
+    ensures because { B.modelled ≡ true
+        → StoppedWithout port result (B.world bus.old) (B.world bus.new) }
+    ensures why { B.modelled ≡ true
+        → StopsFairly unaddressed_fault port 0 result (B.world bus.old) (B.world bus.new) }
 {
     match unaddressed(alloc, bus, port) {
         Ok(_) => Stop::Refused(Cause::NoAddress),
@@ -93,12 +99,14 @@ fn without_address<B: Bus>(alloc: Global, bus: &mut B, port: HubPort) -> Stop
 }
 
 /// Disables the port of a device that is refused.
-#[tactic(auto, using(crate::proofs::Ports::disabled))]
 fn give_up<B: Bus>(bus: &mut B, port: HubPort, stop: Stop) -> Result<Finding, EnumFault>
-    requires { IsPort (B.world bus.old) port }
-    ensures went { Went B.world B.trace (order_bound port) bus.old bus.new }
-    ensures left { GivesUp port stop (B.world bus.old) result (B.world bus.new) }
-    ensures closes { (a : ℕ) → Closes port a stop (B.world bus.old) result (B.world bus.new) }
+    requires { IsAsked B.modelled (B.world bus.old) port }
+    ensures hands { HandsOn stop result }
+    ensures went { B.modelled ≡ true → Went B.world B.trace (order_bound port) bus.old bus.new }
+    ensures left { B.modelled ≡ true
+        → GivesUp port stop (B.world bus.old) result (B.world bus.new) }
+    ensures closes { B.modelled ≡ true
+        → (a : ℕ) → Closes port a stop (B.world bus.old) result (B.world bus.new) }
 {
     match stop {
         Stop::Refused(cause) => {
@@ -118,13 +126,16 @@ fn examine<B: Bus>(
     tier: u8,
     supply: u16,
 ) -> Result<Accepted, Stop>
-    requires port { IsPort (B.world bus.old) port }
-    ensures went { Went B.world B.trace (examination_bound port) bus.old bus.new }
-    ensures few { FewFrom port address (B.world bus.old) (B.world bus.new) }
-    ensures told { IfErr result (StopsAtPort port address tier supply
-        (B.world bus.old) (B.world bus.new)) }
-    ensures within { AtPort port address (B.world bus.old) (B.world bus.new) }
-    ensures ok { MatchResult result
+    requires port { IsAsked B.modelled (B.world bus.old) port }
+    ensures went { B.modelled ≡ true
+        → Went B.world B.trace (examination_bound port) bus.old bus.new }
+    ensures few { B.modelled ≡ true → FewFrom port address (B.world bus.old) (B.world bus.new) }
+    ensures told { MatchResult result
+        (λ device. (device.address ≡ address) × IsWhole supply device)
+        (λ stop. FitsStop tier stop × (B.modelled ≡ true
+        → StopsAtPort port address tier supply (B.world bus.old) (B.world bus.new) stop)) }
+    ensures within { B.modelled ≡ true → AtPort port address (B.world bus.old) (B.world bus.new) }
+    ensures ok { B.modelled ≡ true → MatchResult result
         (IsAccepted port address tier supply (B.world bus.old) (B.world bus.new))
         (λ stop. StopsFairly (whole_fault tier supply) port address stop
         (B.world bus.old) (B.world bus.new)) }
@@ -143,15 +154,18 @@ fn configure<B: Bus>(
     supply: u16,
 ) -> Result<Accepted, Stop>
     requires { device.target.addr ≡ address }
-    ensures went { Went B.world B.trace configured_bound bus.old bus.new }
-    ensures few { FewFor configured_by device.target (B.world bus.old) (B.world bus.new) }
-    ensures ends { MatchResult result (IsWhole supply)
-        (StopsDevice device.target device.bytes tier supply (B.world bus.old) (B.world bus.new)) }
-    ensures learned { MatchResult result
+    ensures went { B.modelled ≡ true → Went B.world B.trace configured_bound bus.old bus.new }
+    ensures few { B.modelled ≡ true
+        → FewFor configured_by device.target (B.world bus.old) (B.world bus.new) }
+    ensures ends { MatchResult result
+        (λ device. (device.address ≡ address) × IsWhole supply device)
+        (λ stop. FitsStop tier stop × (B.modelled ≡ true → StopsDevice device.target device.bytes
+        tier supply (B.world bus.old) (B.world bus.new) stop)) }
+    ensures learned { B.modelled ≡ true → MatchResult result
         (IsListed device tier (B.world bus.old) (B.world bus.new))
         (λ stop. Explains (Refuses device.target (configured_fault tier supply device.bytes) stop)
         device.target (B.world bus.old) (B.world bus.new)) }
-    ensures keeps { OnlySets address (B.world bus.old) (B.world bus.new) }
+    ensures keeps { B.modelled ≡ true → OnlySets address (B.world bus.old) (B.world bus.new) }
 {
     let target = device.target;
     fits_tier(&device, tier)?;
@@ -192,15 +206,18 @@ fn hub_facts<B: Bus>(
     device: &Addressed,
     text: &ConfigText,
 ) -> Result<Option<HubFacts>, Stop>
-    ensures went { Went B.world B.trace hub_bound bus.old bus.new }
-    ensures told { IfErr result (λ stop. ToldAtStart device.now.target text.now stop
+    ensures went { B.modelled ≡ true → Went B.world B.trace hub_bound bus.old bus.new }
+    ensures told { B.modelled ≡ true
+        → IfErr result (λ stop. ToldAtStart device.now.target text.now stop
         (B.world bus.old) (B.world bus.new)) }
-    ensures hub { IfErr result (λ _. is_hub_device device.now.bytes ≡ true) }
-    ensures ports { MatchResult result
+    ensures hub { MatchResult result (HasFacts device.now.bytes text.now)
+        (λ stop. (is_hub_device device.now.bytes ≡ true) × IsHubStop stop) }
+    ensures ports { B.modelled ≡ true → MatchResult result
         (LearnsPorts device.now text.now (B.world bus.old) (B.world bus.new))
         (λ stop. ExplainsSet (Refuses device.now.target (start_fault text.now) stop)
         device.now.target (B.world bus.old) (B.world bus.new)) }
-    ensures keeps { OnlyTells device.now.target.addr (B.world bus.old) (B.world bus.new) }
+    ensures keeps { B.modelled ≡ true
+        → OnlyTells device.now.target.addr (B.world bus.old) (B.world bus.new) }
 {
     if !device.is_hub() {
         return Ok(None);

@@ -4,7 +4,7 @@ ghost use Rattle.usb_request.specs.Codes.{DEVICE_HEAD_LENGTH, DEVICE_LENGTH};
 ghost use Rattle.usb_request.specs.declared.feature.TheConstants.{PORT_RESET};
 ghost use Rattle.usb_port.specs.Calls.{set_call};
 ghost use Rattle.usb_bus.specs.Traces.{Went};
-ghost use Rattle.usb_hub.specs.Port.{IsPort, status_bound, order_bound};
+ghost use Rattle.usb_hub.specs.Port.{IsAsked, status_bound, order_bound};
 ghost use Rattle.usb_transaction.specs.Transactions.{IsTarget};
 ghost use Rattle.usb_enum.specs.Bounds.{read_bound, reset_bound, unaddressed_bound, pass_bound};
 ghost use Rattle.usb_enum.specs.Reasons.{DescriptorRead, DescriptorTold, FaultBy, PassTold, StopTold, StopToldAt};
@@ -14,6 +14,7 @@ ghost use Rattle.usb_enum.specs.Addresses.{AtPort, OnlyCalls};
 ghost use Rattle.usb_enum.specs.Calls.{CalledAt, SettlesReset, StatusAt};
 ghost use Rattle.usb_enum.specs.FairEnumerations.{PassEnds, StopsFairly};
 ghost use Rattle.usb_enum.specs.Frames.{OnlyAsks};
+ghost use Rattle.usb_enum.specs.Stop.{IsPlainStop};
 ghost use Rattle.usb_enum.specs.LearnedFacts.{Explains};
 ghost use Rattle.usb_enum.specs.PresentDevices.{Awaits, HasTaken, WasReset};
 ghost use Rattle.usb_enum.specs.Refusals.{IsRefusedFor, FindsHead, FindsDescriptor, RefusesDescriptor, no_fault, head_fault, early_fault, addressed_fault};
@@ -31,37 +32,41 @@ use usb_transaction::Target;
 
 /// Sets PORT_RESET.
 fn begin_reset<B: Bus>(bus: &mut B, port: HubPort) -> Result<(), EnumFault>
-    requires { IsPort (B.world bus.old) port }
-    ensures went { Went B.world B.trace (order_bound port) bus.old bus.new }
-    ensures told { IfErr result (λ fault. FaultBy port fault
+    requires { IsAsked B.modelled (B.world bus.old) port }
+    ensures went { B.modelled ≡ true → Went B.world B.trace (order_bound port) bus.old bus.new }
+    ensures told { B.modelled ≡ true → IfErr result (λ fault. FaultBy port fault
         (B.world bus.old) (B.world bus.new)) }
-    ensures resets { Resets port (B.world bus.old) (B.world bus.new) }
-    ensures only { (a : ℕ) → OnlyCalls port a (B.world bus.old) (B.world bus.new) }
-    ensures calls { CalledAt port (set_call PORT_RESET) (B.world bus.old) result (B.world bus.new) }
+    ensures resets { B.modelled ≡ true → Resets port (B.world bus.old) (B.world bus.new) }
+    ensures only { B.modelled ≡ true
+        → (a : ℕ) → OnlyCalls port a (B.world bus.old) (B.world bus.new) }
+    ensures calls { B.modelled ≡ true
+        → CalledAt port (set_call PORT_RESET) (B.world bus.old) result (B.world bus.new) }
 {
     at_port(set_port(bus, port, PORT_RESET))
 }
 
 /// The status of the port.
 fn read_status<B: Bus>(alloc: Global, bus: &mut B, port: HubPort) -> Result<PortStatus, EnumFault>
-    requires { IsPort (B.world bus.old) port }
-    ensures went { Went B.world B.trace (status_bound port) bus.old bus.new }
-    ensures told { IfErr result (λ fault. FaultBy port fault
+    requires { IsAsked B.modelled (B.world bus.old) port }
+    ensures went { B.modelled ≡ true → Went B.world B.trace (status_bound port) bus.old bus.new }
+    ensures told { B.modelled ≡ true → IfErr result (λ fault. FaultBy port fault
         (B.world bus.old) (B.world bus.new)) }
-    ensures status { StatusAt port (B.world bus.old) result (B.world bus.new) }
-    ensures keeps { OnlyAsks (B.world bus.old) (B.world bus.new) }
+    ensures status { B.modelled ≡ true → StatusAt port (B.world bus.old) result (B.world bus.new) }
+    ensures keeps { B.modelled ≡ true → OnlyAsks (B.world bus.old) (B.world bus.new) }
 {
     at_port(port_status(alloc, bus, port))
 }
 
 /// Resets the port (11.5.1.5), and tells whether a low-speed device is there.
 fn reset<B: Bus>(alloc: Global, bus: &mut B, port: HubPort) -> Result<bool, Stop>
-    requires port { IsPort (B.world bus.old) port }
-    ensures went { Went B.world B.trace (reset_bound port) bus.old bus.new }
-    ensures told { IfErr result (λ stop. (a : ℕ) → StopToldAt port a stop
+    requires port { IsAsked B.modelled (B.world bus.old) port }
+    ensures went { B.modelled ≡ true → Went B.world B.trace (reset_bound port) bus.old bus.new }
+    ensures told { B.modelled ≡ true → IfErr result (λ stop. (a : ℕ) → StopToldAt port a stop
         (B.world bus.old) (B.world bus.new)) }
-    ensures within { (a : ℕ) → AtPort port a (B.world bus.old) (B.world bus.new) }
-    ensures found { MatchResult result
+    ensures within { B.modelled ≡ true
+        → (a : ℕ) → AtPort port a (B.world bus.old) (B.world bus.new) }
+    ensures plain { IfErr result IsPlainStop }
+    ensures found { B.modelled ≡ true → MatchResult result
         (λ low. (a : ℕ) → WasReset low port a (B.world bus.old) (B.world bus.new))
         (λ stop. (a : ℕ) → StopsFairly no_fault port a stop (B.world bus.old) (B.world bus.new)) }
 {
@@ -76,13 +81,15 @@ fn reset<B: Bus>(alloc: Global, bus: &mut B, port: HubPort) -> Result<bool, Stop
 
 /// Clears C_PORT_RESET where it is set.
 fn settle<B: Bus>(bus: &mut B, port: HubPort, changed: bool) -> Result<(), EnumFault>
-    requires { IsPort (B.world bus.old) port }
-    ensures went { Went B.world B.trace (order_bound port) bus.old bus.new }
-    ensures told { IfErr result (λ fault. FaultBy port fault
+    requires { IsAsked B.modelled (B.world bus.old) port }
+    ensures went { B.modelled ≡ true → Went B.world B.trace (order_bound port) bus.old bus.new }
+    ensures told { B.modelled ≡ true → IfErr result (λ fault. FaultBy port fault
         (B.world bus.old) (B.world bus.new)) }
-    ensures within { (a : ℕ) → AtPort port a (B.world bus.old) (B.world bus.new) }
-    ensures devices { KeepsDevices (B.world bus.old) (B.world bus.new) }
-    ensures calls { SettlesReset port changed (B.world bus.old) result (B.world bus.new) }
+    ensures within { B.modelled ≡ true
+        → (a : ℕ) → AtPort port a (B.world bus.old) (B.world bus.new) }
+    ensures devices { B.modelled ≡ true → KeepsDevices (B.world bus.old) (B.world bus.new) }
+    ensures calls { B.modelled ≡ true
+        → SettlesReset port changed (B.world bus.old) result (B.world bus.new) }
 {
     if !changed {
         return Ok(());
@@ -105,15 +112,16 @@ fn needs_pre(port: HubPort) -> bool
 fn first_maximum<B: Bus>(alloc: Global, bus: &mut B, unaddressed: Target) -> Result<u8, Stop>
     requires target { IsTarget unaddressed }
     requires max { unaddressed.max ≡ 8 }
-    ensures went { Went B.world B.trace (read_bound DEVICE_HEAD_LENGTH) bus.old bus.new }
-    ensures told { IfErr result (λ stop. StopTold unaddressed stop
+    ensures went { B.modelled ≡ true
+        → Went B.world B.trace (read_bound DEVICE_HEAD_LENGTH) bus.old bus.new }
+    ensures told { B.modelled ≡ true → IfErr result (λ stop. StopTold unaddressed stop
         (B.world bus.old) (B.world bus.new)) }
-    ensures fits { IfOk result (λ max. (8 ≤ max) × (max ≤ 64)) }
-    ensures head { MatchResult result
+    ensures fits { MatchResult result (λ max. (8 ≤ max) × (max ≤ 64)) IsPlainStop }
+    ensures head { B.modelled ≡ true → MatchResult result
         (FindsHead unaddressed (B.world bus.old) (B.world bus.new))
         (λ stop. Explains (IsRefusedFor (head_fault unaddressed.low) stop) unaddressed
         (B.world bus.old) (B.world bus.new)) }
-    ensures keeps { OnlyAsks (B.world bus.old) (B.world bus.new) }
+    ensures keeps { B.modelled ≡ true → OnlyAsks (B.world bus.old) (B.world bus.new) }
 {
     let stalled = Cause::Stalled(Request::Device);
     let bytes = answered_or(stalled, get_device(alloc, bus, unaddressed, 8))?;
@@ -127,16 +135,17 @@ fn first_maximum<B: Bus>(alloc: Global, bus: &mut B, unaddressed: Target) -> Res
 fn descriptor<B: Bus>(alloc: Global, bus: &mut B, target: Target) -> Result<Option<[u8; 18]>, Stop>
     requires target { IsTarget target }
     requires max { 8 ≤ target.max }
-    ensures went { Went B.world B.trace (read_bound DEVICE_LENGTH) bus.old bus.new }
-    ensures told { MatchResult result
+    ensures went { B.modelled ≡ true
+        → Went B.world B.trace (read_bound DEVICE_LENGTH) bus.old bus.new }
+    ensures told { B.modelled ≡ true → MatchResult result
         (DescriptorTold target (B.world bus.old) (B.world bus.new))
         (λ stop. StopTold target stop (B.world bus.old) (B.world bus.new)) }
-    ensures device { IfOk result (λ found. IfSome found (λ bytes.
-        is_device target.low bytes ≡ true)) }
-    ensures bytes { MatchResult result
+    ensures device { MatchResult result
+        (λ found. IfSome found (λ bytes. is_device target.low bytes ≡ true)) IsPlainStop }
+    ensures bytes { B.modelled ≡ true → MatchResult result
         (FindsDescriptor target (B.world bus.old) (B.world bus.new))
         (λ stop. RefusesDescriptor target stop (B.world bus.old) (B.world bus.new)) }
-    ensures keeps { OnlyAsks (B.world bus.old) (B.world bus.new) }
+    ensures keeps { B.modelled ≡ true → OnlyAsks (B.world bus.old) (B.world bus.new) }
 {
     let outcome = get_device(alloc, bus, target, 18);
     if outcome == Err(PipeFault::NoAnswer) {
@@ -162,13 +171,15 @@ fn device_bytes(bytes: &[u8; 18], low: bool) -> Result<Option<[u8; 18]>, Stop>
 
 /// The device at address 0, once its port is reset and its maximum packet is known.
 pub(crate) fn unaddressed<B: Bus>(alloc: Global, bus: &mut B, port: HubPort) -> Result<Target, Stop>
-    requires port { IsPort (B.world bus.old) port }
-    ensures went { Went B.world B.trace (unaddressed_bound port) bus.old bus.new }
-    ensures told { IfErr result (λ stop. (a : ℕ) → StopToldAt port a stop
+    requires port { IsAsked B.modelled (B.world bus.old) port }
+    ensures went { B.modelled ≡ true
+        → Went B.world B.trace (unaddressed_bound port) bus.old bus.new }
+    ensures told { B.modelled ≡ true → IfErr result (λ stop. (a : ℕ) → StopToldAt port a stop
         (B.world bus.old) (B.world bus.new)) }
-    ensures target { IfOk result (IsUnaddressed port) }
-    ensures within { (a : ℕ) → AtPort port a (B.world bus.old) (B.world bus.new) }
-    ensures device { MatchResult result
+    ensures target { MatchResult result (IsUnaddressed port) IsPlainStop }
+    ensures within { B.modelled ≡ true
+        → (a : ℕ) → AtPort port a (B.world bus.old) (B.world bus.new) }
+    ensures device { B.modelled ≡ true → MatchResult result
         (λ target. (a : ℕ) → Awaits target port a (B.world bus.old) (B.world bus.new))
         (λ stop. (a : ℕ) → StopsFairly early_fault port a stop
         (B.world bus.old) (B.world bus.new)) }
@@ -202,15 +213,17 @@ fn pass<B: Bus>(
     port: HubPort,
     address: u8,
 ) -> Result<Option<Addressed>, Stop>
-    requires port { IsPort (B.world bus.old) port }
+    requires port { IsAsked B.modelled (B.world bus.old) port }
     requires least { 1 ≤ address }
     requires most { address < 128 }
-    ensures went { Went B.world B.trace (pass_bound port) bus.old bus.new }
-    ensures told { MatchResult result
+    ensures went { B.modelled ≡ true → Went B.world B.trace (pass_bound port) bus.old bus.new }
+    ensures told { B.modelled ≡ true → MatchResult result
         (PassTold port address (B.world bus.old) (B.world bus.new))
         (λ stop. StopToldAt port address stop (B.world bus.old) (B.world bus.new)) }
-    ensures within { AtPort port address (B.world bus.old) (B.world bus.new) }
-    ensures taken { MatchResult result
+    ensures addressed { MatchResult result
+        (λ found. IfSome found (λ device. device.target.addr ≡ address)) IsPlainStop }
+    ensures within { B.modelled ≡ true → AtPort port address (B.world bus.old) (B.world bus.new) }
+    ensures taken { B.modelled ≡ true → MatchResult result
         (PassEnds port address (B.world bus.old) (B.world bus.new))
         (λ stop. StopsFairly addressed_fault port address stop
         (B.world bus.old) (B.world bus.new)) }
@@ -236,15 +249,16 @@ pub(crate) fn passes<B: Bus>(
     port: HubPort,
     address: u8,
 ) -> Result<Addressed, Stop>
-    requires port { IsPort (B.world bus.old) port }
+    requires port { IsAsked B.modelled (B.world bus.old) port }
     requires least { 1 ≤ address }
     requires most { address < 128 }
-    ensures went { Went B.world B.trace (3 * pass_bound port) bus.old bus.new }
-    ensures told { MatchResult result
+    ensures went { B.modelled ≡ true → Went B.world B.trace (3 * pass_bound port) bus.old bus.new }
+    ensures told { B.modelled ≡ true → MatchResult result
         (λ device. DescriptorRead device.target device.bytes (B.world bus.old) (B.world bus.new))
         (λ stop. StopToldAt port address stop (B.world bus.old) (B.world bus.new)) }
-    ensures within { AtPort port address (B.world bus.old) (B.world bus.new) }
-    ensures taken { MatchResult result
+    ensures addressed { MatchResult result (λ device. device.target.addr ≡ address) IsPlainStop }
+    ensures within { B.modelled ≡ true → AtPort port address (B.world bus.old) (B.world bus.new) }
+    ensures taken { B.modelled ≡ true → MatchResult result
         (HasTaken port address (B.world bus.old) (B.world bus.new))
         (λ stop. StopsFairly addressed_fault port address stop
         (B.world bus.old) (B.world bus.new)) }

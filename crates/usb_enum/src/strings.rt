@@ -1,5 +1,5 @@
 //! The strings of a device (9.6.7).
-ghost use Rattle.std.specs.Prelude.{◌≡◌, ◌≤◌, IfOk, IfErr, MatchResult};
+ghost use Rattle.std.specs.Prelude.{◌≡◌, ◌≤◌, true, IfOk, IfErr, MatchResult};
 ghost use Rattle.usb_bus.specs.Traces.{Went};
 ghost use Rattle.usb_transaction.specs.Transactions.{IsTarget};
 ghost use Rattle.usb_enum.specs.Bounds.{read_bound, strings_bound};
@@ -11,6 +11,7 @@ ghost use Rattle.usb_enum.specs.Reasons.{StopTold};
 ghost use Rattle.usb_enum.specs.StringRequests.{AsksString, AsksLanguage, ReadsString, ReadsStrings};
 ghost use Rattle.usb_enum.specs.Text.{first_language_of, string_units};
 ghost use Rattle.usb_enum.specs.Frames.{OnlyAsks};
+ghost use Rattle.usb_enum.specs.Stop.{IsPlainStop};
 
 use crate::StringUnits;
 use crate::stop::{Stop, stop_of};
@@ -92,17 +93,17 @@ fn string_bytes<B: Bus>(
 ) -> Result<Option<Vec<u8>>, Stop>
     requires target { IsTarget target }
     requires max { 8 ≤ target.max }
-    ensures went { Went B.world B.trace (read_bound 255) bus.old bus.new }
-    ensures told { IfErr result (λ stop. StopTold target stop
-        (B.world bus.old) (B.world bus.new)) }
-    ensures learned { MatchResult result
+    ensures went { B.modelled ≡ true → Went B.world B.trace (read_bound 255) bus.old bus.new }
+    ensures told { B.modelled ≡ true → MatchResult result (AsksString target index language
+        (B.world bus.old) (B.world bus.new))
+        (λ stop. StopTold target stop (B.world bus.old) (B.world bus.new)) }
+    ensures plain { IfErr result IsPlainStop }
+    ensures learned { B.modelled ≡ true → MatchResult result
         (λ bytes. Learns (AtMaximum target (HasString index bytes)) target
         (B.world bus.old) (B.world bus.new))
         (λ stop. Explains (Refuses target no_fault stop) target
         (B.world bus.old) (B.world bus.new)) }
-    ensures keeps { OnlyAsks (B.world bus.old) (B.world bus.new) }
-    ensures asked { IfOk result (AsksString target index language
-        (B.world bus.old) (B.world bus.new)) }
+    ensures keeps { B.modelled ≡ true → OnlyAsks (B.world bus.old) (B.world bus.new) }
 {
     match get_string(alloc, bus, target, index, language) {
         Ok(bytes) => Ok(Some(bytes)),
@@ -123,17 +124,17 @@ fn read_one<B: Bus>(
 ) -> Result<Option<StringUnits>, Stop>
     requires target { IsTarget target }
     requires max { 8 ≤ target.max }
-    ensures went { Went B.world B.trace (read_bound 255) bus.old bus.new }
-    ensures told { IfErr result (λ stop. StopTold target stop
-        (B.world bus.old) (B.world bus.new)) }
-    ensures learned { MatchResult result
+    ensures went { B.modelled ≡ true → Went B.world B.trace (read_bound 255) bus.old bus.new }
+    ensures told { B.modelled ≡ true → MatchResult result (ReadsString target index language
+        (B.world bus.old) (B.world bus.new))
+        (λ stop. StopTold target stop (B.world bus.old) (B.world bus.new)) }
+    ensures plain { IfErr result IsPlainStop }
+    ensures learned { B.modelled ≡ true → MatchResult result
         (λ string. Learns (AtMaximum target (λ spec. string ≡ string_in spec index)) target
         (B.world bus.old) (B.world bus.new))
         (λ stop. Explains (Refuses target no_fault stop) target
         (B.world bus.old) (B.world bus.new)) }
-    ensures keeps { OnlyAsks (B.world bus.old) (B.world bus.new) }
-    ensures asked { IfOk result (ReadsString target index language
-        (B.world bus.old) (B.world bus.new)) }
+    ensures keeps { B.modelled ≡ true → OnlyAsks (B.world bus.old) (B.world bus.new) }
 {
     if index == 0 {
         return Ok(None);
@@ -148,16 +149,17 @@ fn read_one<B: Bus>(
 fn language<B: Bus>(alloc: Global, bus: &mut B, target: Target) -> Result<Option<u16>, Stop>
     requires target { IsTarget target }
     requires max { 8 ≤ target.max }
-    ensures went { Went B.world B.trace (read_bound 255) bus.old bus.new }
-    ensures told { IfErr result (λ stop. StopTold target stop
-        (B.world bus.old) (B.world bus.new)) }
-    ensures learned { MatchResult result
+    ensures went { B.modelled ≡ true → Went B.world B.trace (read_bound 255) bus.old bus.new }
+    ensures told { B.modelled ≡ true
+        → MatchResult result (AsksLanguage target (B.world bus.old) (B.world bus.new))
+        (λ stop. StopTold target stop (B.world bus.old) (B.world bus.new)) }
+    ensures plain { IfErr result IsPlainStop }
+    ensures learned { B.modelled ≡ true → MatchResult result
         (λ language. Learns (AtMaximum target (λ spec. language ≡ language_of spec)) target
         (B.world bus.old) (B.world bus.new))
         (λ stop. Explains (Refuses target no_fault stop) target
         (B.world bus.old) (B.world bus.new)) }
-    ensures keeps { OnlyAsks (B.world bus.old) (B.world bus.new) }
-    ensures asked { IfOk result (AsksLanguage target (B.world bus.old) (B.world bus.new)) }
+    ensures keeps { B.modelled ≡ true → OnlyAsks (B.world bus.old) (B.world bus.new) }
 {
     match string_bytes(alloc, bus, target, 0, 0)? {
         Some(bytes) => Ok(first_language(bytes.as_slice())),
@@ -174,17 +176,17 @@ pub(crate) fn read_strings<B: Bus>(
 ) -> Result<Strings, Stop>
     requires target { IsTarget target }
     requires max { 8 ≤ target.max }
-    ensures went { Went B.world B.trace strings_bound bus.old bus.new }
-    ensures told { IfErr result (λ stop. StopTold target stop
-        (B.world bus.old) (B.world bus.new)) }
-    ensures learned { MatchResult result
+    ensures went { B.modelled ≡ true → Went B.world B.trace strings_bound bus.old bus.new }
+    ensures told { B.modelled ≡ true → MatchResult result (ReadsStrings target indexes
+        (B.world bus.old) (B.world bus.new))
+        (λ stop. StopTold target stop (B.world bus.old) (B.world bus.new)) }
+    ensures plain { IfErr result IsPlainStop }
+    ensures learned { B.modelled ≡ true → MatchResult result
         (λ strings. Learns (AtMaximum target (λ spec. strings ≡ strings_by spec indexes)) target
         (B.world bus.old) (B.world bus.new))
         (λ stop. Explains (Refuses target no_fault stop) target
         (B.world bus.old) (B.world bus.new)) }
-    ensures keeps { OnlyAsks (B.world bus.old) (B.world bus.new) }
-    ensures asked { IfOk result (ReadsStrings target indexes
-        (B.world bus.old) (B.world bus.new)) }
+    ensures keeps { B.modelled ≡ true → OnlyAsks (B.world bus.old) (B.world bus.new) }
 {
     if indexes.manufacturer == 0 && indexes.product == 0 && indexes.serial_number == 0 {
         return Ok(no_strings());

@@ -27,14 +27,14 @@ abbrev pub host_told : {A : Type 0} → Result A EndpointFault → Result A Host
 host_told (Ok done) = Ok done
 host_told (Err fault) = Err (endpoint_fault fault)
 
--- a fault that ends a part of a round: of the bus, which tells it, or of memory
-abbrev pub PartTold : HostFault → World → Type 0
-PartTold Stopped w = ⊥
-PartTold NoDevice w = ⊥
-PartTold NoEndpoint w = ⊥
-PartTold (Pipe fault) w = ⊥
-PartTold (Bus fault) w = Failed fault w
-PartTold Memory w = ⊤
+-- a fault that ends a part of a round: of the bus, which tells it where it does what its world does, or of memory
+abbrev pub PartTold : Bool → HostFault → World → Type 0
+PartTold modelled Stopped w = ⊥
+PartTold modelled NoDevice w = ⊥
+PartTold modelled NoEndpoint w = ⊥
+PartTold modelled (Pipe fault) w = ⊥
+PartTold modelled (Bus fault) w = modelled ≡ true → Failed fault w
+PartTold modelled Memory w = ⊤
 
 -- a fault of a whole round
 abbrev pub RoundTold : HostFault → World → Type 0

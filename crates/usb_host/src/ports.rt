@@ -48,7 +48,7 @@ impl<B: Bus> Host<B> {
         requires port { B.modelled ≡ true → IsRootPort self.old.world number }
         requires number { IsPortNumber number }
         ensures goes { B.modelled ≡ true → HostGoes handling_bound self.old self.new }
-        ensures told { B.modelled ≡ true → IfErr result (λ fault. PartTold fault self.new.world) }
+        ensures told { IfErr result (λ fault. PartTold B.modelled fault self.new.world) }
         ensures handles { B.modelled ≡ true → HandlesPort (number ∷ [])
             ((root_port_at self.old.world number).connection_changed ≡ true)
             self.old result self.new }
@@ -68,7 +68,7 @@ impl<B: Bus> Host<B> {
     pub(crate) fn handle_below(&mut self, hub: &PortPath, number: u8) -> Result<Round, HostFault>
         requires { IsPath hub.now }
         ensures goes { B.modelled ≡ true → HostGoes handling_bound self.old self.new }
-        ensures told { B.modelled ≡ true → IfErr result (λ fault. PartTold fault self.new.world) }
+        ensures told { IfErr result (λ fault. PartTold B.modelled fault self.new.world) }
         ensures handles { B.modelled ≡ true
             → HandlesNumber hub.now number self.old result self.new }
         ensures owned { B.modelled ≡ true → KeepsOwned self.old result self.new }
@@ -90,7 +90,7 @@ impl<B: Bus> Host<B> {
         requires { Waits path.now self.old }
         ensures path { IsPath path.now }
         ensures goes { B.modelled ≡ true → HostGoes handling_bound self.old self.new }
-        ensures told { B.modelled ≡ true → IfErr result (λ fault. PartTold fault self.new.world) }
+        ensures told { IfErr result (λ fault. PartTold B.modelled fault self.new.world) }
         ensures looks { B.modelled ≡ true
             → IfOk result (λ round. LooksOnceMore path.now round self.old self.new) }
         ensures keeps { B.modelled ≡ true → PartKeeps self.old result self.new }
@@ -123,7 +123,7 @@ impl<B: Bus> Host<B> {
     fn handle(&mut self, path: &PortPath, port: KnownPort) -> Result<(), HostFault>
         requires { IsPortAt B.modelled path.now port self.old }
         ensures goes { B.modelled ≡ true → HostGoes handling_bound self.old self.new }
-        ensures told { B.modelled ≡ true → IfErr result (λ fault. PartTold fault self.new.world) }
+        ensures told { IfErr result (λ fault. PartTold B.modelled fault self.new.world) }
         ensures handles { B.modelled ≡ true
             → HandlesPort path.now (IsDue self.old.world port.port) self.old result self.new }
         ensures owned { B.modelled ≡ true → KeepsOwned self.old result self.new }
@@ -137,7 +137,7 @@ impl<B: Bus> Host<B> {
     fn finish(&mut self, path: &PortPath, served: Result<(), EnumFault>) -> Result<(), HostFault>
         requires { B.modelled ≡ true → IfErr served (λ fault. Broke path.now fault self.old.world) }
         ensures goes { B.modelled ≡ true → HostGoes drop_bound self.old self.new }
-        ensures told { B.modelled ≡ true → IfErr result (λ fault. PartTold fault self.new.world) }
+        ensures told { IfErr result (λ fault. PartTold B.modelled fault self.new.world) }
         ensures holds { B.modelled ≡ true → AddsNoWork self.old self.new }
         ensures ends { EndsAs served result }
         ensures finishes { B.modelled ≡ true → FinishesAt path.now served self.old result self.new }
@@ -275,7 +275,7 @@ impl<B: Bus> Host<B> {
     /// it is listed as lost. Where its port cannot be disabled, its own hub is dropped in its place.
     pub(crate) fn drop_hub(&mut self, hub: PortPath) -> Result<(), HostFault>
         ensures goes { B.modelled ≡ true → HostGoes drop_bound self.old self.new }
-        ensures told { B.modelled ≡ true → IfErr result (λ fault. PartTold fault self.new.world) }
+        ensures told { IfErr result (λ fault. PartTold B.modelled fault self.new.world) }
         ensures counts { B.modelled ≡ true → DropsOne hub self.old result self.new }
         ensures owned { B.modelled ≡ true → DropsHub hub self.old result self.new }
         ensures sound { B.modelled ≡ true → DropsSound hub self.old result self.new }
@@ -290,7 +290,7 @@ impl<B: Bus> Host<B> {
     /// Disables the port at a path, or the nearest one above it that can be disabled.
     fn disable_upward(&mut self, first: PortPath) -> Result<PortPath, HostFault>
         ensures goes { B.modelled ≡ true → HostGoes drop_bound self.old self.new }
-        ensures told { B.modelled ≡ true → IfErr result (λ fault. PartTold fault self.new.world) }
+        ensures told { IfErr result (λ fault. PartTold B.modelled fault self.new.world) }
         ensures rests { Rests self.old self.new }
         ensures known { IfOk result (λ path. IsSome (known_port path self.old.entries)) }
         ensures climbs { B.modelled ≡ true → Climbs first self.old result self.new }
@@ -312,7 +312,7 @@ impl<B: Bus> Host<B> {
     /// Disables the port at a path, and says whether it could.
     fn disable(&mut self, path: &PortPath) -> Result<bool, HostFault>
         ensures goes { B.modelled ≡ true → HostGoes write_bound self.old self.new }
-        ensures told { B.modelled ≡ true → IfErr result (λ fault. PartTold fault self.new.world) }
+        ensures told { IfErr result (λ fault. PartTold B.modelled fault self.new.world) }
         ensures rests { Rests self.old self.new }
         ensures known { IfOk result (λ done. IsTrue done
             → IsSome (known_port path.now self.old.entries)) }

@@ -37,7 +37,7 @@ impl<B: Bus> Host<B> {
     #[tactic(auto, using(crate::proofs::Owners::stays_then, crate::proofs::Owners::single_then))]
     pub(crate) fn parts(&mut self) -> Result<Round, HostFault>
         ensures goes { B.modelled ≡ true → HostGoes round_bound self.old self.new }
-        ensures told { B.modelled ≡ true → IfErr result (λ fault. PartTold fault self.new.world) }
+        ensures told { IfErr result (λ fault. PartTold B.modelled fault self.new.world) }
         ensures did { B.modelled ≡ true → IfOk result (λ round. Did round self.old self.new) }
         ensures parts { B.modelled ≡ true → WentByParts self.old result self.new }
         ensures keeps { B.modelled ≡ true → PartsKeep self.old result self.new }
@@ -52,7 +52,7 @@ impl<B: Bus> Host<B> {
     #[tactic(auto, using(crate::proofs::Owners::single_then))]
     fn serve_roots(&mut self) -> Result<Round, HostFault>
         ensures goes { B.modelled ≡ true → HostGoes roots_bound self.old self.new }
-        ensures told { B.modelled ≡ true → IfErr result (λ fault. PartTold fault self.new.world) }
+        ensures told { IfErr result (λ fault. PartTold B.modelled fault self.new.world) }
         ensures did { B.modelled ≡ true → IfOk result (λ round. Did round self.old self.new) }
         ensures roots { B.modelled ≡ true → ServesEach self.old result self.new }
         ensures keeps { B.modelled ≡ true → PartKeeps self.old result self.new }
@@ -71,7 +71,7 @@ impl<B: Bus> Host<B> {
     /// Polls each hub that is known, by rising path, and handles the ports of which it tells.
     fn serve_hubs(&mut self) -> Result<Round, HostFault>
         ensures goes { B.modelled ≡ true → HostGoes hubs_bound self.old self.new }
-        ensures told { B.modelled ≡ true → IfErr result (λ fault. PartTold fault self.new.world) }
+        ensures told { IfErr result (λ fault. PartTold B.modelled fault self.new.world) }
         ensures did { B.modelled ≡ true → IfOk result (λ round. Did round self.old self.new) }
         ensures keeps { B.modelled ≡ true → HubsKeep self.old result self.new }
         ensures polls { B.modelled ≡ true → ServesHubs self.old result self.new }
@@ -90,7 +90,7 @@ impl<B: Bus> Host<B> {
         requires { IsSome (hub_facts_at hub.now self.old.entries) }
         ensures path { IsPath hub.now }
         ensures goes { B.modelled ≡ true → HostGoes hub_poll_bound self.old self.new }
-        ensures told { B.modelled ≡ true → IfErr result (λ fault. PartTold fault self.new.world) }
+        ensures told { IfErr result (λ fault. PartTold B.modelled fault self.new.world) }
         ensures polls { B.modelled ≡ true → ServesHub hub.now self.old result self.new }
         ensures keeps { B.modelled ≡ true → HubKeeps hub.now self.old result self.new }
     {
@@ -115,7 +115,7 @@ impl<B: Bus> Host<B> {
     fn serve_told(&mut self, hub: &PortPath, bits: u8) -> Result<(), HostFault>
         requires { IsPath hub.now }
         ensures goes { B.modelled ≡ true → HostGoes told_bound self.old self.new }
-        ensures told { B.modelled ≡ true → IfErr result (λ fault. PartTold fault self.new.world) }
+        ensures told { IfErr result (λ fault. PartTold B.modelled fault self.new.world) }
         ensures holds { B.modelled ≡ true → OnOk result (AddsNoWork self.old self.new) }
         ensures keeps { B.modelled ≡ true → PartKeeps self.old result self.new }
         ensures serves { B.modelled ≡ true → ServesTold hub.now bits self.old result self.new }
@@ -131,7 +131,7 @@ impl<B: Bus> Host<B> {
     /// Looks again at each device that waits for an address, by rising path, while one is free.
     fn look_again(&mut self) -> Result<Round, HostFault>
         ensures goes { B.modelled ≡ true → HostGoes looks_bound self.old self.new }
-        ensures told { B.modelled ≡ true → IfErr result (λ fault. PartTold fault self.new.world) }
+        ensures told { IfErr result (λ fault. PartTold B.modelled fault self.new.world) }
         ensures did { B.modelled ≡ true → IfOk result (λ round. Did round self.old self.new) }
         ensures keeps { B.modelled ≡ true → LooksKeep self.old result self.new }
         ensures looks { B.modelled ≡ true

@@ -1,5 +1,5 @@
 //! The two shapes of a request: one that is answered with data, and one without.
-ghost use Rattle.std.specs.Prelude.{◌≡◌, ◌≤◌};
+ghost use Rattle.std.specs.Prelude.{◌≡◌, ◌≤◌, true};
 ghost use Rattle.usb_transaction.specs.Transactions.{IsTarget};
 ghost use Rattle.usb_request.specs.Layout.{IsToHost, IsToDevice};
 ghost use Rattle.usb_pipe.specs.Control.{control_bound, write_bound};
@@ -26,9 +26,12 @@ pub(crate) fn ask<B: Bus>(
     requires target { IsTarget target }
     requires reads { IsToHost setup }
     requires some { 1 ≤ setup.length }
-    ensures went { Went B.world B.trace (control_bound target.max setup.length) bus.old bus.new }
-    ensures asked { AskedData target setup (B.world bus.old) result (B.world bus.new) }
-    ensures addresses { KeepsAnswered target.addr (B.world bus.old) result (B.world bus.new) }
+    ensures went { B.modelled ≡ true
+        → Went B.world B.trace (control_bound target.max setup.length) bus.old bus.new }
+    ensures asked { B.modelled ≡ true
+        → AskedData target setup (B.world bus.old) result (B.world bus.new) }
+    ensures addresses { B.modelled ≡ true
+        → KeepsAnswered target.addr (B.world bus.old) result (B.world bus.new) }
 {
     control_in(alloc, bus, target, setup)
 }
@@ -48,9 +51,11 @@ pub(crate) fn ask_all<B: Bus, const N: usize>(
     requires reads { IsToHost setup }
     requires some { 1 ≤ setup.length }
     requires size { setup.length ≡ N }
-    ensures went { Went B.world B.trace (control_bound target.max setup.length) bus.old bus.new }
-    ensures told { Told (λ bytes. bytes) target setup (B.world bus.old) result (B.world bus.new) }
-    ensures keeps { KeepsAddresses (B.world bus.old) (B.world bus.new) }
+    ensures went { B.modelled ≡ true
+        → Went B.world B.trace (control_bound target.max setup.length) bus.old bus.new }
+    ensures told { B.modelled ≡ true
+        → Told (λ bytes. bytes) target setup (B.world bus.old) result (B.world bus.new) }
+    ensures keeps { B.modelled ≡ true → KeepsAddresses (B.world bus.old) (B.world bus.new) }
 {
     let answer = ask(alloc, bus, target, setup)?;
     match answer.as_slice().try_into() {
@@ -68,8 +73,9 @@ pub(crate) fn order<B: Bus>(bus: &mut B, target: Target, setup: Setup) -> Result
     requires target { IsTarget target }
     requires writes { IsToDevice setup }
     requires none { setup.length ≡ 0 }
-    ensures went { Went B.world B.trace write_bound bus.old bus.new }
-    ensures ordered { Ordered target setup (B.world bus.old) result (B.world bus.new) }
+    ensures went { B.modelled ≡ true → Went B.world B.trace write_bound bus.old bus.new }
+    ensures ordered { B.modelled ≡ true
+        → Ordered target setup (B.world bus.old) result (B.world bus.new) }
 {
     control_none(bus, target, setup)
 }

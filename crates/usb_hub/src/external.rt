@@ -1,5 +1,5 @@
 //! The ports of a hub, asked of the hub (11.24.2).
-ghost use Rattle.std.specs.Prelude.{◌≢◌};
+ghost use Rattle.std.specs.Prelude.{◌≢◌, ◌≡◌, true};
 ghost use Rattle.usb_transaction.specs.Transactions.{IsTarget};
 ghost use Rattle.usb_port.specs.Status.{status_in};
 ghost use Rattle.usb_request.specs.declared.feature.TheConstants.{PORT_RESET};
@@ -27,11 +27,12 @@ pub fn hub_port_status<B: Bus>(
     port: u8,
 ) -> Result<PortStatus, PipeFault>
     requires { IsTarget hub }
-    ensures went { Went B.world B.trace (control_bound hub.max 4) bus.old bus.new }
-    ensures told { Told status_in hub (get_port_status port)
+    ensures went { B.modelled ≡ true
+        → Went B.world B.trace (control_bound hub.max 4) bus.old bus.new }
+    ensures told { B.modelled ≡ true → Told status_in hub (get_port_status port)
         (B.world bus.old) result (B.world bus.new) }
-    ensures keeps { KeepsAddresses (B.world bus.old) (B.world bus.new) }
-    ensures devices { KeepsDevices (B.world bus.old) (B.world bus.new) }
+    ensures keeps { B.modelled ≡ true → KeepsAddresses (B.world bus.old) (B.world bus.new) }
+    ensures devices { B.modelled ≡ true → KeepsDevices (B.world bus.old) (B.world bus.new) }
 {
     let bytes = ask_all(alloc, bus, hub, Setup::get_port_status(port))?;
     Ok(PortStatus::from_bytes(bytes))
@@ -50,11 +51,13 @@ pub fn set_hub_port<B: Bus>(
     feature: u16,
 ) -> Result<(), PipeFault>
     requires { IsTarget hub }
-    ensures went { Went B.world B.trace write_bound bus.old bus.new }
-    ensures ordered { Ordered hub (set_feature feature port)
+    ensures went { B.modelled ≡ true → Went B.world B.trace write_bound bus.old bus.new }
+    ensures ordered { B.modelled ≡ true → Ordered hub (set_feature feature port)
         (B.world bus.old) result (B.world bus.new) }
-    ensures keeps { feature ≢ PORT_RESET → KeepsAddresses (B.world bus.old) (B.world bus.new) }
-    ensures devices { feature ≢ PORT_RESET → KeepsDevices (B.world bus.old) (B.world bus.new) }
+    ensures keeps { B.modelled ≡ true
+        → feature ≢ PORT_RESET → KeepsAddresses (B.world bus.old) (B.world bus.new) }
+    ensures devices { B.modelled ≡ true
+        → feature ≢ PORT_RESET → KeepsDevices (B.world bus.old) (B.world bus.new) }
 {
     order(bus, hub, Setup::set_port_feature(feature, port))
 }
@@ -72,11 +75,11 @@ pub fn clear_hub_port<B: Bus>(
     feature: u16,
 ) -> Result<(), PipeFault>
     requires { IsTarget hub }
-    ensures went { Went B.world B.trace write_bound bus.old bus.new }
-    ensures ordered { Ordered hub (clear_feature feature port)
+    ensures went { B.modelled ≡ true → Went B.world B.trace write_bound bus.old bus.new }
+    ensures ordered { B.modelled ≡ true → Ordered hub (clear_feature feature port)
         (B.world bus.old) result (B.world bus.new) }
-    ensures keeps { KeepsAddresses (B.world bus.old) (B.world bus.new) }
-    ensures devices { KeepsDevices (B.world bus.old) (B.world bus.new) }
+    ensures keeps { B.modelled ≡ true → KeepsAddresses (B.world bus.old) (B.world bus.new) }
+    ensures devices { B.modelled ≡ true → KeepsDevices (B.world bus.old) (B.world bus.new) }
 {
     order(bus, hub, Setup::clear_port_feature(feature, port))
 }

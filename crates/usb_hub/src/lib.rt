@@ -2,6 +2,8 @@
 //!
 //! # What is proved
 //!
+//! What a call tells is said of a bus that does what its world does (`modelled` of `usb_bus::Bus`).
+//!
 //! Each typed call makes its own request, with the length, index, language, address or value that it was given, and
 //! says which stages that request went through (the *stages* of usb_pipe); it makes at most as many attempts as its
 //! control transfer, and answers at most as many bytes; `port_status`, `set_port` and `clear_port` have one contract

@@ -1,11 +1,11 @@
 //! The ports of hubs, the root's among them.
-ghost use Rattle.std.specs.Prelude.{IfErr};
+ghost use Rattle.std.specs.Prelude.{IfErr, ◌≡◌, true};
 ghost use Rattle.usb_port.specs.Calls.{set_call, clear_call, IsSetFeature, IsClearFeature};
 ghost use Rattle.usb_bus.specs.Traces.{Went};
 ghost use Rattle.usb_pipe.specs.Control.{FaultAfter};
 ghost use Rattle.usb_hub.specs.Addresses.{KeepsAsked, KeepsSet, KeepsCleared};
 ghost use Rattle.usb_hub.specs.Moments.{TellsPort, CallsPort};
-ghost use Rattle.usb_hub.specs.Port.{IsPort, PortRead, SetWent, PortSet, PortCleared, status_bound, order_bound};
+ghost use Rattle.usb_hub.specs.Port.{IsAsked, PortRead, SetWent, PortSet, PortCleared, status_bound, order_bound};
 
 use crate::external::{clear_hub_port, hub_port_status, set_hub_port};
 use crate::{PipeFault, PortStatus};
@@ -37,12 +37,14 @@ pub fn port_status<B: Bus>(
     bus: &mut B,
     port: HubPort,
 ) -> Result<PortStatus, PipeFault>
-    requires { IsPort (B.world bus.old) port }
-    ensures went { Went B.world B.trace (status_bound port) bus.old bus.new }
-    ensures fault { IfErr result (λ fault. FaultAfter 1 (B.world bus.old) fault (B.world bus.new)) }
-    ensures status { PortRead port (B.world bus.old) result (B.world bus.new) }
-    ensures told { TellsPort port (B.world bus.old) result (B.world bus.new) }
-    ensures addresses { KeepsAsked port (B.world bus.old) result (B.world bus.new) }
+    requires { IsAsked B.modelled (B.world bus.old) port }
+    ensures went { B.modelled ≡ true → Went B.world B.trace (status_bound port) bus.old bus.new }
+    ensures fault { B.modelled ≡ true
+        → IfErr result (λ fault. FaultAfter 1 (B.world bus.old) fault (B.world bus.new)) }
+    ensures status { B.modelled ≡ true → PortRead port (B.world bus.old) result (B.world bus.new) }
+    ensures told { B.modelled ≡ true → TellsPort port (B.world bus.old) result (B.world bus.new) }
+    ensures addresses { B.modelled ≡ true
+        → KeepsAsked port (B.world bus.old) result (B.world bus.new) }
 {
     match port {
         HubPort::Root(number) => Ok(PortStatus::from_bytes(bus.root_status(number))),
@@ -58,15 +60,19 @@ pub fn port_status<B: Bus>(
 /// feature may be set.
 #[tactic(auto, using(crate::proofs::AddressesKept::root_set_keeps, crate::proofs::AddressesKept::hub_set_keeps))]
 pub fn set_port<B: Bus>(bus: &mut B, port: HubPort, feature: u16) -> Result<(), PipeFault>
-    requires port { IsPort (B.world bus.old) port }
+    requires port { IsAsked B.modelled (B.world bus.old) port }
     requires named { IsSetFeature feature }
     // PORT_POWER of a root port may set its C_PORT_CONNECTION.
-    ensures went { SetWent port feature (B.world bus.old) (B.trace bus.old)
+    ensures went { B.modelled ≡ true → SetWent port feature (B.world bus.old) (B.trace bus.old)
         (B.world bus.new) (B.trace bus.new) }
-    ensures fault { IfErr result (λ fault. FaultAfter 1 (B.world bus.old) fault (B.world bus.new)) }
-    ensures effect { PortSet port feature (B.world bus.old) result (B.world bus.new) }
-    ensures addresses { KeepsSet port feature (B.world bus.old) (B.world bus.new) }
-    ensures ports { CallsPort port (set_call feature) (B.world bus.old) result (B.world bus.new) }
+    ensures fault { B.modelled ≡ true
+        → IfErr result (λ fault. FaultAfter 1 (B.world bus.old) fault (B.world bus.new)) }
+    ensures effect { B.modelled ≡ true
+        → PortSet port feature (B.world bus.old) result (B.world bus.new) }
+    ensures addresses { B.modelled ≡ true
+        → KeepsSet port feature (B.world bus.old) (B.world bus.new) }
+    ensures ports { B.modelled ≡ true
+        → CallsPort port (set_call feature) (B.world bus.old) result (B.world bus.new) }
 {
     match port {
         HubPort::Root(number) => {
@@ -85,13 +91,17 @@ pub fn set_port<B: Bus>(bus: &mut B, port: HubPort, feature: u16) -> Result<(), 
 /// feature may be cleared.
 #[tactic(auto, using(crate::proofs::AddressesKept::hub_clear_keeps))]
 pub fn clear_port<B: Bus>(bus: &mut B, port: HubPort, feature: u16) -> Result<(), PipeFault>
-    requires port { IsPort (B.world bus.old) port }
+    requires port { IsAsked B.modelled (B.world bus.old) port }
     requires named { IsClearFeature feature }
-    ensures went { Went B.world B.trace (order_bound port) bus.old bus.new }
-    ensures fault { IfErr result (λ fault. FaultAfter 1 (B.world bus.old) fault (B.world bus.new)) }
-    ensures effect { PortCleared port feature (B.world bus.old) result (B.world bus.new) }
-    ensures addresses { KeepsCleared port feature (B.world bus.old) result (B.world bus.new) }
-    ensures ports { CallsPort port (clear_call feature) (B.world bus.old) result (B.world bus.new) }
+    ensures went { B.modelled ≡ true → Went B.world B.trace (order_bound port) bus.old bus.new }
+    ensures fault { B.modelled ≡ true
+        → IfErr result (λ fault. FaultAfter 1 (B.world bus.old) fault (B.world bus.new)) }
+    ensures effect { B.modelled ≡ true
+        → PortCleared port feature (B.world bus.old) result (B.world bus.new) }
+    ensures addresses { B.modelled ≡ true
+        → KeepsCleared port feature (B.world bus.old) result (B.world bus.new) }
+    ensures ports { B.modelled ≡ true
+        → CallsPort port (clear_call feature) (B.world bus.old) result (B.world bus.new) }
 {
     match port {
         HubPort::Root(number) => {

@@ -1,5 +1,5 @@
 //! The standard's requests to a device (9.4).
-ghost use Rattle.std.specs.Prelude.{◌≡◌, ◌≤◌, false};
+ghost use Rattle.std.specs.Prelude.{◌≡◌, ◌≤◌, false, true};
 ghost use Rattle.usb_bus.specs.Traces.{Went};
 ghost use Rattle.usb_world.specs.Devices.{EachWas};
 ghost use Rattle.usb_request.specs.Codes.{HUB_LENGTH};
@@ -32,15 +32,17 @@ pub fn get_device<B: Bus>(
 ) -> Result<Vec<u8>, PipeFault>
     requires target { IsTarget target }
     requires some { 1 ≤ length }
-    ensures went { Went B.world B.trace (control_bound target.max length) bus.old bus.new }
-    ensures asked { AskedData target (get_device_descriptor length)
+    ensures went { B.modelled ≡ true
+        → Went B.world B.trace (control_bound target.max length) bus.old bus.new }
+    ensures asked { B.modelled ≡ true → AskedData target (get_device_descriptor length)
         (B.world bus.old) result (B.world bus.new) }
-    ensures what { (B.world bus.new).shared ≡ false
+    ensures what { B.modelled ≡ true → (B.world bus.new).shared ≡ false
         → EachWas (DeviceAsked target length result) (B.world bus.old) (B.world bus.new) }
-    ensures why { NoThreeDamaged (B.world bus.old) → 8 ≤ target.max
+    ensures why { B.modelled ≡ true → NoThreeDamaged (B.world bus.old) → 8 ≤ target.max
         → (B.world bus.new).shared ≡ false
         → EachWas (WhyAsked target length result) (B.world bus.old) (B.world bus.new) }
-    ensures addresses { KeepsAnswered target.addr (B.world bus.old) result (B.world bus.new) }
+    ensures addresses { B.modelled ≡ true
+        → KeepsAnswered target.addr (B.world bus.old) result (B.world bus.new) }
 {
     ask(alloc, bus, target, Setup::get_device_descriptor(length))
 }
@@ -60,15 +62,16 @@ pub fn get_config<B: Bus>(
 ) -> Result<Vec<u8>, PipeFault>
     requires target { IsTarget target }
     requires some { 1 ≤ length }
-    ensures went { Went B.world B.trace (control_bound target.max length) bus.old bus.new }
-    ensures asked { AskedData target (get_configuration_descriptor index length)
+    ensures went { B.modelled ≡ true
+        → Went B.world B.trace (control_bound target.max length) bus.old bus.new }
+    ensures asked { B.modelled ≡ true → AskedData target (get_configuration_descriptor index length)
         (B.world bus.old) result (B.world bus.new) }
-    ensures what { (B.world bus.new).shared ≡ false
+    ensures what { B.modelled ≡ true → (B.world bus.new).shared ≡ false
         → EachWas (ConfigAsked target index length result) (B.world bus.old) (B.world bus.new) }
-    ensures why { NoThreeDamaged (B.world bus.old) → 8 ≤ target.max
+    ensures why { B.modelled ≡ true → NoThreeDamaged (B.world bus.old) → 8 ≤ target.max
         → (B.world bus.new).shared ≡ false
         → EachWas (WhyAsked target length result) (B.world bus.old) (B.world bus.new) }
-    ensures keeps { KeepsAddresses (B.world bus.old) (B.world bus.new) }
+    ensures keeps { B.modelled ≡ true → KeepsAddresses (B.world bus.old) (B.world bus.new) }
 {
     ask(
         alloc,
@@ -92,15 +95,16 @@ pub fn get_string<B: Bus>(
     language: u16,
 ) -> Result<Vec<u8>, PipeFault>
     requires target { IsTarget target }
-    ensures went { Went B.world B.trace (control_bound target.max 255) bus.old bus.new }
-    ensures asked { AskedData target (get_string_descriptor index language)
+    ensures went { B.modelled ≡ true
+        → Went B.world B.trace (control_bound target.max 255) bus.old bus.new }
+    ensures asked { B.modelled ≡ true → AskedData target (get_string_descriptor index language)
         (B.world bus.old) result (B.world bus.new) }
-    ensures what { (B.world bus.new).shared ≡ false
+    ensures what { B.modelled ≡ true → (B.world bus.new).shared ≡ false
         → EachWas (StringAsked target index result) (B.world bus.old) (B.world bus.new) }
-    ensures why { NoThreeDamaged (B.world bus.old) → 8 ≤ target.max
+    ensures why { B.modelled ≡ true → NoThreeDamaged (B.world bus.old) → 8 ≤ target.max
         → (B.world bus.new).shared ≡ false
         → EachWas (WhyAsked target 255 result) (B.world bus.old) (B.world bus.new) }
-    ensures keeps { KeepsAddresses (B.world bus.old) (B.world bus.new) }
+    ensures keeps { B.modelled ≡ true → KeepsAddresses (B.world bus.old) (B.world bus.new) }
 {
     ask(
         alloc,
@@ -121,14 +125,16 @@ pub fn hub_descriptor<B: Bus>(
     target: Target,
 ) -> Result<Vec<u8>, PipeFault>
     requires { IsTarget target }
-    ensures went { Went B.world B.trace (control_bound target.max HUB_LENGTH) bus.old bus.new }
-    ensures asked { AskedData target get_hub_descriptor (B.world bus.old) result (B.world bus.new) }
-    ensures what { (B.world bus.new).shared ≡ false
+    ensures went { B.modelled ≡ true
+        → Went B.world B.trace (control_bound target.max HUB_LENGTH) bus.old bus.new }
+    ensures asked { B.modelled ≡ true
+        → AskedData target get_hub_descriptor (B.world bus.old) result (B.world bus.new) }
+    ensures what { B.modelled ≡ true → (B.world bus.new).shared ≡ false
         → EachWas (HubAsked target result) (B.world bus.old) (B.world bus.new) }
-    ensures why { NoThreeDamaged (B.world bus.old) → 8 ≤ target.max
+    ensures why { B.modelled ≡ true → NoThreeDamaged (B.world bus.old) → 8 ≤ target.max
         → (B.world bus.new).shared ≡ false
         → EachWas (WhyAsked target HUB_LENGTH result) (B.world bus.old) (B.world bus.new) }
-    ensures keeps { KeepsAddresses (B.world bus.old) (B.world bus.new) }
+    ensures keeps { B.modelled ≡ true → KeepsAddresses (B.world bus.old) (B.world bus.new) }
 {
     ask(alloc, bus, target, Setup::get_hub_descriptor())
 }
@@ -144,15 +150,16 @@ pub fn get_status<B: Bus>(
     target: Target,
 ) -> Result<DeviceStatus, PipeFault>
     requires { IsTarget target }
-    ensures went { Went B.world B.trace (control_bound target.max 2) bus.old bus.new }
-    ensures told { Told device_status target status_request
+    ensures went { B.modelled ≡ true
+        → Went B.world B.trace (control_bound target.max 2) bus.old bus.new }
+    ensures told { B.modelled ≡ true → Told device_status target status_request
         (B.world bus.old) result (B.world bus.new) }
-    ensures what { (B.world bus.new).shared ≡ false
+    ensures what { B.modelled ≡ true → (B.world bus.new).shared ≡ false
         → EachWas (StatusAsked target result) (B.world bus.old) (B.world bus.new) }
-    ensures why { NoThreeDamaged (B.world bus.old) → 8 ≤ target.max
+    ensures why { B.modelled ≡ true → NoThreeDamaged (B.world bus.old) → 8 ≤ target.max
         → (B.world bus.new).shared ≡ false
         → EachWas (WhyAsked target 2 result) (B.world bus.old) (B.world bus.new) }
-    ensures keeps { KeepsAddresses (B.world bus.old) (B.world bus.new) }
+    ensures keeps { B.modelled ≡ true → KeepsAddresses (B.world bus.old) (B.world bus.new) }
 {
     let bytes = ask_all(alloc, bus, target, Setup::get_status())?;
     Ok(DeviceStatus::from_bytes(bytes))
@@ -169,15 +176,17 @@ pub fn set_address<B: Bus>(bus: &mut B, target: Target, address: u8) -> Result<(
     requires target { IsTarget target }
     requires least { 1 ≤ address }
     requires most { address ≤ 127 }
-    ensures went { Went B.world B.trace write_bound bus.old bus.new }
-    ensures ordered { Ordered target (address_request address)
+    ensures went { B.modelled ≡ true → Went B.world B.trace write_bound bus.old bus.new }
+    ensures ordered { B.modelled ≡ true → Ordered target (address_request address)
         (B.world bus.old) result (B.world bus.new) }
-    ensures what { (B.world bus.new).shared ≡ false
+    ensures what { B.modelled ≡ true → (B.world bus.new).shared ≡ false
         → EachWas (AddressAsked target address result (B.world bus.old) (B.world bus.new))
         (B.world bus.old) (B.world bus.new) }
-    ensures why { NoThreeDamaged (B.world bus.old) → (B.world bus.new).shared ≡ false
+    ensures why { B.modelled ≡ true
+        → NoThreeDamaged (B.world bus.old) → (B.world bus.new).shared ≡ false
         → EachWas (WhyWrite target result) (B.world bus.old) (B.world bus.new) }
-    ensures gives { GivesAddress target.addr address (B.world bus.old) (B.world bus.new) }
+    ensures gives { B.modelled ≡ true
+        → GivesAddress target.addr address (B.world bus.old) (B.world bus.new) }
 {
     order(bus, target, Setup::set_address(address))
 }
@@ -191,15 +200,16 @@ pub fn set_address<B: Bus>(bus: &mut B, target: Target, address: u8) -> Result<(
 #[tactic(auto, using(crate::proofs::AddressesKept::configured))]
 pub fn set_configuration<B: Bus>(bus: &mut B, target: Target, value: u8) -> Result<(), PipeFault>
     requires target { IsTarget target }
-    ensures went { Went B.world B.trace write_bound bus.old bus.new }
-    ensures ordered { Ordered target (configuration_request value)
+    ensures went { B.modelled ≡ true → Went B.world B.trace write_bound bus.old bus.new }
+    ensures ordered { B.modelled ≡ true → Ordered target (configuration_request value)
         (B.world bus.old) result (B.world bus.new) }
-    ensures what { (B.world bus.new).shared ≡ false
+    ensures what { B.modelled ≡ true → (B.world bus.new).shared ≡ false
         → EachWas (ConfigurationAsked target value result (B.world bus.new))
         (B.world bus.old) (B.world bus.new) }
-    ensures why { NoThreeDamaged (B.world bus.old) → (B.world bus.new).shared ≡ false
+    ensures why { B.modelled ≡ true
+        → NoThreeDamaged (B.world bus.old) → (B.world bus.new).shared ≡ false
         → EachWas (WhyWrite target result) (B.world bus.old) (B.world bus.new) }
-    ensures keeps { KeepsAddresses (B.world bus.old) (B.world bus.new) }
+    ensures keeps { B.modelled ≡ true → KeepsAddresses (B.world bus.old) (B.world bus.new) }
 {
     order(bus, target, Setup::set_configuration(value))
 }

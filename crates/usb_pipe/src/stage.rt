@@ -1,5 +1,5 @@
 //! The data stage of a control transfer that reads.
-ghost use Rattle.std.specs.Prelude.{◌≡◌, ◌-◌, ◌+◌, ◌*◌, ◌<◌, ◌≤◌, ◌++◌, take, length, OnOk, IfOk, MatchResult};
+ghost use Rattle.std.specs.Prelude.{◌≡◌, ◌-◌, ◌+◌, ◌*◌, ◌<◌, ◌≤◌, ◌++◌, take, length, OnOk, IfOk, MatchResult, true};
 ghost use Rattle.usb_bus.specs.Traces.{Went};
 ghost use Rattle.usb_world.specs.AttemptPackets.{IsSettled};
 ghost use Rattle.usb_transaction.specs.Transactions.{IsTarget, Worked, transaction_bound};
@@ -21,12 +21,14 @@ pub(crate) fn data_stage<B: Bus>(
 ) -> Result<Vec<u8>, PipeFault>
     requires target { IsTarget target }
     requires some { 0 < wanted }
-    ensures went { Went B.world B.trace
+    ensures went { B.modelled ≡ true → Went B.world B.trace
         (transaction_bound + byte_bound target.max * wanted) bus.old bus.new }
-    ensures ends { MatchResult result (λ _. Worked 1 (B.world bus.old) (B.world bus.new))
+    ensures ends { B.modelled ≡ true
+        → MatchResult result (λ _. Worked 1 (B.world bus.old) (B.world bus.new))
         (λ fault. FaultAfter 0 (B.world bus.old) fault (B.world bus.new)) }
-    ensures packets { DataEnds target wanted (B.world bus.old) result (B.world bus.new) }
-    ensures settled { IsSettled (B.world bus.old).roots }
+    ensures packets { B.modelled ≡ true
+        → DataEnds target wanted (B.world bus.old) result (B.world bus.new) }
+    ensures settled { B.modelled ≡ true → IsSettled (B.world bus.old).roots }
     ensures most { IfOk result (λ bytes. length bytes.items ≤ wanted) }
 {
     let mut bytes = Vec::new(alloc);

@@ -9,6 +9,9 @@
 //!
 //! # What is proved
 //!
+//! What names a world or a trace is said of a bus that does what its world does (`modelled` of `usb_bus::Bus`); over
+//! any bus, that the toggle changes exactly where a packet was moved.
+//!
 //! On each call, for every answer:
 //!
 //! - At most 3 attempts (`setup`), 768 (`data_in`, `data_out`, `poll_in`).

@@ -1,5 +1,5 @@
 //! OUT.
-ghost use Rattle.std.specs.Prelude.{◌≡◌, ◌≤◌, ◌<◌, length, MatchResult};
+ghost use Rattle.std.specs.Prelude.{◌≡◌, ◌≤◌, ◌<◌, length, MatchResult, true};
 ghost use Rattle.usb_bus.specs.Traces.{Went};
 ghost use Rattle.usb_transaction.specs.Calls.{SendsOut};
 ghost use Rattle.usb_packet.specs.Toggles.{other};
@@ -32,8 +32,8 @@ pub fn data_out<B: Bus>(
     requires target { IsTarget target }
     requires endpoint { ep < 16 }
     requires short { length bytes.now ≤ target.max }
-    ensures went { Went B.world B.trace transaction_bound bus.old bus.new }
-    ensures sends { SendsOut target ep toggle.old bytes.now
+    ensures went { B.modelled ≡ true → Went B.world B.trace transaction_bound bus.old bus.new }
+    ensures sends { B.modelled ≡ true → SendsOut target ep toggle.old bytes.now
         (B.world bus.old) result (B.world bus.new) }
     ensures toggle { MatchResult result (λ _. toggle.new ≡ other toggle.old)
         (λ _. toggle.new ≡ toggle.old) }

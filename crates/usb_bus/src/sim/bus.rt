@@ -1,5 +1,5 @@
 //! The simulated bus as the host sees it.
-ghost use Rattle.std.specs.Prelude.{◌≡◌, ◌+◌, ◌-◌, ◌<◌, ◌≤◌, ◌∷◌, [], length, slice_index_or, true, false, None, refl};
+ghost use Rattle.std.specs.Prelude.{◌≡◌, ◌+◌, ◌-◌, ◌<◌, ◌≤◌, ◌∷◌, [], length, slice_index_or, true, false, None};
 ghost use Rattle.usb_port.specs.PortState.{off, status_of};
 ghost use Rattle.usb_device.specs.HolderIndex.{IsIndexOf};
 ghost use Rattle.usb_device.specs.Tree.{row_of, changed, called};
@@ -69,8 +69,6 @@ impl<T: Trace> Bus for SimBus<T> {
             self.call_root(port, call);
         }
     }
-
-    ghost known = { refl };
 }
 
 impl<T: Trace> SimBus<T> {

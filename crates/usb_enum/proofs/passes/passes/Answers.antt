@@ -1,6 +1,7 @@
+use Rattle.usb_enum.specs.Stop.{IsPlainStop}
 use Rattle.std.proofs.Common.{◌≡◌, ◌⊎◌, inl, inr, arith, refl, subst}
 use Rattle.usb_bus.proofs.Interface.{went_none, went_wider}
-use Rattle.usb_hub.proofs.Interface.{port_stays}
+use Rattle.usb_hub.proofs.Interface.{asked_stays}
 use Rattle.usb_enum.specs.Bounds.{pass_bound}
 use Rattle.usb_enum.proofs.Counts.{went_again, went_times, went_more}
 use Rattle.usb_enum.proofs.Enumerations.{takes_after}
@@ -18,71 +19,77 @@ use Rattle.usb_enum.proofs.Reasons.{at_after, descriptor_after, silent_after}
 use Rattle.usb_enum.proofs.passes.passes.Goals as goal
 
 pub loop-pass-init : goal.loop-pass-init
-loop-pass-init g c = record { went = went_wider 0 _ went_none (omega arith); within = at_none _ _ _; silent = inl refl; missed = misses_none _ _ _ }
+loop-pass-init g c = record { went = λ known. went_wider 0 _ went_none (omega arith); within = λ known. at_none _ _ _; silent = λ known. inl refl; missed = λ known. misses_none _ _ _ }
 
 pub pass-requires : goal.pass-requires
 pass-requires g c = record {
-  port = port_stays _ _ _ _ c.loop-pass.invariant.went.spends c.requires.port;
+  port = asked_stays _ _ _ _ _ (λ known. (c.loop-pass.invariant.went known).spends) c.requires.port;
   least = c.requires.least;
   most = c.requires.most;
 }
 
 pub loop-pass-preserved : goal.loop-pass-preserved
 loop-pass-preserved g c = record {
-  went = went_again _ (pass_bound c.args.port) _ _ _ c.loop-pass.invariant.went c.pass.ensures.went;
-  within = at_then _ _ _ _ _ _ c.loop-pass.invariant.within c.pass.ensures.went c.pass.ensures.within;
-  silent = inr (silent_after (leads_went c.loop-pass.invariant.went) (rw c.in_default.is at c.in_ok-device.ensures.told));
-  missed = misses_then _ _ _ _ _ c.loop-pass.invariant.went c.pass.ensures.went c.loop-pass.invariant.within c.pass.ensures.within c.loop-pass.invariant.missed (rw c.in_default.is at c.in_ok-device.ensures.taken);
+  went = λ known. went_again _ (pass_bound c.args.port) _ _ _ (c.loop-pass.invariant.went known) (c.pass.ensures.went known);
+  within = λ known. at_then _ _ _ _ _ _ (c.loop-pass.invariant.within known) (c.pass.ensures.went known) (c.pass.ensures.within known);
+  silent = λ known. inr (silent_after (leads_went (c.loop-pass.invariant.went known)) (rw c.in_default.is at (c.in_ok-device.ensures.told known)));
+  missed = λ known. misses_then _ _ _ _ _ (c.loop-pass.invariant.went known) (c.pass.ensures.went known) (c.loop-pass.invariant.within known) (c.pass.ensures.within known) (c.loop-pass.invariant.missed known) (rw c.in_default.is at (c.in_ok-device.ensures.taken known));
 }
 
 pub returns-in_err-device-clause-went : goal.returns-in_err-device-clause-went
-returns-in_err-device-clause-went g c = went_more _ 3 (pass_bound c.args.port) _ _ _ c.loop-pass.invariant.went c.pass.ensures.went c.loop-pass-test.true
+returns-in_err-device-clause-went g c known = went_more _ 3 (pass_bound c.args.port) _ _ _ (c.loop-pass.invariant.went known) (c.pass.ensures.went known) c.loop-pass-test.true
 
 pub returns-in-Some-clause-went : goal.returns-in-Some-clause-went
-returns-in-Some-clause-went g c = went_more _ 3 (pass_bound c.args.port) _ _ _ c.loop-pass.invariant.went c.pass.ensures.went c.loop-pass-test.true
+returns-in-Some-clause-went g c known = went_more _ 3 (pass_bound c.args.port) _ _ _ (c.loop-pass.invariant.went known) (c.pass.ensures.went known) c.loop-pass-test.true
 
 pub returns-clause-went : goal.returns-clause-went
-returns-clause-went g c = went_times _ 3 (pass_bound c.args.port) _ _ c.loop-pass.invariant.went c.loop-pass.auto._pass-end
+returns-clause-went g c known = went_times _ 3 (pass_bound c.args.port) _ _ (c.loop-pass.invariant.went known) c.loop-pass.auto._pass-end
 
 pub returns-in-Some-clause-taken : goal.returns-in-Some-clause-taken
-returns-in-Some-clause-taken g c =
-    let one = rw c.in-Some.is at c.in_ok-device.ensures.taken in
+returns-in-Some-clause-taken g c known =
+    let one = rw c.in-Some.is at (c.in_ok-device.ensures.taken known) in
     record {
       address = one.address;
       pre = one.pre;
-      takes = takes_after _ _ _ _ _ c.loop-pass.invariant.within.within one.takes;
+      takes = takes_after _ _ _ _ _ (c.loop-pass.invariant.within known).within one.takes;
       still = one.still;
-      found = finds_after _ _ _ _ c.loop-pass.invariant.went c.loop-pass.invariant.within.within one.found;
-      reaches = reaches_after _ _ _ _ c.loop-pass.invariant.went c.pass.ensures.went c.loop-pass.invariant.within one.reaches;
+      found = finds_after _ _ _ _ (c.loop-pass.invariant.went known) (c.loop-pass.invariant.within known).within one.found;
+      reaches = reaches_after _ _ _ _ (c.loop-pass.invariant.went known) (c.pass.ensures.went known) (c.loop-pass.invariant.within known) one.reaches;
     }
 
 pub returns-in_err-device-clause-within : goal.returns-in_err-device-clause-within
-returns-in_err-device-clause-within g c = at_then _ _ _ _ _ _ c.loop-pass.invariant.within c.pass.ensures.went c.pass.ensures.within
+returns-in_err-device-clause-within g c known = at_then _ _ _ _ _ _ (c.loop-pass.invariant.within known) (c.pass.ensures.went known) (c.pass.ensures.within known)
 
 pub returns-in-Some-clause-within : goal.returns-in-Some-clause-within
-returns-in-Some-clause-within g c = at_then _ _ _ _ _ _ c.loop-pass.invariant.within c.pass.ensures.went c.pass.ensures.within
+returns-in-Some-clause-within g c known = at_then _ _ _ _ _ _ (c.loop-pass.invariant.within known) (c.pass.ensures.went known) (c.pass.ensures.within known)
 
 pub returns-in_err-device-clause-taken : goal.returns-in_err-device-clause-taken
-returns-in_err-device-clause-taken g c =
+returns-in_err-device-clause-taken g c known =
     handed_match c.from_residual.result _ _ c.in_err-device.field-0.0 c.from_residual.ensures.1
-    (stops_then _ _ _ _ _ c.loop-pass.invariant.went c.pass.ensures.went c.loop-pass.invariant.within c.pass.ensures.within c.loop-pass.invariant.missed addressed_fault c.in_err-device.field-0.0 c.in_err-device.ensures.taken)
+    (stops_then _ _ _ _ _ (c.loop-pass.invariant.went known) (c.pass.ensures.went known) (c.loop-pass.invariant.within known) (c.pass.ensures.within known) (c.loop-pass.invariant.missed known) addressed_fault c.in_err-device.field-0.0 (c.in_err-device.ensures.taken known))
 
 pub returns-clause-taken : goal.returns-clause-taken
-returns-clause-taken g c =
+returns-clause-taken g c known =
     let three : c.loop-pass._pass ≡ 3 = omega (arith, c.loop-pass-test.false, c.loop-pass.auto._pass-end) in
-    thrice_missed addressed_fault _ _ _ _ _ (subst (λ k. Misses c.args.port c.args.address k (g.B.Bus.world c.args.bus.now) (g.B.Bus.world c.loop-pass.bus)) three c.loop-pass.invariant.missed)
+    thrice_missed addressed_fault _ _ _ _ _ (subst (λ k. Misses c.args.port c.args.address k (g.B.Bus.world c.args.bus.now) (g.B.Bus.world c.loop-pass.bus)) three (c.loop-pass.invariant.missed known))
 
 pub returns-in_err-device-clause-told : goal.returns-in_err-device-clause-told
-returns-in_err-device-clause-told g c =
+returns-in_err-device-clause-told g c known =
     handed_match c.from_residual.result _ (λ stop. StopToldAt c.args.port c.args.address stop (g.B.Bus.world c.args.bus.now) (g.B.Bus.world c.pass.new.bus)) c.in_err-device.field-0.0 c.from_residual.ensures.1
-    (at_after c.in_err-device.field-0.0 c.args.port c.args.address (g.B.Bus.world c.args.bus.now) (g.B.Bus.world c.loop-pass.bus) (g.B.Bus.world c.pass.new.bus) (leads_went c.loop-pass.invariant.went) c.in_err-device.ensures.told)
+    (at_after c.in_err-device.field-0.0 c.args.port c.args.address (g.B.Bus.world c.args.bus.now) (g.B.Bus.world c.loop-pass.bus) (g.B.Bus.world c.pass.new.bus) (leads_went (c.loop-pass.invariant.went known)) (c.in_err-device.ensures.told known))
 
 pub returns-in-Some-clause-told : goal.returns-in-Some-clause-told
-returns-in-Some-clause-told g c = descriptor_after (leads_went c.loop-pass.invariant.went) (rw c.in-Some.is at c.in_ok-device.ensures.told)
+returns-in-Some-clause-told g c known = descriptor_after (leads_went (c.loop-pass.invariant.went known)) (rw c.in-Some.is at (c.in_ok-device.ensures.told known))
 
 pub returns-clause-told : goal.returns-clause-told
-returns-clause-told g c = pick c.loop-pass.invariant.silent
+returns-clause-told g c known = pick (c.loop-pass.invariant.silent known)
   where
     pick : (c.loop-pass._pass ≡ 0) ⊎ NoAnswerTold c.args.port c.args.address (g.B.Bus.world c.args.bus.now) (g.B.Bus.world c.loop-pass.bus) → RefusedEarly c.args.port c.args.address (g.B.Bus.world c.args.bus.now) (g.B.Bus.world c.loop-pass.bus) Silent
     pick (inl none) = absurd (omega (arith, none, c.loop-pass-test.false, c.loop-pass.auto._pass-end))
     pick (inr told) = answered told.target told.is told.failed
+
+pub returns-in-Some-clause-addressed : goal.returns-in-Some-clause-addressed
+returns-in-Some-clause-addressed g c = rw c.in-Some.is at c.in_ok-device.ensures.addressed
+
+pub returns-in_err-device-clause-addressed : goal.returns-in_err-device-clause-addressed
+returns-in_err-device-clause-addressed g c = handed_match c.from_residual.result _ IsPlainStop c.in_err-device.field-0.0 c.from_residual.ensures.1 c.in_err-device.ensures.addressed

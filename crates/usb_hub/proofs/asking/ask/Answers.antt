@@ -3,11 +3,11 @@ use Rattle.usb_hub.proofs.RestingRequests.{read_rests}
 use Rattle.usb_hub.proofs.asking.ask.Goals as goal
 
 pub returns-clause-asked : goal.returns-clause-asked
-returns-clause-asked g c = record {
-  settled = c.control_in.ensures.transfer.settled;
-  ends = c.control_in.ensures.transfer.ends;
-  stages = c.control_in.ensures.transfer.stages;
-  most = c.control_in.ensures.transfer.most;
-  rests = read_rests c.args.target c.args.setup c.control_in.result _ _ c.requires.reads c.control_in.ensures.transfer.settled c.control_in.ensures.transfer.stages;
-  backlog = read_backlog c.args.target c.args.setup c.control_in.result _ _ c.requires.reads c.control_in.ensures.transfer.settled c.control_in.ensures.transfer.stages;
+returns-clause-asked g c known = record {
+  settled = (c.control_in.ensures.transfer known).settled;
+  ends = (c.control_in.ensures.transfer known).ends;
+  stages = (c.control_in.ensures.transfer known).stages;
+  most = (c.control_in.ensures.transfer known).most;
+  rests = read_rests c.args.target c.args.setup c.control_in.result _ _ c.requires.reads (c.control_in.ensures.transfer known).settled (c.control_in.ensures.transfer known).stages;
+  backlog = read_backlog c.args.target c.args.setup c.control_in.result _ _ c.requires.reads (c.control_in.ensures.transfer known).settled (c.control_in.ensures.transfer known).stages;
 }

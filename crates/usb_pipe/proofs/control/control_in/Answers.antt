@@ -1,4 +1,4 @@
-use Rattle.std.proofs.Common.{arith, rules, Ok}
+use Rattle.std.proofs.Common.{arith, rules, Ok, ◌≡◌, true}
 use Rattle.usb_bus.proofs.Interface.{went_then, went_wider}
 use Rattle.usb_pipe.specs.Control.{control_bound}
 use Rattle.usb_pipe.specs.Stages.{Reads}
@@ -9,49 +9,49 @@ use Rattle.usb_pipe.proofs.control.control_in.Goals.{After-from_residual-in_err-
 
 -- Where the read ended
 
-at_status : (g : given.Over) (c : goal.After-from_residual-in_err-data_out g) → Reads c.args.target c.args.setup (g.B.Bus.world c.args.bus.now) c.from_residual-in_err-data_out.result (g.B.Bus.world c.data_out.new.bus)
-at_status g c =
+at_status : (g : given.Over) (c : goal.After-from_residual-in_err-data_out g) → g.B.Bus.modelled ≡ true → Reads c.args.target c.args.setup (g.B.Bus.world c.args.bus.now) c.from_residual-in_err-data_out.result (g.B.Bus.world c.data_out.new.bus)
+at_status g c known =
     let told = c.from_residual-in_err-data_out.ensures in
-    read_at_status c.args.target c.args.setup _ c.in_err-data_out.field-0.0 c.to_bytes-request.result c.in_ok-setup.field-0 c.in_ok-bytes.bytes c.from_residual-in_err-data_out.result c.to_bytes-request.ensures.bytes c.in_ok-setup.ensures.sets_up.nothing told.0 told.1 c.in_ok-setup.ensures.sets_up.heard c.in_ok-bytes.ensures.packets c.in_err-data_out.ensures.sends.heard
+    read_at_status c.args.target c.args.setup _ c.in_err-data_out.field-0.0 c.to_bytes-request.result c.in_ok-setup.field-0 c.in_ok-bytes.bytes c.from_residual-in_err-data_out.result c.to_bytes-request.ensures.bytes (c.in_ok-setup.ensures.sets_up known).nothing told.0 told.1 (c.in_ok-setup.ensures.sets_up known).heard (c.in_ok-bytes.ensures.packets known) (c.in_err-data_out.ensures.sends known).heard
 
-done : (g : given.Over) (c : goal.In_ok-data_out g) → Reads c.args.target c.args.setup (g.B.Bus.world c.args.bus.now) (Ok c.in_ok-bytes.bytes) (g.B.Bus.world c.data_out.new.bus)
-done g c =
-    read_done c.args.target c.args.setup c.to_bytes-request.result c.in_ok-setup.field-0 c.in_ok-data_out.field-0 c.in_ok-bytes.bytes c.to_bytes-request.ensures.bytes c.in_ok-setup.ensures.sets_up.nothing c.in_ok-data_out.ensures.sends.nothing c.in_ok-setup.ensures.sets_up.heard c.in_ok-bytes.ensures.packets c.in_ok-data_out.ensures.sends.heard
+done : (g : given.Over) (c : goal.In_ok-data_out g) → g.B.Bus.modelled ≡ true → Reads c.args.target c.args.setup (g.B.Bus.world c.args.bus.now) (Ok c.in_ok-bytes.bytes) (g.B.Bus.world c.data_out.new.bus)
+done g c known =
+    read_done c.args.target c.args.setup c.to_bytes-request.result c.in_ok-setup.field-0 c.in_ok-data_out.field-0 c.in_ok-bytes.bytes c.to_bytes-request.ensures.bytes (c.in_ok-setup.ensures.sets_up known).nothing (c.in_ok-data_out.ensures.sends known).nothing (c.in_ok-setup.ensures.sets_up known).heard (c.in_ok-bytes.ensures.packets known) (c.in_ok-data_out.ensures.sends known).heard
 
 -- What it tells
 
 pub returns-in_err-setup-clause-transfer : goal.returns-in_err-setup-clause-transfer
-returns-in_err-setup-clause-transfer g c =
-    read_told c.args.target c.args.setup _ c.to_bytes-request.result c.from_residual.result c.requires.reads c.requires.some c.to_bytes-request.ensures.bytes c.to_bytes-request.ensures.fields c.setup.ensures.sets_up.settled (search rules) (search rules) (search rules)
+returns-in_err-setup-clause-transfer g c known =
+    read_told c.args.target c.args.setup _ c.to_bytes-request.result c.from_residual.result c.requires.reads c.requires.some c.to_bytes-request.ensures.bytes c.to_bytes-request.ensures.fields (c.setup.ensures.sets_up known).settled (search rules) (search rules) (search rules)
 
 pub returns-in_err-bytes-clause-transfer : goal.returns-in_err-bytes-clause-transfer
-returns-in_err-bytes-clause-transfer g c =
-    read_told c.args.target c.args.setup _ c.to_bytes-request.result c.from_residual-in_err-bytes.result c.requires.reads c.requires.some c.to_bytes-request.ensures.bytes c.to_bytes-request.ensures.fields c.setup.ensures.sets_up.settled (search rules) (search rules) (search rules)
+returns-in_err-bytes-clause-transfer g c known =
+    read_told c.args.target c.args.setup _ c.to_bytes-request.result c.from_residual-in_err-bytes.result c.requires.reads c.requires.some c.to_bytes-request.ensures.bytes c.to_bytes-request.ensures.fields (c.setup.ensures.sets_up known).settled (search rules) (search rules) (search rules)
 
 pub returns-in_err-data_out-clause-transfer : goal.returns-in_err-data_out-clause-transfer
-returns-in_err-data_out-clause-transfer g c =
-    let stages = at_status g (goal.at.returns-in_err-data_out-clause-transfer g c).After-from_residual-in_err-data_out in
-    read_told c.args.target c.args.setup _ c.to_bytes-request.result c.from_residual-in_err-data_out.result c.requires.reads c.requires.some c.to_bytes-request.ensures.bytes c.to_bytes-request.ensures.fields c.setup.ensures.sets_up.settled (search rules) (search rules) stages
+returns-in_err-data_out-clause-transfer g c known =
+    let stages = at_status g (goal.at.returns-in_err-data_out-clause-transfer g c).After-from_residual-in_err-data_out known in
+    read_told c.args.target c.args.setup _ c.to_bytes-request.result c.from_residual-in_err-data_out.result c.requires.reads c.requires.some c.to_bytes-request.ensures.bytes c.to_bytes-request.ensures.fields (c.setup.ensures.sets_up known).settled (search rules) (search rules) stages
 
 pub returns-clause-transfer : goal.returns-clause-transfer
-returns-clause-transfer g c =
-    let stages = done g (goal.at.returns-clause-transfer g c).In_ok-data_out in
-    read_told c.args.target c.args.setup _ c.to_bytes-request.result (Ok c.in_ok-bytes.bytes) c.requires.reads c.requires.some c.to_bytes-request.ensures.bytes c.to_bytes-request.ensures.fields c.setup.ensures.sets_up.settled (search rules) (search rules) stages
+returns-clause-transfer g c known =
+    let stages = done g (goal.at.returns-clause-transfer g c).In_ok-data_out known in
+    read_told c.args.target c.args.setup _ c.to_bytes-request.result (Ok c.in_ok-bytes.bytes) c.requires.reads c.requires.some c.to_bytes-request.ensures.bytes c.to_bytes-request.ensures.fields (c.setup.ensures.sets_up known).settled (search rules) (search rules) stages
 
 -- What went
 
 pub returns-in_err-setup-clause-went : goal.returns-in_err-setup-clause-went
 unfolding control_bound
-returns-in_err-setup-clause-went g c = went_wider 3 _ c.setup.ensures.went (omega arith)
+returns-in_err-setup-clause-went g c known = went_wider 3 _ (c.setup.ensures.went known) (omega arith)
 
 pub returns-in_err-bytes-clause-went : goal.returns-in_err-bytes-clause-went
 unfolding control_bound
-returns-in_err-bytes-clause-went g c = went_wider _ _ (went_then _ _ c.setup.ensures.went c.data_stage.ensures.went) (omega arith)
+returns-in_err-bytes-clause-went g c known = went_wider _ _ (went_then _ _ (c.setup.ensures.went known) (c.data_stage.ensures.went known)) (omega arith)
 
 pub returns-in_err-data_out-clause-went : goal.returns-in_err-data_out-clause-went
 unfolding control_bound
-returns-in_err-data_out-clause-went g c = went_wider _ _ (went_then _ _ (went_then _ _ c.setup.ensures.went c.data_stage.ensures.went) c.data_out.ensures.went) (omega arith)
+returns-in_err-data_out-clause-went g c known = went_wider _ _ (went_then _ _ (went_then _ _ (c.setup.ensures.went known) (c.data_stage.ensures.went known)) (c.data_out.ensures.went known)) (omega arith)
 
 pub returns-clause-went : goal.returns-clause-went
 unfolding control_bound
-returns-clause-went g c = went_wider _ _ (went_then _ _ (went_then _ _ c.setup.ensures.went c.data_stage.ensures.went) c.data_out.ensures.went) (omega arith)
+returns-clause-went g c known = went_wider _ _ (went_then _ _ (went_then _ _ (c.setup.ensures.went known) (c.data_stage.ensures.went known)) (c.data_out.ensures.went known)) (omega arith)

@@ -1,4 +1,4 @@
-use Rattle.std.proofs.Common.{arith, ◌+◌}
+use Rattle.std.proofs.Common.{arith, ◌+◌, ◌≡◌, true}
 use Rattle.usb_bus.proofs.Interface.{went_then, went_wider}
 use Rattle.std.proofs.Common.{rules, Ok}
 use Rattle.usb_transaction.specs.Transactions.{transaction_bound}
@@ -11,33 +11,33 @@ use Rattle.usb_pipe.proofs.control.control_none.Goals.{After-from_residual-in_er
 
 -- Where the request ended
 
-at_status : (g : given.Over) (c : goal.After-from_residual-in_err-data_in g) → Writes c.args.target c.args.setup (g.B.Bus.world c.args.bus.now) c.from_residual-in_err-data_in.result (g.B.Bus.world c.data_in.new.bus)
-at_status g c =
+at_status : (g : given.Over) (c : goal.After-from_residual-in_err-data_in g) → g.B.Bus.modelled ≡ true → Writes c.args.target c.args.setup (g.B.Bus.world c.args.bus.now) c.from_residual-in_err-data_in.result (g.B.Bus.world c.data_in.new.bus)
+at_status g c known =
     let told = c.from_residual-in_err-data_in.ensures in
-    write_at_status c.args.target c.args.setup _ c.in_err-data_in.field-0.0 c.to_bytes.result c.in_ok-setup.field-0 c.from_residual-in_err-data_in.result c.to_bytes.ensures.bytes c.in_ok-setup.ensures.sets_up.nothing told.0 told.1 c.in_ok-setup.ensures.sets_up.heard c.in_err-data_in.ensures.asks.heard
+    write_at_status c.args.target c.args.setup _ c.in_err-data_in.field-0.0 c.to_bytes.result c.in_ok-setup.field-0 c.from_residual-in_err-data_in.result c.to_bytes.ensures.bytes (c.in_ok-setup.ensures.sets_up known).nothing told.0 told.1 (c.in_ok-setup.ensures.sets_up known).heard (c.in_err-data_in.ensures.asks known).heard
 
 -- What it tells
 
 pub returns-in_err-setup-clause-transfer : goal.returns-in_err-setup-clause-transfer
-returns-in_err-setup-clause-transfer g c =
-    write_told c.args.target c.args.setup _ c.to_bytes.result c.from_residual.result c.requires.none c.to_bytes.ensures.bytes c.to_bytes.ensures.fields c.setup.ensures.sets_up.settled (search rules) (search rules) (search rules)
+returns-in_err-setup-clause-transfer g c known =
+    write_told c.args.target c.args.setup _ c.to_bytes.result c.from_residual.result c.requires.none c.to_bytes.ensures.bytes c.to_bytes.ensures.fields (c.setup.ensures.sets_up known).settled (search rules) (search rules) (search rules)
 
 pub returns-in_err-data_in-clause-transfer : goal.returns-in_err-data_in-clause-transfer
-returns-in_err-data_in-clause-transfer g c =
-    let stages = at_status g (goal.at.returns-in_err-data_in-clause-transfer g c).After-from_residual-in_err-data_in in
-    write_told c.args.target c.args.setup _ c.to_bytes.result c.from_residual-in_err-data_in.result c.requires.none c.to_bytes.ensures.bytes c.to_bytes.ensures.fields c.setup.ensures.sets_up.settled (search rules) (search rules) stages
+returns-in_err-data_in-clause-transfer g c known =
+    let stages = at_status g (goal.at.returns-in_err-data_in-clause-transfer g c).After-from_residual-in_err-data_in known in
+    write_told c.args.target c.args.setup _ c.to_bytes.result c.from_residual-in_err-data_in.result c.requires.none c.to_bytes.ensures.bytes c.to_bytes.ensures.fields (c.setup.ensures.sets_up known).settled (search rules) (search rules) stages
 
 pub returns-clause-transfer : goal.returns-clause-transfer
-returns-clause-transfer g c =
-    write_told c.args.target c.args.setup _ c.to_bytes.result (Ok tt) c.requires.none c.to_bytes.ensures.bytes c.to_bytes.ensures.fields c.setup.ensures.sets_up.settled (search rules) (search rules) (search rules)
+returns-clause-transfer g c known =
+    write_told c.args.target c.args.setup _ c.to_bytes.result (Ok tt) c.requires.none c.to_bytes.ensures.bytes c.to_bytes.ensures.fields (c.setup.ensures.sets_up known).settled (search rules) (search rules) (search rules)
 
 -- What went
 
 pub returns-in_err-setup-clause-went : goal.returns-in_err-setup-clause-went
-returns-in_err-setup-clause-went g c = went_wider 3 write_bound c.setup.ensures.went (omega arith)
+returns-in_err-setup-clause-went g c known = went_wider 3 write_bound (c.setup.ensures.went known) (omega arith)
 
 pub returns-in_err-data_in-clause-went : goal.returns-in_err-data_in-clause-went
-returns-in_err-data_in-clause-went g c = went_wider (3 + transaction_bound) write_bound (went_then 3 transaction_bound c.setup.ensures.went c.data_in.ensures.went) (omega arith)
+returns-in_err-data_in-clause-went g c known = went_wider (3 + transaction_bound) write_bound (went_then 3 transaction_bound (c.setup.ensures.went known) (c.data_in.ensures.went known)) (omega arith)
 
 pub returns-clause-went : goal.returns-clause-went
-returns-clause-went g c = went_wider (3 + transaction_bound) write_bound (went_then 3 transaction_bound c.setup.ensures.went c.data_in.ensures.went) (omega arith)
+returns-clause-went g c known = went_wider (3 + transaction_bound) write_bound (went_then 3 transaction_bound (c.setup.ensures.went known) (c.data_in.ensures.went known)) (omega arith)

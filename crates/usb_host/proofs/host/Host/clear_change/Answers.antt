@@ -16,26 +16,26 @@ use Rattle.usb_host.proofs.Enumerations.{cleared, cleared_twice}
 use Rattle.usb_host.proofs.host.Host.clear_change.Goals as goal
 
 pub returns-in_err-status-clause-goes : goal.returns-in_err-status-clause-goes
-returns-in_err-status-clause-goes g c known = rw (← c.self.view_is) (cleared c.args.port _ _ c.requires.askable refl c.clear_port.ensures.went c.port_status.ensures.went)
+returns-in_err-status-clause-goes g c known = rw (← c.self.view_is) (cleared c.args.port _ _ c.requires.askable refl (c.clear_port.ensures.went known) (c.port_status.ensures.went known))
 
 pub returns-in_err-clear_port-2-clause-goes : goal.returns-in_err-clear_port-2-clause-goes
 returns-in_err-clear_port-2-clause-goes g c known =
-    rw (← c.self.view_is) (cleared_twice c.args.port _ _ c.requires.askable refl c.clear_port.ensures.went c.port_status.ensures.went c.clear_port-then-status.ensures.went)
+    rw (← c.self.view_is) (cleared_twice c.args.port _ _ c.requires.askable refl (c.clear_port.ensures.went known) (c.port_status.ensures.went known) (c.clear_port-then-status.ensures.went known))
 
 pub returns-in_ok-clear_port-2-clause-goes : goal.returns-in_ok-clear_port-2-clause-goes
 returns-in_ok-clear_port-2-clause-goes g c known =
-    rw (← c.self.view_is) (cleared_twice c.args.port _ _ c.requires.askable refl c.clear_port.ensures.went c.port_status.ensures.went c.clear_port-then-status.ensures.went)
+    rw (← c.self.view_is) (cleared_twice c.args.port _ _ c.requires.askable refl (c.clear_port.ensures.went known) (c.port_status.ensures.went known) (c.clear_port-then-status.ensures.went known))
 
 pub returns-else-status-clause-goes : goal.returns-else-status-clause-goes
-returns-else-status-clause-goes g c known = rw (← c.self.view_is) (cleared c.args.port _ _ c.requires.askable refl c.clear_port.ensures.went c.port_status.ensures.went)
+returns-else-status-clause-goes g c known = rw (← c.self.view_is) (cleared c.args.port _ _ c.requires.askable refl (c.clear_port.ensures.went known) (c.port_status.ensures.went known))
 
 pub returns-in_err-clear_port-clause-clears : goal.returns-in_err-clear_port-clause-clears
 returns-in_err-clear_port-clause-clears g c known =
     let told = err_from_is_err_and c.from_residual.result c.from_residual.ensures.1 in
     let old = g.B.Bus.world c.self.inside.bus in
     let mid = g.B.Bus.world c.clear_port.new.bus in
-    let calls = subst (λ r. CallsPort c.args.port (clear_call C_PORT_CONNECTION) old r mid) c.in_err-clear_port.was c.clear_port.ensures.ports in
-    let keeps = subst (λ r. KeepsCleared c.args.port C_PORT_CONNECTION old r mid) c.in_err-clear_port.was c.clear_port.ensures.addresses in
+    let calls = subst (λ r. CallsPort c.args.port (clear_call C_PORT_CONNECTION) old r mid) c.in_err-clear_port.was (c.clear_port.ensures.ports known) in
+    let keeps = subst (λ r. KeepsCleared c.args.port C_PORT_CONNECTION old r mid) c.in_err-clear_port.was (c.clear_port.ensures.addresses known) in
     rw (← c.self.view_is, told.1, told.2) (record {
       keeps = clears_failed c.args.port old c.in_err-clear_port.field-0.0 mid calls keeps;
       paid = tt;
@@ -48,10 +48,10 @@ returns-in_err-status-clause-clears g c known =
     let old = g.B.Bus.world c.self.inside.bus in
     let mid = g.B.Bus.world c.clear_port.new.bus in
     let new = g.B.Bus.world c.port_status.new.bus in
-    let calls = subst (λ r. CallsPort c.args.port (clear_call C_PORT_CONNECTION) old r mid) c.in_ok-clear_port.was c.clear_port.ensures.ports in
-    let watches = subst (λ r. Watches c.args.port mid (at_port r) new) c.in_err-status.was (watched c.args.port mid c.port_status.result new c.port_status.ensures.status c.port_status.ensures.told c.port_status.ensures.addresses) in
+    let calls = subst (λ r. CallsPort c.args.port (clear_call C_PORT_CONNECTION) old r mid) c.in_ok-clear_port.was (c.clear_port.ensures.ports known) in
+    let watches = subst (λ r. Watches c.args.port mid (at_port r) new) c.in_err-status.was (watched c.args.port mid c.port_status.result new (c.port_status.ensures.status known) (c.port_status.ensures.told known) (c.port_status.ensures.addresses known)) in
     rw (← c.self.view_is, told.1, told.2) (record {
-      keeps = clears_after c.args.port _ _ old mid new c.clear_port.ensures.went c.port_status.ensures.went _ calls c.clear_port.ensures.addresses.keeps c.clear_port.ensures.addresses.devices (clears_untold c.args.port mid _ new watches);
+      keeps = clears_after c.args.port _ _ old mid new (c.clear_port.ensures.went known) (c.port_status.ensures.went known) _ calls (c.clear_port.ensures.addresses known).keeps (c.clear_port.ensures.addresses known).devices (clears_untold c.args.port mid _ new watches);
       paid = tt;
       reads = λ f p at owned. tt;
     })
@@ -62,19 +62,19 @@ returns-else-status-clause-clears g c known =
     let mid = g.B.Bus.world c.clear_port.new.bus in
     let new = g.B.Bus.world c.port_status.new.bus in
     let status = c.in_ok-status.status in
-    let calls = subst (λ r. CallsPort c.args.port (clear_call C_PORT_CONNECTION) old r mid) c.in_ok-clear_port.was c.clear_port.ensures.ports in
-    let read = subst (λ r. PortRead c.args.port mid r new) c.in_ok-status.was c.port_status.ensures.status in
-    let tells = subst (λ r. TellsPort c.args.port mid r new) c.in_ok-status.was c.port_status.ensures.told in
-    let asked = subst (λ r. KeepsAsked c.args.port mid r new) c.in_ok-status.was c.port_status.ensures.addresses in
+    let calls = subst (λ r. CallsPort c.args.port (clear_call C_PORT_CONNECTION) old r mid) c.in_ok-clear_port.was (c.clear_port.ensures.ports known) in
+    let read = subst (λ r. PortRead c.args.port mid r new) c.in_ok-status.was (c.port_status.ensures.status known) in
+    let tells = subst (λ r. TellsPort c.args.port mid r new) c.in_ok-status.was (c.port_status.ensures.told known) in
+    let asked = subst (λ r. KeepsAsked c.args.port mid r new) c.in_ok-status.was (c.port_status.ensures.addresses known) in
     rw (← c.self.view_is) (record {
-      keeps = clears_after c.args.port _ _ old mid new c.clear_port.ensures.went c.port_status.ensures.went _ calls c.clear_port.ensures.addresses.keeps c.clear_port.ensures.addresses.devices
-          (clears_told c.args.port _ mid status new c.port_status.ensures.went c.if-status.false read tells asked);
-      paid = changes_done c.args.port old mid new status calls c.clear_port.ensures.addresses.keeps tells new (all_none new);
+      keeps = clears_after c.args.port _ _ old mid new (c.clear_port.ensures.went known) (c.port_status.ensures.went known) _ calls (c.clear_port.ensures.addresses known).keeps (c.clear_port.ensures.addresses known).devices
+          (clears_told c.args.port _ mid status new (c.port_status.ensures.went known) c.if-status.false read tells asked);
+      paid = changes_done c.args.port old mid new status calls (c.clear_port.ensures.addresses known).keeps tells new (all_none new);
       reads = λ f p at owned. record {
         mid = mid;
         cleared = call_done c.args.port ClearConnectionChange old mid (λ resets. absurd (cc resets)) calls f p at owned;
         now = new;
-        told = tells.tells f p at (c.clear_port.ensures.addresses.keeps.kept f owned) status refl;
+        told = tells.tells f p at ((c.clear_port.ensures.addresses known).keeps.kept f owned) status refl;
         disabled = done_not status.enabled p ClearEnable new new c.if-status.false refl;
       };
     })
@@ -87,14 +87,14 @@ returns-in_err-clear_port-2-clause-clears g c known =
     let asked_at = g.B.Bus.world c.port_status.new.bus in
     let new = g.B.Bus.world c.clear_port-then-status.new.bus in
     let status = c.in_ok-status.status in
-    let calls = subst (λ r. CallsPort c.args.port (clear_call C_PORT_CONNECTION) old r mid) c.in_ok-clear_port.was c.clear_port.ensures.ports in
-    let read = subst (λ r. PortRead c.args.port mid r asked_at) c.in_ok-status.was c.port_status.ensures.status in
-    let tells = subst (λ r. TellsPort c.args.port mid r asked_at) c.in_ok-status.was c.port_status.ensures.told in
-    let asked = subst (λ r. KeepsAsked c.args.port mid r asked_at) c.in_ok-status.was c.port_status.ensures.addresses in
+    let calls = subst (λ r. CallsPort c.args.port (clear_call C_PORT_CONNECTION) old r mid) c.in_ok-clear_port.was (c.clear_port.ensures.ports known) in
+    let read = subst (λ r. PortRead c.args.port mid r asked_at) c.in_ok-status.was (c.port_status.ensures.status known) in
+    let tells = subst (λ r. TellsPort c.args.port mid r asked_at) c.in_ok-status.was (c.port_status.ensures.told known) in
+    let asked = subst (λ r. KeepsAsked c.args.port mid r asked_at) c.in_ok-status.was (c.port_status.ensures.addresses known) in
     let disabled = subst (λ r. ClearsChange c.args.port mid (disabled_so status r) new) c.in_err-clear_port-2.was
-    (clears_disabled c.args.port _ _ mid asked_at new c.port_status.ensures.went c.clear_port-then-status.ensures.went status c.clear_port-then-status.result read tells asked c.clear_port-then-status.ensures.ports c.clear_port-then-status.ensures.addresses) in
+    (clears_disabled c.args.port _ _ mid asked_at new (c.port_status.ensures.went known) (c.clear_port-then-status.ensures.went known) status c.clear_port-then-status.result read tells asked (c.clear_port-then-status.ensures.ports known) (c.clear_port-then-status.ensures.addresses known)) in
     rw (← c.self.view_is, told.1, told.2) (record {
-      keeps = clears_after c.args.port _ _ old mid new c.clear_port.ensures.went (went_then _ _ c.port_status.ensures.went c.clear_port-then-status.ensures.went) _ calls c.clear_port.ensures.addresses.keeps c.clear_port.ensures.addresses.devices disabled;
+      keeps = clears_after c.args.port _ _ old mid new (c.clear_port.ensures.went known) (went_then _ _ (c.port_status.ensures.went known) (c.clear_port-then-status.ensures.went known)) _ calls (c.clear_port.ensures.addresses known).keeps (c.clear_port.ensures.addresses known).devices disabled;
       paid = tt;
       reads = λ f p at owned. tt;
     })
@@ -106,23 +106,23 @@ returns-in_ok-clear_port-2-clause-clears g c known =
     let asked_at = g.B.Bus.world c.port_status.new.bus in
     let new = g.B.Bus.world c.clear_port-then-status.new.bus in
     let status = c.in_ok-status.status in
-    let calls = subst (λ r. CallsPort c.args.port (clear_call C_PORT_CONNECTION) old r mid) c.in_ok-clear_port.was c.clear_port.ensures.ports in
-    let read = subst (λ r. PortRead c.args.port mid r asked_at) c.in_ok-status.was c.port_status.ensures.status in
-    let tells = subst (λ r. TellsPort c.args.port mid r asked_at) c.in_ok-status.was c.port_status.ensures.told in
-    let asked = subst (λ r. KeepsAsked c.args.port mid r asked_at) c.in_ok-status.was c.port_status.ensures.addresses in
+    let calls = subst (λ r. CallsPort c.args.port (clear_call C_PORT_CONNECTION) old r mid) c.in_ok-clear_port.was (c.clear_port.ensures.ports known) in
+    let read = subst (λ r. PortRead c.args.port mid r asked_at) c.in_ok-status.was (c.port_status.ensures.status known) in
+    let tells = subst (λ r. TellsPort c.args.port mid r asked_at) c.in_ok-status.was (c.port_status.ensures.told known) in
+    let asked = subst (λ r. KeepsAsked c.args.port mid r asked_at) c.in_ok-status.was (c.port_status.ensures.addresses known) in
     let disabled = subst (λ r. ClearsChange c.args.port mid (disabled_so status r) new) c.in_ok-clear_port-2.was
-    (clears_disabled c.args.port _ _ mid asked_at new c.port_status.ensures.went c.clear_port-then-status.ensures.went status c.clear_port-then-status.result read tells asked c.clear_port-then-status.ensures.ports c.clear_port-then-status.ensures.addresses) in
-    let disables = subst (λ r. CallsPort c.args.port (clear_call PORT_ENABLE) asked_at r new) c.in_ok-clear_port-2.was c.clear_port-then-status.ensures.ports in
+    (clears_disabled c.args.port _ _ mid asked_at new (c.port_status.ensures.went known) (c.clear_port-then-status.ensures.went known) status c.clear_port-then-status.result read tells asked (c.clear_port-then-status.ensures.ports known) (c.clear_port-then-status.ensures.addresses known)) in
+    let disables = subst (λ r. CallsPort c.args.port (clear_call PORT_ENABLE) asked_at r new) c.in_ok-clear_port-2.was (c.clear_port-then-status.ensures.ports known) in
     rw (← c.self.view_is) (record {
-      keeps = clears_after c.args.port _ _ old mid new c.clear_port.ensures.went (went_then _ _ c.port_status.ensures.went c.clear_port-then-status.ensures.went) _ calls c.clear_port.ensures.addresses.keeps c.clear_port.ensures.addresses.devices disabled;
-      paid = changes_disabled c.args.port old mid asked_at status calls c.clear_port.ensures.addresses.keeps tells new c.port_status.ensures.addresses.keeps disables;
+      keeps = clears_after c.args.port _ _ old mid new (c.clear_port.ensures.went known) (went_then _ _ (c.port_status.ensures.went known) (c.clear_port-then-status.ensures.went known)) _ calls (c.clear_port.ensures.addresses known).keeps (c.clear_port.ensures.addresses known).devices disabled;
+      paid = changes_disabled c.args.port old mid asked_at status calls (c.clear_port.ensures.addresses known).keeps tells new (c.port_status.ensures.addresses known).keeps disables;
       reads = λ f p at owned.
-          let kept = c.clear_port.ensures.addresses.keeps.kept f owned in
+          let kept = (c.clear_port.ensures.addresses known).keeps.kept f owned in
           record {
             mid = mid;
             cleared = call_done c.args.port ClearConnectionChange old mid (λ resets. absurd (cc resets)) calls f p at owned;
             now = asked_at;
             told = tells.tells f p at kept status refl;
-            disabled = done_so status.enabled p ClearEnable asked_at new c.if-status.true (call_done c.args.port ClearEnable asked_at new (λ resets. absurd (cc resets)) disables f p at (c.port_status.ensures.addresses.keeps.kept f kept));
+            disabled = done_so status.enabled p ClearEnable asked_at new c.if-status.true (call_done c.args.port ClearEnable asked_at new (λ resets. absurd (cc resets)) disables f p at ((c.port_status.ensures.addresses known).keeps.kept f kept));
           };
     })

@@ -37,34 +37,34 @@ returns-clause-disables g c known =
     let old = g.B.Bus.world c.self.inside.bus in
     let new = g.B.Bus.world c.clear_port.new.bus in
     let port = c.in-Some.port.port in
-    let went = c.clear_port.ensures.went in
-    let keeps = c.clear_port.ensures.addresses.keeps in
-    let devices = c.clear_port.ensures.addresses.devices in
+    let went = c.clear_port.ensures.went known in
+    let keeps = (c.clear_port.ensures.addresses known).keeps in
+    let devices = (c.clear_port.ensures.addresses known).devices in
     rw (← c.self.view_is) (elim c.match-clear_port.branch [
       | in-Ok w ↦ rw w.result-is (record {
-        owned = port_disabled c.args.path.now c.in-Some.port _ _ s refl (subst (λ r. KeepsCleared port PORT_ENABLE old r new) w.in-Ok.is c.clear_port.ensures.addresses);
+        owned = port_disabled c.args.path.now c.in-Some.port _ _ s refl (subst (λ r. KeepsCleared port PORT_ENABLE old r new) w.in-Ok.is (c.clear_port.ensures.addresses known));
         devices = devices;
-        done = λ d e. told_dropped _ c.args.path.now c.in-Some.port _ _ s refl went keeps devices d (subst (λ r. CallsPort port (clear_call PORT_ENABLE) old r new) w.in-Ok.is c.clear_port.ensures.ports);
+        done = λ d e. told_dropped _ c.args.path.now c.in-Some.port _ _ s refl went keeps devices d (subst (λ r. CallsPort port (clear_call PORT_ENABLE) old r new) w.in-Ok.is (c.clear_port.ensures.ports known));
         failed = λ d e. absurd (cc e);
-        backlog = λ d still. told_backlog _ c.args.path.now c.in-Some.port _ _ s refl went keeps devices d _ (subst (λ r. CallsPort port (clear_call PORT_ENABLE) old r new) w.in-Ok.is c.clear_port.ensures.ports) tt;
-        caused = λ d fair pends caused. told_caused _ c.args.path.now c.in-Some.port _ _ s refl went keeps devices d fair (subst (λ r. CallsPort port (clear_call PORT_ENABLE) old r new) w.in-Ok.is c.clear_port.ensures.ports) pends caused;
+        backlog = λ d still. told_backlog _ c.args.path.now c.in-Some.port _ _ s refl went keeps devices d _ (subst (λ r. CallsPort port (clear_call PORT_ENABLE) old r new) w.in-Ok.is (c.clear_port.ensures.ports known)) tt;
+        caused = λ d fair pends caused. told_caused _ c.args.path.now c.in-Some.port _ _ s refl went keeps devices d fair (subst (λ r. CallsPort port (clear_call PORT_ENABLE) old r new) w.in-Ok.is (c.clear_port.ensures.ports known)) pends caused;
       })
       | in-Err-Bus w ↦ rw w.result-is (record {
         owned = not_disabled c.args.path.now _ _ (Bus w.in-Err-Bus.fault) keeps;
         devices = devices;
         done = λ d e. absurd (cc e);
         failed = λ d e. absurd (cc e);
-        backlog = λ d still. told_backlog _ c.args.path.now c.in-Some.port _ _ s refl went keeps devices d (Err w.in-Err-Bus.field-0) (subst (λ r. CallsPort port (clear_call PORT_ENABLE) old r new) w.in-Err-Bus.is c.clear_port.ensures.ports)
-            (still_sound (Unit {0}) w.in-Err-Bus.field-0 old new w.in-Err-Bus.ensures.fault still);
+        backlog = λ d still. told_backlog _ c.args.path.now c.in-Some.port _ _ s refl went keeps devices d (Err w.in-Err-Bus.field-0) (subst (λ r. CallsPort port (clear_call PORT_ENABLE) old r new) w.in-Err-Bus.is (c.clear_port.ensures.ports known))
+            (still_sound (Unit {0}) w.in-Err-Bus.field-0 old new (w.in-Err-Bus.ensures.fault known) still);
         caused = λ d fair pends caused. tt;
       })
       | in-Err w ↦ rw w.result-is (record {
-        owned = port_failed c.args.path.now c.in-Some.port _ _ 1 w.in-Err.field-0 s w.in-Err.ensures.effect keeps;
+        owned = port_failed c.args.path.now c.in-Some.port _ _ 1 w.in-Err.field-0 s (w.in-Err.ensures.effect known) keeps;
         devices = devices;
         done = λ d e. absurd (cc e);
-        failed = λ d e. untold_droppable _ c.args.path.now c.in-Some.port _ _ s refl went keeps devices d w.in-Err.field-0 (subst (λ r. CallsPort port (clear_call PORT_ENABLE) old r new) w.in-Err.is c.clear_port.ensures.ports) w.in-Err.ensures.fault w.in-Err.ensures.effect;
-        backlog = λ d still. told_backlog _ c.args.path.now c.in-Some.port _ _ s refl went keeps devices d (Err w.in-Err.field-0) (subst (λ r. CallsPort port (clear_call PORT_ENABLE) old r new) w.in-Err.is c.clear_port.ensures.ports)
-            (still_sound (Unit {0}) w.in-Err.field-0 old new w.in-Err.ensures.fault still);
-        caused = λ d fair pends caused. untold_caused _ c.args.path.now c.in-Some.port _ _ s refl went keeps devices d fair w.in-Err.field-0 (subst (λ r. CallsPort port (clear_call PORT_ENABLE) old r new) w.in-Err.is c.clear_port.ensures.ports) w.in-Err.ensures.fault w.in-Err.ensures.effect caused;
+        failed = λ d e. untold_droppable _ c.args.path.now c.in-Some.port _ _ s refl went keeps devices d w.in-Err.field-0 (subst (λ r. CallsPort port (clear_call PORT_ENABLE) old r new) w.in-Err.is (c.clear_port.ensures.ports known)) (w.in-Err.ensures.fault known) (w.in-Err.ensures.effect known);
+        backlog = λ d still. told_backlog _ c.args.path.now c.in-Some.port _ _ s refl went keeps devices d (Err w.in-Err.field-0) (subst (λ r. CallsPort port (clear_call PORT_ENABLE) old r new) w.in-Err.is (c.clear_port.ensures.ports known))
+            (still_sound (Unit {0}) w.in-Err.field-0 old new (w.in-Err.ensures.fault known) still);
+        caused = λ d fair pends caused. untold_caused _ c.args.path.now c.in-Some.port _ _ s refl went keeps devices d fair w.in-Err.field-0 (subst (λ r. CallsPort port (clear_call PORT_ENABLE) old r new) w.in-Err.is (c.clear_port.ensures.ports known)) (w.in-Err.ensures.fault known) (w.in-Err.ensures.effect known) caused;
       })
     ])

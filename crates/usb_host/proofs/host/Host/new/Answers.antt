@@ -17,9 +17,9 @@ pub ports-init : goal.ports-init
 ports-init g c = record { powered = λ known. powered_none _; traced = λ known. still; silent = λ known. refl }
 
 pub root_set-requires-clause-port : goal.root_set-requires-clause-port
-root_set-requires-clause-port g c =
-    let len = powered_length _ _ _ (c.ports.invariant.powered g.met.B.Bus.known) in
-    (c.ports.auto.port, omega (arith, c.ports-test.true, c.root_ports-roots.ensures.count, len))
+root_set-requires-clause-port g c known =
+    let len = powered_length _ _ _ (c.ports.invariant.powered known) in
+    (c.ports.auto.port, omega (arith, c.ports-test.true, c.root_ports-roots.ensures.count known, len))
 
 pub ports-preserved : goal.ports-preserved
 ports-preserved g c =
@@ -27,9 +27,9 @@ ports-preserved g c =
     let port : ℕ = c.ports.port in
     let back : port ≡ (port + 1) - 1 = omega arith in
     record {
-      powered = λ known. powers_one w0 _ _ port c.ports.auto.port (c.ports.invariant.powered known) c.root_set.ensures.call ∙ ap (λ k. powered_world k w0) back;
-      traced = λ known. traced_set c.ports.port PORT_POWER refl (c.ports.invariant.traced known) c.root_set.ensures.call c.root_set.ensures.silent;
-      silent = λ known. c.root_set.ensures.silent ∙ (c.ports.invariant.silent known);
+      powered = λ known. powers_one w0 _ _ port c.ports.auto.port (c.ports.invariant.powered known) (c.root_set.ensures.call known) ∙ ap (λ k. powered_world k w0) back;
+      traced = λ known. traced_set c.ports.port PORT_POWER refl (c.ports.invariant.traced known) (c.root_set.ensures.call known) (c.root_set.ensures.silent known);
+      silent = λ known. c.root_set.ensures.silent known ∙ (c.ports.invariant.silent known);
     }
 
 pub invariant_of-result : goal.invariant_of-result
@@ -39,7 +39,7 @@ pub returns : goal.returns
 returns g c known =
     let w0 : World = g.B.Bus.world c.args.bus in
     let t0 = g.B.Bus.trace c.args.bus in
-    let all : c.ports.port - 1 ≡ roots_of w0 = omega (arith, c.ports-test.false, c.ports.auto.port-end, c.root_ports-roots.ensures.count, c.root_ports-roots.ensures.least) in
+    let all : c.ports.port - 1 ≡ roots_of w0 = omega (arith, c.ports-test.false, c.ports.auto.port-end, c.root_ports-roots.ensures.count known, c.root_ports-roots.ensures.least) in
     let opens = opened w0 _ _ _ _ _ (powered_all w0 _ (c.ports.port - 1) all (c.ports.invariant.powered known)) (c.ports.invariant.silent known) c.new-2.ensures c.new.ensures.empty in
     record {
       opens = opens;

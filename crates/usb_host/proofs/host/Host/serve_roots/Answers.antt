@@ -32,7 +32,7 @@ ports-preserved g c = elim c.if-has_changed.branch [
     unchanged = λ known quiet. absurd (cc quiet);
     served = λ known o. root_changed c.ports.number c.ports.round (c.ports.invariant.served known o) (sym (c.has_changed.ensures known) ∙ w.if-has_changed.true) ((w.in_ok-handle_root.ensures.handles known).handled.served ((c.ports.invariant.owned known).stays o));
     pays = λ known. roots_next _ _ c.ports.round c.ports.number c.args.self.now c.ports.self w.handle_root.new.self (c.ports.invariant.goes known).went (w.handle_root.ensures.goes known).went (c.ports.invariant.sound known) (c.ports.invariant.pays known) w.in_ok-handle_root.field-0
-        (root_shows c.ports.self.world c.ports.number (omega (arith, c.ports.auto.number)) (omega (arith, c.ports-test.true, c.root_ports-roots.ensures.count, (c.ports.invariant.goes known).went.spends.roots, ap (λ (h : Hosting). roots_of h.world) c.self.view_is)) (sym (c.has_changed.ensures known) ∙ w.if-has_changed.true))
+        (root_shows c.ports.self.world c.ports.number (omega (arith, c.ports.auto.number)) (omega (arith, c.ports-test.true, c.root_ports-roots.ensures.count known, (c.ports.invariant.goes known).went.spends.roots, ap (λ (h : Hosting). roots_of h.world) c.self.view_is)) (sym (c.has_changed.ensures known) ∙ w.if-has_changed.true))
         (w.in_ok-handle_root.ensures.handles known).pays;
     idle = λ known none. absurd (none_shows c.args.self.now c.ports.self c.ports.number (c.ports.invariant.same (c.ports.invariant.idle known none)) none (sym (c.has_changed.ensures known) ∙ w.if-has_changed.true));
   })
@@ -58,12 +58,12 @@ returns-clause-goes g c known = goes_wider _ _ _ _ (c.ports.invariant.goes known
 pub returns-clause-roots : goal.returns-clause-roots
 returns-clause-roots g c known =
     let roots = ap (λ (h : Hosting). roots_of h.world) c.self.view_is in
-    let end : c.ports.number ≡ roots_of c.args.self.now.world + 1 = omega (arith, c.ports-test.false, c.ports.auto.number, c.ports.auto.number-end, c.root_ports-roots.ensures.count, roots) in
+    let end : c.ports.number ≡ roots_of c.args.self.now.world + 1 = omega (arith, c.ports-test.false, c.ports.auto.number, c.ports.auto.number-end, c.root_ports-roots.ensures.count known, roots) in
     record {
       serves = record {
         none = λ quiet. record {
           same = c.ports.invariant.same quiet;
-          none = none_changed c.args.self.now.world c.ports.number (omega (arith, c.ports-test.false, c.root_ports-roots.ensures.count, roots)) (c.ports.invariant.unchanged known quiet);
+          none = none_changed c.args.self.now.world c.ports.number (omega (arith, c.ports-test.false, c.root_ports-roots.ensures.count known, roots)) (c.ports.invariant.unchanged known quiet);
         };
         served = λ o. subst (λ n. RootsServed n c.ports.round c.args.self.now c.ports.self) end (c.ports.invariant.served known o);
       };
