@@ -35,3 +35,9 @@ module _ (port : HubPort) (a b : Hosting) {v : World} {t : Option (List ℕ)} (a
       goes_by (order_bound port + status_bound port + order_bound port) clearing_bound a b
       (went_then (order_bound port + status_bound port) (order_bound port) (went_then (order_bound port) (status_bound port) first asks) last)
       (omega (arith, order_most port, status_most port (askable_wide port askable))) same
+
+  pub cleared_and_asked : {w : World} {s : Option (List ℕ)} → WentOn (order_bound port) v t w s → WentOn (status_bound port) w s b.world b.trace → HostGoes clearing_bound a b
+  cleared_and_asked then asks =
+      goes_by (order_bound port + order_bound port + status_bound port) clearing_bound a b
+      (went_then (order_bound port + order_bound port) (status_bound port) (went_then (order_bound port) (order_bound port) first then) asks)
+      (omega (arith, order_most port, status_most port (askable_wide port askable))) same

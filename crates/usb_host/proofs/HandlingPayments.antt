@@ -128,7 +128,7 @@ module _ (path : List ℕ) (port : KnownPort) (a b d : Hosting) (s : StandsAt pa
         paid
         (lost_paid c path a b (few_served c plan (Err ParentLost) serves w) first.spends.onward serves.hubs d (serves.pays.pays w.sound (ports_left c plan a w) here) ports
         (finishes.drops.backlog (sound.sound w.sound) still) (omega (arith, second.spends.most))
-        (finishes.fewer refl (has_hub path a.entries b.entries (serves.served w.sound.owned) has)))
+        (finishes.fewer refl (has_hub path a.entries b.entries (serves.served w.sound) has)))
     done_pays (Err (Bus fault)) (Ok x) ends told sound serves finishes ports = absurd (cc ends)
     done_pays (Err Memory) (Ok x) ends told sound serves finishes ports = absurd (cc ends)
     done_pays (Ok done) (Err other) ends told sound serves finishes ports = tt

@@ -5,6 +5,7 @@ use Rattle.std.proofs.lemmas.Bool.{eq-eqb, ne_eqb}
 use Rattle.std.proofs.lemmas.Nat.{and_mask}
 use Rattle.usb_port.specs.Status.{has_bit}
 use Rattle.arrayvec.specs.ArrayVec.{ArrayVec}
+use Rattle.usb_device.specs.Tree.{row_of}
 use Rattle.usb_world.specs.World.{World}
 use Rattle.usb_pipe.specs.Control.{FaultAfter}
 use Rattle.usb_pipe.specs.Leaves.{ByteTold, PollTells}
@@ -20,14 +21,14 @@ use Rattle.usb_table.specs.Listing.{hub_facts_at}
 use Rattle.usb_table.specs.Table.{pipes_at}
 use Rattle.usb_table.specs.Transfers.{PipesPolled}
 use Rattle.usb_host.specs.Hosting.{Hosting}
-use Rattle.usb_host.specs.Ownership.{HasLost, IsOwned}
+use Rattle.usb_host.specs.Ownership.{HasLost}
 use Rattle.usb_host.specs.Progress.{AddsNoWork, Advances, HostGoes, HostWent, Remains, waiting}
 use Rattle.usb_host.specs.Service.{PolledOnce, PollsHub, ServedTold, first_byte, not_heard, told_none, told_some}
 use Rattle.usb_host.specs.Soundness.{IsSound}
 use Rattle.usb_host.specs.Transfers.{table_in}
 use Rattle.usb_host.specs.declared.host.Round.TheVariants.{Worked, Quiet}
-use Rattle.usb_host.proofs.Owners.{stays_kept}
 use Rattle.usb_host.proofs.Polls.{hub_there}
+use Rattle.usb_host.proofs.ToldBits.{none_own}
 
 -- A bit of a byte
 
@@ -87,21 +88,26 @@ module _ (hub : List ℕ) (a b : Hosting) (same : b.entries ≡ a.entries) (pool
             let before = went_sound 768 a.world b.world went still in
             keeps.told (s.owned.so before) (s.level before hub) there.device (ap accepted_device_of there.found) (ap is_some there.told) refl
 
+    -- what is told is of ports: the hub itself has no change
+    pub told_of_ports : (packet : ArrayVec ℕ) (byte : ℕ) → got ≡ Some packet → byte ≡ first_byte packet.items → b.world.fault ≡ None → IsSound a → byte ≢ 1
+    told_of_ports packet byte is read still s one =
+        let t : ByteTold (BitsOf hub a.world b.world) packet.items = subst (λ (o : Option (ArrayVec ℕ)). PollTells (BitsOf hub a.world b.world) (Ok o)) is (hub_tells s still).tells in
+        none_own (row_of t.so.ports) (sym t.so.told ∙ sym (read ∙ ap first_byte t.is) ∙ one)
+
     once : (o : Option (ArrayVec ℕ)) → got ≡ o → PolledOnce hub a (Ok o) b
     once o is = record { through = subst (λ (x : Option (ArrayVec ℕ)). PipesPolled (pipes_at hub (table_in a)) a.world (Ok x) (pipes_at hub (table_in b)) b.world) is polled; remains = r }
 
     pub polls_quiet : got ≡ None → PollsHub hub Quiet a b
     polls_quiet none = record { did = r; polled = λ s still. told_none (once None none) (subst (λ (o : Option (ArrayVec ℕ)). PollTells (BitsOf hub a.world b.world) (Ok o)) none (hub_tells s still).tells) }
 
-    pub polls_told : (packet : ArrayVec ℕ) (byte n : ℕ) (c : Hosting) → got ≡ Some packet → byte ≡ first_byte packet.items → HostGoes n b c → a.world.attempts + 1 ≤ b.world.attempts → AddsNoWork b c → (IsOwned b → ServedTold hub byte 8 b c) → PollsHub hub Worked a c
+    pub polls_told : (packet : ArrayVec ℕ) (byte n : ℕ) (c : Hosting) → got ≡ Some packet → byte ≡ first_byte packet.items → HostGoes n b c → a.world.attempts + 1 ≤ b.world.attempts → AddsNoWork b c → (IsSound a → ServedTold hub byte 8 b c) → PollsHub hub Worked a c
     polls_told packet byte n c is read goes more holds served = record {
       did = polled_on a b c r went more holds;
       polled = λ s still.
           let here = went_sound n b.world c.world goes.went still in
           let t : ByteTold (BitsOf hub a.world b.world) packet.items = subst (λ (o : Option (ArrayVec ℕ)). PollTells (BitsOf hub a.world b.world) (Ok o)) is (hub_tells s here).tells in
-          let owned = (stays_kept a b same went.spends.roots keeps.levels.worlds.addresses).stays s.owned in
           let bits : byte ≡ t.bits = read ∙ ap first_byte t.is in
-          told_some packet b (once (Some packet) is) t (subst (λ k. ServedTold hub k 8 b c) bits (served owned));
+          told_some packet b (once (Some packet) is) t (subst (λ k. ServedTold hub k 8 b c) bits (served s));
     }
 
   -- it did not answer

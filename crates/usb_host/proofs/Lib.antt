@@ -58,3 +58,4 @@ pub mod FinishedPorts
 pub mod LevelPipes
 pub mod Servers
 pub mod Causes
+mod OtherChanges

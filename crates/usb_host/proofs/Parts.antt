@@ -92,6 +92,13 @@ pub hub_listed : (o : Option Finding) → IsSome (hub_facts_in o) → IsSome o
 hub_listed None some = absurd (cc some)
 hub_listed (Some f) some = refl
 
+part_where : (a c : Hosting) → (IsSound a → PartStays a c) → PartStays a c
+part_where a c f = record {
+  sound = record { sound = λ s. (f s).sound.sound s; caused = λ s fair q. (f s).sound.caused s fair q };
+  bulk = λ s still. (f s).bulk s still;
+  plugs = λ s still. (f s).plugs s still;
+}
+
 module _ (hub : List ℕ) (answer : Result (Option (ArrayVec ℕ)) PipeFault) (a b : Hosting) (agrees : Agrees a.entries a.addresses) (same : b.entries ≡ a.entries) (pool : b.addresses ≡ a.addresses) (stopped : b.stopped ≡ a.stopped)
     (went : HostWent 768 a b) (keeps : KeepsPolled hub (table_in a) a.world answer (table_in b) b.world) (through : GoesThrough hub (table_in a) (table_in b))
     (asks : PipesPolled (pipes_at hub (table_in a)) a.world answer (pipes_at hub (table_in b)) b.world) where
@@ -126,10 +133,10 @@ module _ (hub : List ℕ) (answer : Result (Option (ArrayVec ℕ)) PipeFault) (a
   }
 
   -- it told of changes, and its ports were handled
-  pub hub_told : (n : ℕ) (c : Hosting) → IsOk answer → HostGoes n b c → PartKeeps {A = Unit {0}} b (Ok tt) c → HubKeeps hub a (Ok Worked) c
-  hub_told n c ok q told = record {
-    owned = stays_then a b c polled told.owned;
-    sound = part_then 768 n a b c goes.went q.went (part ok) told.sound;
+  pub hub_told : (n : ℕ) (c : Hosting) → IsOk answer → HostGoes n b c → StaysOwned b c → (IsSound a → PartStays b c) → HubKeeps hub a (Ok Worked) c
+  hub_told n c ok q owned told = record {
+    owned = stays_then a b c polled owned;
+    sound = part_where a c (λ s. part_then 768 n a b c goes.went q.went (part ok) (told s));
     calm = λ is. absurd (cc is);
     silent = λ s is. absurd (cc is);
   }

@@ -131,6 +131,10 @@ module _ (c : Weights) (a b d : Hosting) where
       pick None is = costs_stop m k l (cost is) (then is) le
       pick (Some f) is = stops_same l before (none_made n b d went f is) went.spends.onward
 
+-- what a part costs is said of a host that knows what is so
+pub pays_where : {A : Type 0} (most : Weights → ℕ) (Done : Weights → A → Hosting → Hosting → Type 0) (a : Hosting) (result : Result A HostFault) (b : Hosting) → (IsSound a → PaysPart most Done a result b) → PaysPart most Done a result b
+pays_where most Done a result b f = record { stops = λ c plan w. (f w.sound).stops c plan w; pays = λ c plan w still. (f w.sound).pays c plan w still }
+
 -- Parts that failed, and those that did nothing
 
 pub on_err : {A : Type 0} (result : Result A HostFault) (P : A → Type 0) → IsErr result → IfOk result P

@@ -1,7 +1,7 @@
 -- What requests to a port keep, as the host tells of them.
 use Rattle.usb_device.specs.Tree.{path_to}
 use Rattle.std.proofs.Common.{◌≡◌, inl, inr, refl, sym, ap, subst, ◌∙◌, ℕ, true, false, List, [], ◌∷◌, ◌++◌, Option, None, Some, Result, Ok, Err}
-use Rattle.std.specs.Prelude.{IfOk}
+use Rattle.std.specs.Prelude.{IfOk, OnOk}
 use Rattle.std.specs.Global.{Vec}
 use Rattle.usb_request.specs.Features.{PORT_ENABLE, C_PORT_CONNECTION, C_PORT_ENABLE, C_PORT_RESET}
 use Rattle.usb_port.specs.declared.status.PortStatus.{PortStatus}
@@ -35,7 +35,7 @@ use Rattle.usb_backlog.specs.Marks.{KeepsAll}
 use Rattle.usb_backlog.proofs.Interface.{all_none, all_then}
 use Rattle.usb_enum.specs.declared.fault.EnumFault.{EnumFault}
 use Rattle.usb_enum.specs.declared.fault.EnumFault.TheVariants.{ParentLost}
-use Rattle.usb_enum.specs.Stop.{fault_at_port, at_port}
+use Rattle.usb_enum.specs.Stop.{CanFail, fault_at_port, at_port}
 use Rattle.usb_enum.specs.PresentDevices.{IsInOrder}
 use Rattle.usb_enum.proofs.Interface.{devices_then, went_in_order, went_sound, went_three}
 use Rattle.usb_host.specs.PortHandling.{LetsGoOn, RestElsewhere, HasWay, IsLost, Watches, Tidies, ClearsChange, Decides}
@@ -98,6 +98,12 @@ pub ok_at_port : {A : Type 0} (result : Result A PipeFault) (x : A) → at_port 
 ok_at_port (Ok y) x e = ap Ok (cc e)
 ok_at_port (Err fault) x e = absurd (cc e)
 
+-- a hub answered
+still_by : (port : HubPort) (old : World) (result : Result PortStatus PipeFault) (new : World) → PortRead port old result new → CanFail port → OnOk (at_port result) (old.fault ≡ None)
+still_by (Root number) old result new read can = absurd can
+still_by (External hub number) old (Ok status) new read can = read.ends.sound
+still_by (External hub number) old (Err fault) new read can = tt
+
 -- the hub of a path that is joined twice
 pub last_same : (q r : List ℕ) (m n : ℕ) → q ++ m ∷ [] ≡ r ++ n ∷ [] → q ≡ r
 last_same [] [] m n e = refl
@@ -117,6 +123,7 @@ watched port old result new read tells asked = record {
   rests = λ goes. read_rests port old result new read (sound_by result goes);
   backlog = λ goes. read_backlog port old result new read (sound_by result goes);
   told = λ f p at owned status e. tells.tells f p at owned status (ok_at_port result status e);
+  still = still_by port old result new read;
   lost = lost;
 }
   where

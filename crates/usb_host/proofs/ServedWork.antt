@@ -23,7 +23,7 @@ gained_on a b r gained =
     let same : waiting b.entries ≡ waiting a.entries = ap (λ (h : Hosting). waiting h.entries) r in
     omega (arith, same, gained)
 
-served_after : (result : Result (Unit {0}) EnumFault) (a b c : Hosting) → AddsNoWork a b → Served result b c → Served result a c
+pub served_after : (result : Result (Unit {0}) EnumFault) (a b c : Hosting) → AddsNoWork a b → Served result b c → Served result a c
 served_after (Ok done) a b c holds on = advances_after a b c holds on
 served_after (Err ParentLost) a b c holds on = advances_after a b c holds on
 served_after (Err (Bus fault)) a b c holds on = tt

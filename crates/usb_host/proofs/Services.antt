@@ -28,6 +28,7 @@ use Rattle.usb_host.specs.Ownership.{claims, HasLost, IsOwned}
 use Rattle.usb_host.specs.PortHandling.{Watches}
 use Rattle.usb_host.specs.Ports.{EndsAs, EntersOne, StandsAt}
 use Rattle.usb_host.specs.Progress.{Advances, HostWent, Rests}
+use Rattle.usb_host.specs.Soundness.{IsSound}
 use Rattle.usb_host.specs.Service.{DoneWhere, EndsAt, HandlesAt, LookedAt, LookedOnce, LookedOrLost, LosesParent, Renews, ServedAt, ServedOrLost, StaysOrForgets, TidiesTold, was_tidied, was_looked_at, was_lost, looked_once, lost_once}
 use Rattle.usb_host.specs.declared.fault.HostFault.{HostFault}
 use Rattle.usb_host.proofs.Handlings.{owned_rests}
@@ -153,7 +154,7 @@ handled_once path (Err ParentLost) a b c ends left s = lost_once (loses_then pat
 handled_once path (Err (Bus fault)) a b c ends left s = absurd (cc ends)
 handled_once path (Err Memory) a b c ends left s = absurd (cc ends)
 
-pub handles_at : (path : List ℕ) (due : Type 0) (result : Result (Unit {0}) HostFault) (a c : Hosting) → OnOk result (due → Advances a c) → (IsOwned a → OnOk result (ServedAt path a c)) → OnOk result (HandlesAt path due a c)
+pub handles_at : (path : List ℕ) (due : Type 0) (result : Result (Unit {0}) HostFault) (a c : Hosting) → OnOk result (due → Advances a c) → (IsSound a → OnOk result (ServedAt path a c)) → OnOk result (HandlesAt path due a c)
 handles_at path due (Ok done) a c x y = record { advances = x; served = y }
 handles_at path due (Err fault) a c x y = tt
 

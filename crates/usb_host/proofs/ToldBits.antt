@@ -129,6 +129,10 @@ module _ (row : List PortState) where
   unfolding change_bits
   whole = omega (arith, a.is, b.is, c.is, d.is, e.is, f.is, g.is)
 
+  -- the hub itself has none
+  pub none_own : change_bits row ≢ 1
+  none_own is = absurd (omega (arith, is, whole))
+
   -- a bit that is set is that of a port with a change
   pub bit_changed : (i : ℕ) → i < 7 → has_bit (change_bits row) (suc i) ≡ true → HasChange row i
   bit_changed zero less set = let one : change_bits row / 2 ^ 1 % 2 ≡ 1 = of_bit (change_bits row) 1 set in a.so (omega (arith, one, whole, a.few, b.few, c.few, d.few, e.few, f.few, g.few))

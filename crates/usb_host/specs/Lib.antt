@@ -15,3 +15,4 @@ pub mod Service
 pub mod Soundness
 pub mod ToldFaults
 pub mod Transfers
+pub mod Changes

@@ -25,6 +25,7 @@ use Rattle.usb_enum.specs.declared.finding.Finding.{Finding}
 use Rattle.usb_enum.specs.declared.finding.Finding.TheVariants.{Refused}
 use Rattle.usb_enum.specs.Places.{IsKnownAs, IsOccupied}
 use Rattle.usb_enum.specs.PresentDevices.{IsInOrder}
+use Rattle.usb_enum.specs.Stop.{CanFail}
 use Rattle.usb_enum.specs.TextLengths.{HasPlanWithin}
 use Rattle.usb_host.specs.BulkPipes.{KeepsBulk}
 use Rattle.usb_host.specs.Hosting.{Hosting}
@@ -62,6 +63,8 @@ pub record Watches (port : HubPort) (old : World) (result : Result PortStatus En
   pub rests : LetsGoOn result → AllRest old new
   pub backlog : LetsGoOn result → KeepsAll old new
   pub told : (f : Claims) (p : List ℕ) → IsAt f port p → TillFault (Owned f) old → (status : PortStatus) → result ≡ Ok status → PortTold p status old new
+  -- a hub answers only while the bus is at work
+  pub still : CanFail port → OnOk result (old.fault ≡ None)
   pub lost : (p : List ℕ) → HasWay old p → NoThreeDamaged old → new.fault ≡ None → new.shared ≡ false → result ≡ Err ParentLost → IsLost port p new
 
 -- what is known of a port stays so; what pends there pends; and where it is powered on its whole way, it stands as it stood, or a change is pending

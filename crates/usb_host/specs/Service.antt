@@ -232,7 +232,7 @@ pub record ServesPort (path : List ℕ) (due : Type 0) (old : Hosting) (result :
   pub on : due → Served result old new
   pub pays : PaysAtServe path old result new
   pub hubs : hubs new.entries ≤ hubs old.entries + 1
-  pub served : IsOwned old → ServedOrLost path old result new
+  pub served : IsSound old → ServedOrLost path old result new
 
 -- the hub of a port is listed
 abbrev pub HasHub : List ℕ → Entries → Type 0
@@ -252,7 +252,7 @@ pub record DropsOne (hub : List ℕ) (old : Hosting) (result : Result (Unit {0})
 -- a port was handled; where it was due, the host got on
 pub record HandlesAt (path : List ℕ) (due : Type 0) (old new : Hosting) : Type 0 where
   pub advances : due → Advances old new
-  pub served : IsOwned old → ServedAt path old new
+  pub served : IsSound old → ServedAt path old new
 
 -- and what that cost
 pub record HandlesPort (path : List ℕ) (due : Type 0) (old : Hosting) (result : Result (Unit {0}) HostFault) (new : Hosting) : Type 0 where
@@ -262,7 +262,7 @@ pub record HandlesPort (path : List ℕ) (due : Type 0) (old : Hosting) (result 
 -- a port of a hub was handled
 pub record HandlesBelow (hub : List ℕ) (number : ℕ) (round : Round) (old new : Hosting) : Type 0 where
   pub did : Did round old new
-  pub served : IsOwned old → ServedBelow hub number old new
+  pub served : IsSound old → ServedBelow hub number old new
 
 -- and what that cost
 pub record HandlesNumber (hub : List ℕ) (number : ℕ) (old : Hosting) (result : Result Round HostFault) (new : Hosting) : Type 0 where
@@ -271,7 +271,7 @@ pub record HandlesNumber (hub : List ℕ) (number : ℕ) (old : Hosting) (result
 
 -- the ports of which a hub told were handled
 pub record ServesTold (hub : List ℕ) (bits : ℕ) (old : Hosting) (result : Result (Unit {0}) HostFault) (new : Hosting) : Type 0 where
-  pub served : OnOk result (IsOwned old → ServedTold hub bits 8 old new)
+  pub served : OnOk result (IsSound old → ServedTold hub bits 8 old new)
   pub pays : PaysPart told_most (λ c done. ToldPaid hub bits c) old result new
 
 -- a device that waits was looked at again
@@ -307,7 +307,7 @@ pub record WentByParts (old : Hosting) (result : Result Round HostFault) (new : 
 -- the root ports were served
 pub record ServesRoots (round : Round) (old new : Hosting) : Type 0 where
   pub none : round ≡ Quiet → RootsRest old new
-  pub served : IsOwned old → RootsServed (roots_of old.world + 1) round old new
+  pub served : IsSound old → RootsServed (roots_of old.world + 1) round old new
 
 -- and what that cost
 pub record ServesEach (old : Hosting) (result : Result Round HostFault) (new : Hosting) : Type 0 where

@@ -41,6 +41,10 @@
 //!   was reached there, its pipes are new, and its bulk endpoints have begun again (`KeepsBulk`,
 //!   `specs/BulkPipes.antt`). That nothing moved between that beginning and the end of the same round is not said, nor
 //!   that no hub is polled within an enumeration.
+//! - What hubs tell and those of a world do not (`specs/Changes.antt`): a change of a port's suspend or over-current, or
+//!   of the hub itself, is cleared, and an accepted device whose port its hub has disabled on an error is found anew.
+//!   Over a world a host that knows what is so does none of it; what it does over such a hub is tested
+//!   (`usb_quirk_tests`).
 //! - An event that comes through `bus_mut` leaves what the host knows so (`known_stays_at_events`).
 #![tactic(auto)]
 

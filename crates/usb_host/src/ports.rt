@@ -1,21 +1,25 @@
 //! What the host does at a port.
-ghost use Rattle.std.specs.Prelude.{◌≡◌, ◌≤◌, ◌⊎◌, ◌+◌, ◌*◌, [], ◌∷◌, true, false, length, IsTrue, OnOk, IfOk, IfErr, IfSome, IfNone, IsSome};
+ghost use Rattle.std.specs.Prelude.{◌≡◌, ◌≤◌, ◌⊎◌, ◌+◌, ◌*◌, [], ◌∷◌, true, false, length, IsTrue, OnOk, Ok, IfOk, IfErr, IfSome, IfNone, IsSome, is_some};
 ghost use Rattle.std.specs.BTreeMap.{insert_entry};
 ghost use Rattle.usb_port.specs.Order.{path_cmp};
 ghost use Rattle.usb_port.specs.Path.{IsPath, IsPortNumber};
 ghost use Rattle.usb_world.specs.World.{IsRootPort, root_port_at};
 ghost use Rattle.usb_hub.specs.Port.{IsAsked};
+ghost use Rattle.usb_address.specs.Ownership.{KeepsAddresses};
 ghost use Rattle.usb_resources.specs.Pool.{IsFull};
 ghost use Rattle.usb_enum.specs.Bounds.{widest_enumeration, read_bound};
-ghost use Rattle.usb_enum.specs.Stop.{FaultAt};
+ghost use Rattle.usb_enum.specs.Stop.{CanFail, FaultAt};
 ghost use Rattle.usb_table.specs.Entries.{has_at, without};
+ghost use Rattle.usb_table.specs.Findings.{accepted_device_at};
 ghost use Rattle.usb_table.specs.KnownPorts.{IsAskable, known_port};
 ghost use Rattle.usb_table.specs.Listing.{tier_of};
 ghost use Rattle.usb_pipe.specs.Control.{write_bound};
+ghost use Rattle.usb_host.specs.Backlog.{hubs};
 ghost use Rattle.usb_host.specs.Bounds.{clearing_bound, look_bound, drop_bound, handling_bound, serving_bound};
 ghost use Rattle.usb_host.specs.Agreement.{Agrees};
+ghost use Rattle.usb_host.specs.Changes.{IsPlain, KeepsEach, OnlyTidies, has_failed};
 ghost use Rattle.usb_host.specs.PortHandling.{Watches, Tidies, ServesSound, Looks, FindsSound, DisablesOnWay, Climbs};
-ghost use Rattle.usb_host.specs.Ownership.{KeepsOwned, KeepsPort, DropsHub};
+ghost use Rattle.usb_host.specs.Ownership.{BaresPort, KeepsOwned, KeepsPort, DropsHub};
 ghost use Rattle.usb_host.specs.Ports.{IsPortAt, StandsNowhere, IsDue, Waits, Served, Shown, Gains, Broke, EndsAs, Entered, Forgets};
 ghost use Rattle.usb_host.specs.Progress.{HostGoes, AddsNoWork, Rests};
 ghost use Rattle.usb_host.specs.Service.{ClearsPort, DropsOne, FinishesAt, HandlesNumber, HandlesPort, LooksAnew, LooksOnceMore, ServesPort, TidiesTold};
@@ -27,9 +31,12 @@ use crate::host::{Host, Round};
 use crate::pool::{enter, release};
 use usb_bus::Bus;
 use usb_enum::{Cause, EnumFault, Finding, enumerate};
-use usb_hub::{HubPort, PipeFault, PortStatus, clear_port, port_status};
+use usb_hub::{
+    HubPort, PipeFault, PortStatus, clear_hub_changes, clear_port, clear_port_change, port_status,
+};
 use usb_port::PortPath;
 use usb_request::feature::{C_PORT_CONNECTION, C_PORT_ENABLE, C_PORT_RESET, PORT_ENABLE};
+use usb_request::hub_feature::{C_PORT_OVER_CURRENT, C_PORT_SUSPEND};
 use usb_resources::supply;
 use usb_table::{KnownPort, address_of};
 
@@ -83,6 +90,55 @@ impl<B: Bus> Host<B> {
         };
         self.handle(&path, port)?;
         Ok(Round::Worked)
+    }
+
+    /// Clears the changes of a hub itself, by way of its first port.
+    pub(crate) fn serve_own(&mut self, hub: &PortPath) -> Result<(), HostFault>
+        requires { IsPath hub.now }
+        ensures goes { B.modelled ≡ true → HostGoes handling_bound self.old self.new }
+        ensures told { IfErr result (λ fault. PartTold B.modelled fault self.new.world) }
+        ensures holds { B.modelled ≡ true → AddsNoWork self.old self.new }
+        ensures owned { B.modelled ≡ true → KeepsOwned self.old result self.new }
+    {
+        let mut path = hub.duplicate();
+        if !path.push(1) {
+            return Ok(());
+        }
+        let Some(port) = self.port_at(&path) else {
+            return Ok(());
+        };
+        self.handle_own(&path, port)
+    }
+
+    /// Clears the changes of the hub that has a port. Where it does not answer, it is dropped.
+    fn handle_own(&mut self, path: &PortPath, port: KnownPort) -> Result<(), HostFault>
+        requires { IsPortAt B.modelled path.now port self.old }
+        ensures goes { B.modelled ≡ true → HostGoes handling_bound self.old self.new }
+        ensures told { IfErr result (λ fault. PartTold B.modelled fault self.new.world) }
+        ensures holds { B.modelled ≡ true → AddsNoWork self.old self.new }
+        ensures owned { B.modelled ≡ true → KeepsOwned self.old result self.new }
+    {
+        let cleared = self.clear_own(port.port);
+        self.finish(path, cleared)
+    }
+
+    /// Clears the changes of the hub that has a port; the root has none.
+    fn clear_own(&mut self, port: HubPort) -> Result<(), EnumFault>
+        requires port { IsAsked B.modelled self.old.world port }
+        requires askable { IsAskable port }
+        ensures goes { B.modelled ≡ true
+            → HostGoes (read_bound 4 + 2 * write_bound) self.old self.new }
+        ensures told { B.modelled ≡ true
+            → IfErr result (λ fault. FaultAt port fault self.new.world) }
+        ensures rests { Rests self.old self.new }
+        ensures addresses { B.modelled ≡ true → KeepsAddresses self.old.world self.new.world }
+    {
+        match port {
+            HubPort::Root(_) => Ok(()),
+            HubPort::External { hub, .. } => {
+                Ok(clear_hub_changes(self.alloc, &mut self.bus, hub)?)
+            }
+        }
     }
 
     /// Looks again at a device that waits for an address.
@@ -154,8 +210,8 @@ impl<B: Bus> Host<B> {
         }
     }
 
-    /// Where the connection of a port has changed, what is there is forgotten and found anew; else
-    /// what an earlier reset or error left is cleared.
+    /// Where the connection of a port has changed, or its hub has disabled it on an error, what is
+    /// there is forgotten and found anew; else its changes are cleared.
     fn serve(&mut self, path: &PortPath, port: KnownPort) -> Result<(), EnumFault>
         requires { IsPortAt B.modelled path.now port self.old }
         ensures goes { B.modelled ≡ true → HostGoes serving_bound self.old self.new }
@@ -169,9 +225,31 @@ impl<B: Bus> Host<B> {
         let status = self.status(port.port)?;
         if status.connection_changed {
             self.look(path, port)
+        } else if self.has_failed(path, port.port, status) {
+            self.look_after_error(path, port)
         } else {
-            self.tidy(port.port, status)
+            self.settle(port.port, status)
         }
+    }
+
+    /// Whether a hub has disabled a port on an error (11.8.1), so that its device is dead.
+    fn has_failed(&self, path: &PortPath, port: HubPort, status: PortStatus) -> bool
+        ensures { result ≡ has_failed port status (accepted_device_at path.now self.now.entries) }
+    {
+        match port {
+            HubPort::Root(_) => false,
+            HubPort::External { .. } => {
+                status.enable_changed
+                    && (status.connected && (!status.enabled && self.has_device(path)))
+            }
+        }
+    }
+
+    /// Whether a device was accepted at a path.
+    fn has_device(&self, path: &PortPath) -> bool
+        ensures { result ≡ is_some (accepted_device_at path.now self.now.entries) }
+    {
+        matches!(self.table.get(path), Some(Finding::Device(_)))
     }
 
     /// The status of a port.
@@ -186,6 +264,40 @@ impl<B: Bus> Host<B> {
         ensures watches { B.modelled ≡ true → Watches port self.old.world result self.new.world }
     {
         Ok(port_status(self.alloc, &mut self.bus, port)?)
+    }
+
+    /// Clears each change of a port whose connection has not changed.
+    fn settle(&mut self, port: HubPort, status: PortStatus) -> Result<(), EnumFault>
+        requires { IsAsked B.modelled self.old.world port }
+        ensures goes { B.modelled ≡ true → HostGoes (4 * write_bound) self.old self.new }
+        ensures told { B.modelled ≡ true
+            → IfErr result (λ fault. FaultAt port fault self.new.world) }
+        ensures rests { Rests self.old self.new }
+        ensures keeps { B.modelled ≡ true → KeepsEach self.old.world self.new.world }
+        ensures tidies { B.modelled ≡ true
+            → IsPlain status → OnlyTidies port status self.old result self.new }
+    {
+        self.tidy(port, status)?;
+        self.clear_others(port, status)
+    }
+
+    /// Clears the changes of a port that ask for nothing else: of its suspend and its over-current.
+    fn clear_others(&mut self, port: HubPort, status: PortStatus) -> Result<(), EnumFault>
+        requires { IsAsked B.modelled self.old.world port }
+        ensures goes { B.modelled ≡ true → HostGoes (2 * write_bound) self.old self.new }
+        ensures told { B.modelled ≡ true
+            → IfErr result (λ fault. FaultAt port fault self.new.world) }
+        ensures rests { Rests self.old self.new }
+        ensures keeps { B.modelled ≡ true → KeepsEach self.old.world self.new.world }
+        ensures none { IsPlain status → (result ≡ Ok tt) × (self.new ≡ self.old) }
+    {
+        if status.suspend_changed {
+            clear_port_change(&mut self.bus, port, C_PORT_SUSPEND)?;
+        }
+        if status.over_current_changed {
+            clear_port_change(&mut self.bus, port, C_PORT_OVER_CURRENT)?;
+        }
+        Ok(())
     }
 
     /// Clears what an earlier reset or error left of a port whose connection has not changed.
@@ -247,6 +359,44 @@ impl<B: Bus> Host<B> {
             clear_port(&mut self.bus, port, PORT_ENABLE)?;
         }
         Ok(status)
+    }
+
+    /// Forgets a device that is dead since its hub has disabled its port on an error, and finds it
+    /// anew.
+    fn look_after_error(&mut self, path: &PortPath, port: KnownPort) -> Result<(), EnumFault>
+        requires { IsPortAt B.modelled path.now port self.old }
+        ensures goes { B.modelled ≡ true → HostGoes look_bound self.old self.new }
+        ensures told { B.modelled ≡ true
+            → IfErr result (λ fault. FaultAt port.port fault self.new.world) }
+        ensures owned { B.modelled ≡ true → KeepsPort path.now self.old result self.new }
+        ensures served { B.modelled ≡ true
+            → CanFail port.port → Served result self.old self.new }
+        ensures hubs { hubs self.new.entries ≤ hubs self.old.entries + 1 }
+    {
+        let status = self.clear_error(port.port)?;
+        self.forget(path);
+        if status.connected {
+            self.discover(path, port)?;
+        }
+        Ok(())
+    }
+
+    /// Clears a port's change of enable, disables it, and reads its status.
+    fn clear_error(&mut self, port: HubPort) -> Result<PortStatus, EnumFault>
+        requires port { IsAsked B.modelled self.old.world port }
+        requires askable { IsAskable port }
+        ensures goes { B.modelled ≡ true → HostGoes clearing_bound self.old self.new }
+        ensures told { B.modelled ≡ true
+            → IfErr result (λ fault. FaultAt port fault self.new.world) }
+        ensures rests { Rests self.old self.new }
+        ensures gains { B.modelled ≡ true
+            → CanFail port → Gains result self.old.world self.new.world }
+        ensures bares { B.modelled ≡ true
+            → BaresPort port self.old.world result self.new.world }
+    {
+        clear_port(&mut self.bus, port, C_PORT_ENABLE)?;
+        clear_port(&mut self.bus, port, PORT_ENABLE)?;
+        Ok(port_status(self.alloc, &mut self.bus, port)?)
     }
 
     /// Enters what is found at a port, of which nothing is known.

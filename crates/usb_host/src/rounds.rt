@@ -7,6 +7,8 @@ ghost use Rattle.usb_table.specs.Findings.{is_hub, is_waiting};
 ghost use Rattle.usb_table.specs.NextEntries.{ComesAfter, IsNext, IsLast};
 ghost use Rattle.usb_resources.specs.Pool.{IsFull};
 ghost use Rattle.usb_host.specs.Agreement.{Agrees};
+ghost use Rattle.usb_host.specs.Changes.{ServesPorts};
+ghost use Rattle.usb_host.specs.Ownership.{KeepsOwned};
 ghost use Rattle.usb_host.specs.Bounds.{round_bound, roots_bound, hubs_bound, hub_poll_bound, told_bound, looks_bound};
 ghost use Rattle.usb_host.specs.Soundness.{IsSound, PartKeeps, PartsKeep, HubKeeps, HubsKeep, LooksKeep};
 ghost use Rattle.usb_host.specs.Ports.{Waits};
@@ -110,9 +112,26 @@ impl<B: Bus> Host<B> {
         }
     }
 
+    /// Serves what a hub told: its ports, and the hub itself where none of them has a change.
+    fn serve_told(&mut self, hub: &PortPath, bits: u8) -> Result<(), HostFault>
+        requires { IsPath hub.now }
+        ensures goes { B.modelled ≡ true → HostGoes told_bound self.old self.new }
+        ensures told { IfErr result (λ fault. PartTold B.modelled fault self.new.world) }
+        ensures holds { B.modelled ≡ true → OnOk result (AddsNoWork self.old self.new) }
+        ensures owned { B.modelled ≡ true → KeepsOwned self.old result self.new }
+        ensures ports { B.modelled ≡ true
+            → bits ≢ 1 → ServesPorts hub.now bits self.old result self.new }
+    {
+        if bits == 1 {
+            self.serve_own(hub)
+        } else {
+            self.serve_ports(hub, bits)
+        }
+    }
+
     /// Handles each port of a hub whose bit is set, by rising number, as long as the hub is known.
     #[tactic(auto, using(crate::proofs::Owners::single_then))]
-    fn serve_told(&mut self, hub: &PortPath, bits: u8) -> Result<(), HostFault>
+    fn serve_ports(&mut self, hub: &PortPath, bits: u8) -> Result<(), HostFault>
         requires { IsPath hub.now }
         ensures goes { B.modelled ≡ true → HostGoes told_bound self.old self.new }
         ensures told { IfErr result (λ fault. PartTold B.modelled fault self.new.world) }

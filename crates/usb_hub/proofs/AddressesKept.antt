@@ -7,6 +7,7 @@ use Rattle.usb_request.specs.Codes.{SET_ADDRESS, DEVICE_OUT}
 use Rattle.usb_port.specs.Status.{seen, status_in}
 use Rattle.usb_port.specs.declared.status.PortStatus.{PortStatus}
 use Rattle.usb_request.specs.Layout.{IsToHost}
+use Rattle.usb_request.specs.HubRequests.{clear_hub_feature}
 use Rattle.usb_request.specs.declared.setup.Setup.{Setup}
 use Rattle.usb_request.specs.Requests.{get_port_status, set_port_feature, clear_port_feature, set_address, set_configuration}
 use Rattle.usb_port.specs.declared.call.PortCall.{PortCall}
@@ -70,6 +71,12 @@ gives target address old result new ordered = record {
       write_till (λ w. Owned f w ⊎ Owned (after_taking f p address) w) (either_alone f (after_taking f p address)) old new 2 1 target (set_address address) o.single result ordered.ends ordered.stages
       (λ sound. gives_address f target (set_address address) (same_setup (set_address address)) refl p at spare differ old result new ordered.stages (o.so sound));
 }
+
+-- Requests to a hub
+
+pub hub_feature_keeps : (hub : Target) (feature : ℕ) (old : World) (result : Result (Unit {0}) PipeFault) (new : World) → Ordered hub (clear_hub_feature feature) old result new → KeepsAddresses old new
+unfolding clear_hub_feature
+hub_feature_keeps hub feature old result new = ordered_keeps hub (clear_hub_feature feature) old result new refl refl
 
 -- Requests to a port of a hub
 

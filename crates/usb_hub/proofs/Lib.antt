@@ -16,3 +16,4 @@ pub mod CalledPorts
 pub mod Statuses
 pub mod Moments
 pub mod CallFailures
+mod HubChanges

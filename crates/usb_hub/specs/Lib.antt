@@ -5,3 +5,4 @@ pub mod Port
 pub mod Requests
 pub mod Settings
 pub mod CallFailures
+pub mod Changes

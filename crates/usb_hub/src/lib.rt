@@ -38,6 +38,8 @@
 //!   a port that is not at or below this one, and a change of connection there that the call does not clear stays
 //!   pending (`CallsPort`). `SetWent` is the course of `set_port`: within its count at a hub's port and with PORT_RESET
 //!   at a root port, where PORT_POWER may set a change of connection.
+//! - `clear_port_change`, `clear_hub_changes`: the requests were made, just for the changes that were told, and keep all
+//!   addresses; a STALL of one counts as done (`Clears`, `ClearsOfHub`).
 //! - Calls at a hub's port fail only where three attempts running are damaged, or the hub is not reached, does not hear
 //!   its target, is not configured or has no such port (`Serves`, `usb_hub/specs/CallFailures.antt`).
 //! - But for PORT_RESET, a call at a port leaves each device that is still reachable as it was, but for where its
@@ -46,11 +48,13 @@
 #![tactic(auto)]
 
 mod asking;
+mod changes;
 mod external;
 mod port;
 mod requests;
 mod status;
 
+pub use changes::{clear_hub_changes, clear_port_change};
 pub use external::{clear_hub_port, hub_port_status, set_hub_port};
 pub use port::{HubPort, clear_port, port_status, set_port};
 pub use requests::{

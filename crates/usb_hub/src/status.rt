@@ -1,5 +1,6 @@
-//! The two bytes of a device's status, read.
+//! The two bytes of a device's status and the four of a hub's, read.
 ghost use Rattle.std.specs.Prelude.{◌≡◌};
+ghost use Rattle.usb_hub.specs.Changes.{hub_status};
 ghost use Rattle.usb_hub.specs.Requests.{device_status};
 
 /// What a device's status says (9.4.5).
@@ -20,6 +21,28 @@ impl DeviceStatus {
         DeviceStatus {
             self_powered: bytes[0] & 1 == 1,
             remote_wakeup: bytes[0] >> 1 & 1 == 1,
+        }
+    }
+}
+
+/// What a hub's own status says of changes (11.24.2.6).
+#[derive(Clone, Copy, Debug, PartialEq, Eq)]
+pub(crate) struct HubStatus {
+    /// wHubChange, bit 0: C_HUB_LOCAL_POWER.
+    pub(crate) power_changed: bool,
+    /// wHubChange, bit 1: C_HUB_OVER_CURRENT.
+    pub(crate) over_current_changed: bool,
+}
+
+impl HubStatus {
+    /// Reads wHubStatus and wHubChange, each low byte first.
+    #[tactic(auto, unfolding(usb_port::specs::Status::has_bit))]
+    pub(crate) fn from_bytes(bytes: [u8; 4]) -> HubStatus
+        ensures { result ≡ hub_status bytes }
+    {
+        HubStatus {
+            power_changed: bytes[2] & 1 == 1,
+            over_current_changed: bytes[2] >> 1 & 1 == 1,
         }
     }
 }

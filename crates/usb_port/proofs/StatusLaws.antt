@@ -17,26 +17,28 @@ high_of_two true false = refl
 high_of_two false true = refl
 high_of_two false false = refl
 
-record Three (b c d : Bool) : Type 0 where
+record Changes (b c d : Bool) : Type 0 where
   first : has_bit (bit b + 2 * bit c + 16 * bit d) 0 ≡ b
   second : has_bit (bit b + 2 * bit c + 16 * bit d) 1 ≡ c
-  third : has_bit (bit b + 2 * bit c + 16 * bit d) 4 ≡ d
+  third : has_bit (bit b + 2 * bit c + 16 * bit d) 2 ≡ false
+  fourth : has_bit (bit b + 2 * bit c + 16 * bit d) 3 ≡ false
+  fifth : has_bit (bit b + 2 * bit c + 16 * bit d) 4 ≡ d
 
-three : (b c d : Bool) → Three b c d
+change_bits : (b c d : Bool) → Changes b c d
 unfolding has_bit
-three true true true = record { first = refl; second = refl; third = refl }
-three true true false = record { first = refl; second = refl; third = refl }
-three true false true = record { first = refl; second = refl; third = refl }
-three true false false = record { first = refl; second = refl; third = refl }
-three false true true = record { first = refl; second = refl; third = refl }
-three false true false = record { first = refl; second = refl; third = refl }
-three false false true = record { first = refl; second = refl; third = refl }
-three false false false = record { first = refl; second = refl; third = refl }
+change_bits true true true = record { first = refl; second = refl; third = refl; fourth = refl; fifth = refl }
+change_bits true true false = record { first = refl; second = refl; third = refl; fourth = refl; fifth = refl }
+change_bits true false true = record { first = refl; second = refl; third = refl; fourth = refl; fifth = refl }
+change_bits true false false = record { first = refl; second = refl; third = refl; fourth = refl; fifth = refl }
+change_bits false true true = record { first = refl; second = refl; third = refl; fourth = refl; fifth = refl }
+change_bits false true false = record { first = refl; second = refl; third = refl; fourth = refl; fifth = refl }
+change_bits false false true = record { first = refl; second = refl; third = refl; fourth = refl; fifth = refl }
+change_bits false false false = record { first = refl; second = refl; third = refl; fourth = refl; fifth = refl }
 
 pub status_seen : (p : PortState) → status_in (status_of p) ≡ seen p
 unfolding status_in status_of
 status_seen p =
-    let changes = three p.connection_changed p.enable_changed p.reset_changed in
+    let changes = change_bits p.connection_changed p.enable_changed p.reset_changed in
     rw (
       low_of_two (p.power && is_attached p.attached) p.enable,
       high_of_two (p.power && is_attached p.attached) p.enable,
@@ -45,4 +47,6 @@ status_seen p =
       changes.first,
       changes.second,
       changes.third,
+      changes.fourth,
+      changes.fifth,
     ) refl

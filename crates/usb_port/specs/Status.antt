@@ -1,5 +1,5 @@
 -- What the bits of a port's status say.
-use Rattle.std.specs.Prelude.{ℕ, ◌/◌, ◌%◌, ◌^◌, ◌==◌, Bool, ◌&&◌, List, slice_index}
+use Rattle.std.specs.Prelude.{ℕ, ◌/◌, ◌%◌, ◌^◌, ◌==◌, Bool, false, ◌&&◌, List, slice_index}
 use Rattle.usb_port.specs.PortState.{PortState, is_attached, is_low}
 use Rattle.usb_port.specs.declared.status.PortStatus.{PortStatus}
 
@@ -14,10 +14,12 @@ status_in bytes = record {
   low_speed = has_bit (slice_index bytes 1) 1;
   connection_changed = has_bit (slice_index bytes 2) 0;
   enable_changed = has_bit (slice_index bytes 2) 1;
+  suspend_changed = has_bit (slice_index bytes 2) 2;
+  over_current_changed = has_bit (slice_index bytes 2) 3;
   reset_changed = has_bit (slice_index bytes 2) 4;
 }
 
--- what a port's status says of it: what is attached is seen with power only
+-- what a port's status says of it: what is attached is seen with power only, and neither suspended nor over-current ports are played
 abbrev pub seen : PortState → PortStatus
 seen p = record {
   connected = p.power && is_attached p.attached;
@@ -26,5 +28,7 @@ seen p = record {
   low_speed = p.power && is_low p.attached;
   connection_changed = p.connection_changed;
   enable_changed = p.enable_changed;
+  suspend_changed = false;
+  over_current_changed = false;
   reset_changed = p.reset_changed;
 }

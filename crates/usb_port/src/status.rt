@@ -18,6 +18,10 @@ pub struct PortStatus {
     pub connection_changed: bool,
     /// wPortChange, bit 1: C_PORT_ENABLE.
     pub enable_changed: bool,
+    /// wPortChange, bit 2: C_PORT_SUSPEND.
+    pub suspend_changed: bool,
+    /// wPortChange, bit 3: C_PORT_OVER_CURRENT.
+    pub over_current_changed: bool,
     /// wPortChange, bit 4: C_PORT_RESET.
     pub reset_changed: bool,
 }
@@ -37,6 +41,8 @@ impl PortStatus {
             low_speed: has_bit(bytes[1], 1),
             connection_changed: has_bit(bytes[2], 0),
             enable_changed: has_bit(bytes[2], 1),
+            suspend_changed: has_bit(bytes[2], 2),
+            over_current_changed: has_bit(bytes[2], 3),
             reset_changed: has_bit(bytes[2], 4),
         }
     }

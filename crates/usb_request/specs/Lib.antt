@@ -1,4 +1,5 @@
 pub mod Codes
 pub mod Features
+pub mod HubRequests
 pub mod Layout
 pub mod Requests

@@ -11,6 +11,8 @@ pub mod descriptor_length;
 pub mod descriptor_type;
 pub mod endpoint_address;
 pub mod feature;
+pub mod hub_feature;
+mod hub_makers;
 mod makers;
 pub mod request_code;
 pub mod request_type;

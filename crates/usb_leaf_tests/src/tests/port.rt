@@ -90,7 +90,7 @@ struct StatusRow {
 
 const STATUSES: &[StatusRow] = &[
     StatusRow {
-        bytes: [3, 3, 0x10, 0],
+        bytes: [3, 3, 0x18, 0],
         status: PortStatus {
             connected: true,
             enabled: true,
@@ -98,11 +98,13 @@ const STATUSES: &[StatusRow] = &[
             low_speed: true,
             connection_changed: false,
             enable_changed: false,
+            suspend_changed: false,
+            over_current_changed: true,
             reset_changed: true,
         },
     },
     StatusRow {
-        bytes: [0, 1, 3, 0],
+        bytes: [0, 1, 7, 0],
         status: PortStatus {
             connected: false,
             enabled: false,
@@ -110,6 +112,8 @@ const STATUSES: &[StatusRow] = &[
             low_speed: false,
             connection_changed: true,
             enable_changed: true,
+            suspend_changed: true,
+            over_current_changed: false,
             reset_changed: false,
         },
     },

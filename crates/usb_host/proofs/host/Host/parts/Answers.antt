@@ -73,7 +73,7 @@ returns-clause-parts g c known =
           record {
             roots = c.in_ok-roots.roots;
             first = first;
-            served = (c.in_ok-roots.ensures.roots known).serves.served s.owned;
+            served = (c.in_ok-roots.ensures.roots known).serves.served s;
             hubs = c.in_ok-hubs.hubs;
             second = second;
             polled = (c.in_ok-hubs.ensures.polls known).polls before (went_sound _ second.world end.world (c.look_again.ensures.goes known).went still);

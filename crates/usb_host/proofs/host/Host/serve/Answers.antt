@@ -1,5 +1,5 @@
 use Rattle.usb_host.proofs.Stations.{placed}
-use Rattle.std.proofs.Common.{◌∙◌, arith, subst, Err, Ok}
+use Rattle.std.proofs.Common.{◌∙◌, arith, subst, sym, Err, Ok}
 use Rattle.std.proofs.lemmas.Result.{err_from_is_err_and}
 use Rattle.std.specs.Prelude.{IfErr}
 use Rattle.usb_enum.specs.Stop.{FaultAt}
@@ -18,14 +18,15 @@ use Rattle.usb_enum.proofs.Interface.{went_sound}
 use Rattle.usb_host.proofs.ServePayments.{after_look, after_tidy, status_lost, told_there}
 use Rattle.usb_host.proofs.HubCounts.{hubs-rest, none_rests}
 use Rattle.usb_host.proofs.LookPayments.{within_on}
+use Rattle.usb_host.proofs.OtherChanges.{failed_on, none_failed, watched_plain}
 use Rattle.usb_host.proofs.Plugs.{plugs_rests, plugs_then}
 use Rattle.usb_host.proofs.host.Host.serve.Goals as goal
 
 pub returns-then-status-clause-goes : goal.returns-then-status-clause-goes
 returns-then-status-clause-goes g c known = goes_then _ _ _ _ _ _ (c.status.ensures.goes known) (c.look.ensures.goes known) (omega arith)
 
-pub returns-else-status-clause-goes : goal.returns-else-status-clause-goes
-returns-else-status-clause-goes g c known = goes_then _ _ _ _ _ _ (c.status.ensures.goes known) (c.tidy.ensures.goes known) (omega arith)
+pub returns-else-has_failed-clause-goes : goal.returns-else-has_failed-clause-goes
+returns-else-has_failed-clause-goes g c known = goes_then _ _ _ _ _ _ (c.status.ensures.goes known) (c.settle.ensures.goes known) (omega arith)
 
 pub returns-in_err-status-clause-owned : goal.returns-in_err-status-clause-owned
 returns-in_err-status-clause-owned g c known = port_rests c.args.path.now c.args.self.now _ _ c.in_err-status.ensures.rests (c.status.ensures.goes known).went.spends.roots (c.in_err-status.ensures.watches known).addresses
@@ -34,9 +35,9 @@ pub returns-then-status-clause-owned : goal.returns-then-status-clause-owned
 returns-then-status-clause-owned g c known =
     port_then c.args.path.now c.args.self.now _ _ _ (stays_rests c.args.self.now c.status.new.self c.in_ok-status.ensures.rests (c.status.ensures.goes known).went.spends.roots (c.in_ok-status.ensures.watches known).addresses) (c.look.ensures.looks known).owned
 
-pub returns-else-status-clause-owned : goal.returns-else-status-clause-owned
-returns-else-status-clause-owned g c known =
-    port_rests c.args.path.now c.args.self.now _ _ (rests_then c.args.self.now c.status.new.self c.tidy.new.self c.in_ok-status.ensures.rests c.tidy.ensures.rests) ((c.tidy.ensures.goes known).went.spends.roots ∙ (c.status.ensures.goes known).went.spends.roots) (keeps_then c.args.self.now.world c.status.new.self.world c.tidy.new.self.world (c.in_ok-status.ensures.watches known).addresses (c.tidy.ensures.tidies known).addresses)
+pub returns-else-has_failed-clause-owned : goal.returns-else-has_failed-clause-owned
+returns-else-has_failed-clause-owned g c known =
+    port_rests c.args.path.now c.args.self.now _ _ (rests_then c.args.self.now c.status.new.self c.settle.new.self c.in_ok-status.ensures.rests c.settle.ensures.rests) ((c.settle.ensures.goes known).went.spends.roots ∙ (c.status.ensures.goes known).went.spends.roots) (keeps_then c.args.self.now.world c.status.new.self.world c.settle.new.self.world (c.in_ok-status.ensures.watches known).addresses (c.settle.ensures.keeps known).addresses)
 
 pub returns-in_err-status-clause-sound : goal.returns-in_err-status-clause-sound
 returns-in_err-status-clause-sound g c known =
@@ -70,25 +71,25 @@ returns-then-status-clause-sound g c known =
           (causes_rests _ c.args.self.now c.status.new.self c.in_ok-status.ensures.rests (c.status.ensures.goes known).went c.requires.agrees half.still (watches.rests tt) i caused);
     }
 
-pub returns-else-status-clause-sound : goal.returns-else-status-clause-sound
-returns-else-status-clause-sound g c known =
+pub returns-else-has_failed-clause-sound : goal.returns-else-has_failed-clause-sound
+returns-else-has_failed-clause-sound g c known =
     let watches = subst (λ r. Watches c.args.port.port c.args.self.now.world r c.status.new.self.world) c.in_ok-status.was (c.status.ensures.watches known) in
     let stands = rests_stands _ c.args.path.now c.args.port c.args.self.now c.status.new.self (placed known c.requires) c.in_ok-status.ensures.rests (c.status.ensures.goes known).went in
     record {
-      sound = λ i. tidied_port _ c.args.path.now c.args.port c.status.new.self c.tidy.new.self stands c.tidy.ensures.rests (c.tidy.ensures.goes known).went c.tidy.result (c.tidy.ensures.tidies known) (c.tidy.ensures.told known)
+      sound = λ i. tidied_port _ c.args.path.now c.args.port c.status.new.self c.settle.new.self stands c.settle.ensures.rests (c.settle.ensures.goes known).went c.settle.result (c.settle.ensures.tidies known (watched_plain c.args.path.now c.args.port c.args.self.now c.status.new.self.world (placed known c.requires) i.owned c.in_ok-status.status watches)).tidies (c.settle.ensures.told known)
           (watched_sound _ c.args.path.now c.args.port c.args.self.now c.status.new.self (placed known c.requires) c.in_ok-status.ensures.rests (c.status.ensures.goes known).went c.in_ok-status.status watches i);
       bulk = λ i on still.
-          bulk_stays _ _ (stay_joined c.args.self.now c.status.new.self c.tidy.new.self (watched_stay _ c.args.path.now c.args.port c.args.self.now c.status.new.self (placed known c.requires) c.in_ok-status.ensures.rests (c.status.ensures.goes known).went (Ok c.in_ok-status.status) watches i)
-          (tidied_stay _ c.args.path.now c.args.port c.status.new.self c.tidy.new.self stands c.tidy.ensures.rests (c.tidy.ensures.goes known).went c.tidy.result (c.tidy.ensures.tidies known)
+          bulk_stays _ _ (stay_joined c.args.self.now c.status.new.self c.settle.new.self (watched_stay _ c.args.path.now c.args.port c.args.self.now c.status.new.self (placed known c.requires) c.in_ok-status.ensures.rests (c.status.ensures.goes known).went (Ok c.in_ok-status.status) watches i)
+          (tidied_stay _ c.args.path.now c.args.port c.status.new.self c.settle.new.self stands c.settle.ensures.rests (c.settle.ensures.goes known).went c.settle.result (c.settle.ensures.tidies known (watched_plain c.args.path.now c.args.port c.args.self.now c.status.new.self.world (placed known c.requires) i.owned c.in_ok-status.status watches)).tidies
           (watched_sound _ c.args.path.now c.args.port c.args.self.now c.status.new.self (placed known c.requires) c.in_ok-status.ensures.rests (c.status.ensures.goes known).went c.in_ok-status.status watches i)));
       plugs = λ i still.
-          plugs_then _ _ c.args.self.now c.status.new.self c.tidy.new.self (c.status.ensures.goes known).went (c.tidy.ensures.goes known).went still
-          (plugs_rests _ c.args.self.now c.status.new.self (c.status.ensures.goes known).went c.in_ok-status.ensures.rests) (plugs_rests _ c.status.new.self c.tidy.new.self (c.tidy.ensures.goes known).went c.tidy.ensures.rests);
+          plugs_then _ _ c.args.self.now c.status.new.self c.settle.new.self (c.status.ensures.goes known).went (c.settle.ensures.goes known).went still
+          (plugs_rests _ c.args.self.now c.status.new.self (c.status.ensures.goes known).went c.in_ok-status.ensures.rests) (plugs_rests _ c.status.new.self c.settle.new.self (c.settle.ensures.goes known).went c.settle.ensures.rests);
       caused = λ i fair caused.
-          let half = fair_before _ c.args.self.now.world c.status.new.self.world c.tidy.new.self.world (c.tidy.ensures.goes known).went fair in
-          tidied_caused _ c.args.path.now c.args.port c.status.new.self c.tidy.new.self stands c.tidy.ensures.rests (c.tidy.ensures.goes known).went c.tidy.result (c.tidy.ensures.tidies known) (c.tidy.ensures.told known)
+          let half = fair_before _ c.args.self.now.world c.status.new.self.world c.settle.new.self.world (c.settle.ensures.goes known).went fair in
+          tidied_caused _ c.args.path.now c.args.port c.status.new.self c.settle.new.self stands c.settle.ensures.rests (c.settle.ensures.goes known).went c.settle.result (c.settle.ensures.tidies known (watched_plain c.args.path.now c.args.port c.args.self.now c.status.new.self.world (placed known c.requires) i.owned c.in_ok-status.status watches)).tidies (c.settle.ensures.told known)
           (watched_sound _ c.args.path.now c.args.port c.args.self.now c.status.new.self (placed known c.requires) c.in_ok-status.ensures.rests (c.status.ensures.goes known).went c.in_ok-status.status watches i)
-          (fair_after _ c.args.self.now.world c.status.new.self.world c.tidy.new.self.world (c.status.ensures.goes known).went fair)
+          (fair_after _ c.args.self.now.world c.status.new.self.world c.settle.new.self.world (c.status.ensures.goes known).went fair)
           (causes_rests _ c.args.self.now c.status.new.self c.in_ok-status.ensures.rests (c.status.ensures.goes known).went c.requires.agrees half.still (watches.rests tt) i caused);
     }
 
@@ -104,7 +105,7 @@ returns-in_err-status-clause-serves g c known =
         few = λ i most plan. omega (arith, (c.status.ensures.goes known).went.spends.most);
       };
       hubs = omega (arith, hubs-rest c.args.self.now c.status.new.self c.in_err-status.ensures.rests);
-      served = λ o. status_failed c.args.path.now c.args.port c.args.self.now c.status.new.self (placed known c.requires) c.in_err-status.ensures.rests _ (c.status.ensures.goes known).went o c.in_err-status.field-0.0;
+      served = λ i. status_failed c.args.path.now c.args.port c.args.self.now c.status.new.self (placed known c.requires) c.in_err-status.ensures.rests _ (c.status.ensures.goes known).went i.owned c.in_err-status.field-0.0;
     })
 
 pub returns-then-status-clause-serves : goal.returns-then-status-clause-serves
@@ -124,22 +125,54 @@ returns-then-status-clause-serves g c known =
             omega (arith, (c.status.ensures.goes known).went.spends.most, (c.look.ensures.anew known).pays.few now most (within_on most _ c.args.self.now c.status.new.self (c.status.ensures.goes known).went plan));
       };
       hubs = omega (arith, hubs-rest c.args.self.now c.status.new.self c.in_ok-status.ensures.rests, (c.look.ensures.anew known).hubs);
-      served = λ o. serves_looked c.args.path.now c.args.port c.args.self.now c.status.new.self (placed known c.requires) c.in_ok-status.ensures.rests _ (c.status.ensures.goes known).went o c.in_ok-status.status watches c.if-status.true c.look.result c.look.new.self (c.look.ensures.anew known).looked;
+      served = λ i. serves_looked c.args.path.now c.args.port c.args.self.now c.status.new.self (placed known c.requires) c.in_ok-status.ensures.rests _ (c.status.ensures.goes known).went i.owned c.in_ok-status.status watches c.if-status.true c.look.result c.look.new.self (c.look.ensures.anew known).looked;
     }
 
-pub returns-else-status-clause-serves : goal.returns-else-status-clause-serves
-returns-else-status-clause-serves g c known =
+pub returns-else-has_failed-clause-serves : goal.returns-else-has_failed-clause-serves
+returns-else-has_failed-clause-serves g c known =
     let watches = subst (λ r. Watches c.args.port.port c.args.self.now.world r c.status.new.self.world) c.in_ok-status.was (c.status.ensures.watches known) in
     let shown = subst (λ r. Shown c.args.port.port r c.args.self.now.world c.status.new.self.world) c.in_ok-status.was (c.status.ensures.shown known) in
     record {
-      on = λ due. tidied_on _ c.args.port.port c.args.self.now c.status.new.self c.tidy.new.self c.tidy.result c.in_ok-status.status c.in_ok-status.ensures.rests c.tidy.ensures.rests shown (c.tidy.ensures.goes known) c.if-status.false due;
+      on = λ due. tidied_on _ c.args.port.port c.args.self.now c.status.new.self c.settle.new.self c.settle.result c.in_ok-status.status c.in_ok-status.ensures.rests c.settle.ensures.rests shown (c.settle.ensures.goes known) c.if-status.false due;
       pays = record {
         pays = λ i ports still.
-            let order = i.order (went_sound _ c.args.self.now.world c.status.new.self.world (c.status.ensures.goes known).went (went_sound _ c.status.new.self.world c.tidy.new.self.world (c.tidy.ensures.goes known).went still)) in
-            after_tidy c.args.path.now c.args.port c.args.self.now c.status.new.self (placed known c.requires) c.in_ok-status.ensures.rests (c.status.ensures.goes known).went i ports c.in_ok-status.status watches c.if-status.false c.tidy.new.self (none_rests _ c.status.new.self c.tidy.new.self (c.tidy.ensures.goes known).went c.tidy.ensures.rests)
-            order c.tidy.result (c.tidy.ensures.tidies known) (c.tidy.ensures.clears known).reset (c.tidy.ensures.clears known).calm;
-        few = λ i most plan. omega (arith, (c.status.ensures.goes known).went.spends.most, (c.tidy.ensures.goes known).went.spends.most);
+            let order = i.order (went_sound _ c.args.self.now.world c.status.new.self.world (c.status.ensures.goes known).went (went_sound _ c.status.new.self.world c.settle.new.self.world (c.settle.ensures.goes known).went still)) in
+            after_tidy c.args.path.now c.args.port c.args.self.now c.status.new.self (placed known c.requires) c.in_ok-status.ensures.rests (c.status.ensures.goes known).went i ports c.in_ok-status.status watches c.if-status.false c.settle.new.self (none_rests _ c.status.new.self c.settle.new.self (c.settle.ensures.tidies known (watched_plain c.args.path.now c.args.port c.args.self.now c.status.new.self.world (placed known c.requires) i.owned c.in_ok-status.status watches)).goes.went c.settle.ensures.rests)
+            order c.settle.result (c.settle.ensures.tidies known (watched_plain c.args.path.now c.args.port c.args.self.now c.status.new.self.world (placed known c.requires) i.owned c.in_ok-status.status watches)).tidies (c.settle.ensures.tidies known (watched_plain c.args.path.now c.args.port c.args.self.now c.status.new.self.world (placed known c.requires) i.owned c.in_ok-status.status watches)).clears.reset (c.settle.ensures.tidies known (watched_plain c.args.path.now c.args.port c.args.self.now c.status.new.self.world (placed known c.requires) i.owned c.in_ok-status.status watches)).clears.calm;
+        few = λ i most plan. omega (arith, (c.status.ensures.goes known).went.spends.most, (c.settle.ensures.goes known).went.spends.most);
       };
-      hubs = omega (arith, hubs-rest c.args.self.now c.status.new.self c.in_ok-status.ensures.rests, hubs-rest c.status.new.self c.tidy.new.self c.tidy.ensures.rests);
-      served = λ o. serves_tidied c.args.path.now c.args.port c.args.self.now c.status.new.self (placed known c.requires) c.in_ok-status.ensures.rests _ (c.status.ensures.goes known).went o c.in_ok-status.status watches c.if-status.false c.tidy.result c.tidy.new.self c.tidy.ensures.rests (c.tidy.ensures.clears known);
+      hubs = omega (arith, hubs-rest c.args.self.now c.status.new.self c.in_ok-status.ensures.rests, hubs-rest c.status.new.self c.settle.new.self c.settle.ensures.rests);
+      served = λ i. serves_tidied c.args.path.now c.args.port c.args.self.now c.status.new.self (placed known c.requires) c.in_ok-status.ensures.rests _ (c.status.ensures.goes known).went i.owned c.in_ok-status.status watches c.if-status.false c.settle.result c.settle.new.self c.settle.ensures.rests (c.settle.ensures.tidies known (watched_plain c.args.path.now c.args.port c.args.self.now c.status.new.self.world (placed known c.requires) i.owned c.in_ok-status.status watches)).clears;
+    }
+
+-- a hub has disabled the port on an error: no hub of a world does
+
+pub returns-then-has_failed-clause-goes : goal.returns-then-has_failed-clause-goes
+returns-then-has_failed-clause-goes g c known = goes_then _ _ _ _ _ _ (c.status.ensures.goes known) (c.look_after_error.ensures.goes known) (omega arith)
+
+pub returns-then-has_failed-clause-owned : goal.returns-then-has_failed-clause-owned
+returns-then-has_failed-clause-owned g c known =
+    port_then c.args.path.now c.args.self.now _ _ _ (stays_rests c.args.self.now c.status.new.self c.in_ok-status.ensures.rests (c.status.ensures.goes known).went.spends.roots (c.in_ok-status.ensures.watches known).addresses) (c.look_after_error.ensures.owned known)
+
+pub returns-then-has_failed-clause-sound : goal.returns-then-has_failed-clause-sound
+returns-then-has_failed-clause-sound g c known =
+    let watches = subst (λ r. Watches c.args.port.port c.args.self.now.world r c.status.new.self.world) c.in_ok-status.was (c.status.ensures.watches known) in
+    record {
+      sound = λ i. absurd (none_failed c.args.path.now c.args.port c.args.self.now c.status.new.self.world (placed known c.requires) i c.in_ok-status.status watches _ (sym c.has_failed.ensures ∙ c.if-has_failed.true));
+      bulk = λ i on still. absurd (none_failed c.args.path.now c.args.port c.args.self.now c.status.new.self.world (placed known c.requires) i c.in_ok-status.status watches _ (sym c.has_failed.ensures ∙ c.if-has_failed.true));
+      plugs = λ i still. absurd (none_failed c.args.path.now c.args.port c.args.self.now c.status.new.self.world (placed known c.requires) i c.in_ok-status.status watches _ (sym c.has_failed.ensures ∙ c.if-has_failed.true));
+      caused = λ i fair caused. absurd (none_failed c.args.path.now c.args.port c.args.self.now c.status.new.self.world (placed known c.requires) i c.in_ok-status.status watches _ (sym c.has_failed.ensures ∙ c.if-has_failed.true));
+    }
+
+pub returns-then-has_failed-clause-serves : goal.returns-then-has_failed-clause-serves
+returns-then-has_failed-clause-serves g c known =
+    let watches = subst (λ r. Watches c.args.port.port c.args.self.now.world r c.status.new.self.world) c.in_ok-status.was (c.status.ensures.watches known) in
+    record {
+      on = λ due. failed_on _ c.args.port.port c.args.self.now c.status.new.self c.look_after_error.new.self c.look_after_error.result c.in_ok-status.status c.in_ok-status.ensures.rests (c.status.ensures.goes known) _ (sym c.has_failed.ensures ∙ c.if-has_failed.true) (c.look_after_error.ensures.served known);
+      pays = record {
+        pays = λ i ports still. absurd (none_failed c.args.path.now c.args.port c.args.self.now c.status.new.self.world (placed known c.requires) i c.in_ok-status.status watches _ (sym c.has_failed.ensures ∙ c.if-has_failed.true));
+        few = λ i most plan. absurd (none_failed c.args.path.now c.args.port c.args.self.now c.status.new.self.world (placed known c.requires) i c.in_ok-status.status watches _ (sym c.has_failed.ensures ∙ c.if-has_failed.true));
+      };
+      hubs = omega (arith, hubs-rest c.args.self.now c.status.new.self c.in_ok-status.ensures.rests, c.look_after_error.ensures.hubs);
+      served = λ i. absurd (none_failed c.args.path.now c.args.port c.args.self.now c.status.new.self.world (placed known c.requires) i c.in_ok-status.status watches _ (sym c.has_failed.ensures ∙ c.if-has_failed.true));
     }

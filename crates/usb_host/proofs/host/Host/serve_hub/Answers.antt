@@ -9,9 +9,10 @@ use Rattle.usb_host.proofs.Owners.{stays_none, stays_kept, single_kept}
 use Rattle.usb_host.proofs.Joins.{goes_after}
 use Rattle.usb_host.proofs.Parts.{hub_fails, hub_stopped, hub_quiet, hub_told, hub_gone, hub_listed, unserved}
 use Rattle.usb_host.specs.Service.{first_byte}
+use Rattle.usb_host.proofs.Soundness.{sound_kept}
 use Rattle.usb_host.proofs.HubPayments.{drop_fails, drop_pays, poll_fails, poll_none, tells_shows, told_fails, told_pays}
-use Rattle.usb_host.proofs.HubServices.{failed_more, hub_tells, polls_lost, polls_quiet, polls_told}
-use Rattle.usb_host.proofs.Payments.{on_err}
+use Rattle.usb_host.proofs.HubServices.{failed_more, hub_tells, polls_lost, polls_quiet, polls_told, told_of_ports}
+use Rattle.usb_host.proofs.Payments.{on_err, pays_where}
 use Rattle.usb_host.proofs.host.Host.serve_hub.Goals as goal
 
 pub returns-in_err-drop_hub-in-Err-clause-goes : goal.returns-in_err-drop_hub-in-Err-clause-goes
@@ -32,12 +33,15 @@ returns-in-Ok-None-clause-keeps g c known =
 
 pub returns-in_ok-serve_told-in-Ok-Some-clause-keeps : goal.returns-in_ok-serve_told-in-Ok-Some-clause-keeps
 returns-in_ok-serve_told-in-Ok-Some-clause-keeps g c known =
-    rw (← c.self.view_is) (hub_told c.args.hub.now _ _ _ c.self.invariant c.poll.ensures.through.entries refl refl (c.poll.ensures.went known) (c.in-Ok-Some.ensures.keeps known) c.poll.ensures.through (c.in-Ok-Some.ensures.polled known) _ _ refl (c.serve_told.ensures.goes known) (c.in_ok-serve_told-in-Ok-Some.ensures.keeps known))
+    let listed = subst (λ (h : Hosting). IsSome (hub_facts_at c.args.hub.now h.entries)) (sym c.self.view_is) c.requires in
+    let still = (rw c.in-Ok-Some.field-0-is at (c.in-Ok-Some.ensures.ends known)).still in
+    rw (← c.self.view_is) (hub_told c.args.hub.now _ _ _ c.self.invariant c.poll.ensures.through.entries refl refl (c.poll.ensures.went known) (c.in-Ok-Some.ensures.keeps known) c.poll.ensures.through (c.in-Ok-Some.ensures.polled known) _ _ refl (c.serve_told.ensures.goes known) (c.in_ok-serve_told-in-Ok-Some.ensures.owned known)
+    (λ s. (c.in_ok-serve_told-in-Ok-Some.ensures.ports known (told_of_ports c.args.hub.now _ _ c.poll.ensures.through.entries refl refl (c.poll.ensures.went known) listed _ (c.in-Ok-Some.ensures.polled known) (c.in-Ok-Some.ensures.keeps known) c.in-Ok-Some.bits c.first_byte.result c.in-Ok-Some.field-0-is (c.first_byte.ensures ∙ ap first_byte c.as_slice.ensures.value) still s)).keeps.sound))
 
 pub returns-in_err-serve_told-in-Ok-Some-clause-keeps : goal.returns-in_err-serve_told-in-Ok-Some-clause-keeps
 returns-in_err-serve_told-in-Ok-Some-clause-keeps g c known =
     rw (← c.self.view_is) (hub_fails c.from_residual.result _ _ _ c.from_residual.ensures.0 (stays_kept _ _ c.poll.ensures.through.entries (c.poll.ensures.went known).spends.roots (c.poll.ensures.keeps known).levels.worlds.addresses)
-    (c.in_err-serve_told-in-Ok-Some.ensures.keeps known).owned c.args.hub.now)
+    (c.in_err-serve_told-in-Ok-Some.ensures.owned known) c.args.hub.now)
 
 pub returns-in-Err-Bus-clause-keeps : goal.returns-in-Err-Bus-clause-keeps
 returns-in-Err-Bus-clause-keeps g c known = rw (← c.self.view_is) (hub_stopped c.args.hub.now _ _ _ (single_kept _ _ c.poll.ensures.through.entries (c.poll.ensures.keeps known).levels.worlds.addresses))
@@ -69,19 +73,22 @@ pub returns-in_ok-serve_told-in-Ok-Some-clause-polls : goal.returns-in_ok-serve_
 returns-in_ok-serve_told-in-Ok-Some-clause-polls g c known =
     let listed = subst (λ (h : Hosting). IsSome (hub_facts_at c.args.hub.now h.entries)) (sym c.self.view_is) c.requires in
     let more = (rw c.in-Ok-Some.field-0-is at (c.in-Ok-Some.ensures.ends known)).least in
+    let still = (rw c.in-Ok-Some.field-0-is at (c.in-Ok-Some.ensures.ends known)).still in
     rw (← c.self.view_is) (record {
       polls = polls_told c.args.hub.now _ _ c.poll.ensures.through.entries refl refl (c.poll.ensures.went known) listed _ (c.in-Ok-Some.ensures.polled known) (c.in-Ok-Some.ensures.keeps known) c.in-Ok-Some.bits c.first_byte.result _ c.serve_told.new.self c.in-Ok-Some.field-0-is
-          (c.first_byte.ensures ∙ ap first_byte c.as_slice.ensures.value) (c.serve_told.ensures.goes known) more (c.in_ok-serve_told-in-Ok-Some.ensures.holds known) (c.in_ok-serve_told-in-Ok-Some.ensures.serves known).served;
-      pays = told_pays c.args.hub.now _ _ c.self.invariant c.poll.ensures.through.entries refl (c.poll.ensures.went known) c.serve_told.new.self _ (c.serve_told.ensures.goes known).went c.first_byte.result _ refl (c.in-Ok-Some.ensures.keeps known) _ (c.in_ok-serve_told-in-Ok-Some.ensures.serves known).pays
-          (tells_shows c.args.hub.now _ _ c.self.invariant c.poll.ensures.through.entries refl refl (c.poll.ensures.went known) listed _ (c.in-Ok-Some.ensures.polled known) (c.in-Ok-Some.ensures.keeps known) c.in-Ok-Some.bits c.first_byte.result c.in-Ok-Some.field-0-is (c.first_byte.ensures ∙ ap first_byte c.as_slice.ensures.value));
+          (c.first_byte.ensures ∙ ap first_byte c.as_slice.ensures.value) (c.serve_told.ensures.goes known) more (c.in_ok-serve_told-in-Ok-Some.ensures.holds known) (λ s. (c.in_ok-serve_told-in-Ok-Some.ensures.ports known (told_of_ports c.args.hub.now _ _ c.poll.ensures.through.entries refl refl (c.poll.ensures.went known) listed _ (c.in-Ok-Some.ensures.polled known) (c.in-Ok-Some.ensures.keeps known) c.in-Ok-Some.bits c.first_byte.result c.in-Ok-Some.field-0-is (c.first_byte.ensures ∙ ap first_byte c.as_slice.ensures.value) still s)).serves.served ((sound_kept 768 c.args.hub.now _ _ _ c.self.invariant c.poll.ensures.through.entries (c.poll.ensures.went known) (c.in-Ok-Some.ensures.keeps known).levels (λ _. refl)).sound s));
+      pays = pays_where _ _ _ _ _ (λ s. told_pays c.args.hub.now _ _ c.self.invariant c.poll.ensures.through.entries refl (c.poll.ensures.went known) c.serve_told.new.self _ (c.serve_told.ensures.goes known).went c.first_byte.result _ refl (c.in-Ok-Some.ensures.keeps known) _ (c.in_ok-serve_told-in-Ok-Some.ensures.ports known (told_of_ports c.args.hub.now _ _ c.poll.ensures.through.entries refl refl (c.poll.ensures.went known) listed _ (c.in-Ok-Some.ensures.polled known) (c.in-Ok-Some.ensures.keeps known) c.in-Ok-Some.bits c.first_byte.result c.in-Ok-Some.field-0-is (c.first_byte.ensures ∙ ap first_byte c.as_slice.ensures.value) still s)).serves.pays
+          (tells_shows c.args.hub.now _ _ c.self.invariant c.poll.ensures.through.entries refl refl (c.poll.ensures.went known) listed _ (c.in-Ok-Some.ensures.polled known) (c.in-Ok-Some.ensures.keeps known) c.in-Ok-Some.bits c.first_byte.result c.in-Ok-Some.field-0-is (c.first_byte.ensures ∙ ap first_byte c.as_slice.ensures.value)));
     })
 
 pub returns-in_err-serve_told-in-Ok-Some-clause-polls : goal.returns-in_err-serve_told-in-Ok-Some-clause-polls
 returns-in_err-serve_told-in-Ok-Some-clause-polls g c known =
+    let listed = subst (λ (h : Hosting). IsSome (hub_facts_at c.args.hub.now h.entries)) (sym c.self.view_is) c.requires in
+    let still = (rw c.in-Ok-Some.field-0-is at (c.in-Ok-Some.ensures.ends known)).still in
     rw (← c.self.view_is) (record {
       polls = on_err c.from_residual.result _ c.from_residual.ensures.0;
-      pays = told_fails c.args.hub.now _ _ c.self.invariant c.poll.ensures.through.entries refl (c.poll.ensures.went known) c.serve_told.new.self _ (c.serve_told.ensures.goes known).went c.first_byte.result _ refl (c.in-Ok-Some.ensures.keeps known) c.serve_told.result (c.serve_told.ensures.serves known).pays
-          c.from_residual.result c.from_residual.ensures.0;
+      pays = pays_where _ _ _ _ _ (λ s. told_fails c.args.hub.now _ _ c.self.invariant c.poll.ensures.through.entries refl (c.poll.ensures.went known) c.serve_told.new.self _ (c.serve_told.ensures.goes known).went c.first_byte.result _ refl (c.in-Ok-Some.ensures.keeps known) c.serve_told.result (c.serve_told.ensures.ports known (told_of_ports c.args.hub.now _ _ c.poll.ensures.through.entries refl refl (c.poll.ensures.went known) listed _ (c.in-Ok-Some.ensures.polled known) (c.in-Ok-Some.ensures.keeps known) c.in-Ok-Some.bits c.first_byte.result c.in-Ok-Some.field-0-is (c.first_byte.ensures ∙ ap first_byte c.as_slice.ensures.value) still s)).serves.pays
+          c.from_residual.result c.from_residual.ensures.0);
     })
 
 pub returns-in-Err-Bus-clause-polls : goal.returns-in-Err-Bus-clause-polls

@@ -30,7 +30,7 @@ ports-preserved g c = elim c.if-has_changed.branch [
     sound = λ known. part_then _ _ _ _ _ (c.ports.invariant.goes known).went (w.handle_root.ensures.goes known).went (c.ports.invariant.sound known) (w.in_ok-handle_root.ensures.sound known);
     same = λ quiet. absurd (cc quiet);
     unchanged = λ known quiet. absurd (cc quiet);
-    served = λ known o. root_changed c.ports.number c.ports.round (c.ports.invariant.served known o) (sym (c.has_changed.ensures known) ∙ w.if-has_changed.true) ((w.in_ok-handle_root.ensures.handles known).handled.served ((c.ports.invariant.owned known).stays o));
+    served = λ known o. root_changed c.ports.number c.ports.round (c.ports.invariant.served known o) (sym (c.has_changed.ensures known) ∙ w.if-has_changed.true) ((w.in_ok-handle_root.ensures.handles known).handled.served ((c.ports.invariant.sound known).sound.sound o));
     pays = λ known. roots_next _ _ c.ports.round c.ports.number c.args.self.now c.ports.self w.handle_root.new.self (c.ports.invariant.goes known).went (w.handle_root.ensures.goes known).went (c.ports.invariant.sound known) (c.ports.invariant.pays known) w.in_ok-handle_root.field-0
         (root_shows c.ports.self.world c.ports.number (omega (arith, c.ports.auto.number)) (omega (arith, c.ports-test.true, c.root_ports-roots.ensures.count known, (c.ports.invariant.goes known).went.spends.roots, ap (λ (h : Hosting). roots_of h.world) c.self.view_is)) (sym (c.has_changed.ensures known) ∙ w.if-has_changed.true))
         (w.in_ok-handle_root.ensures.handles known).pays;

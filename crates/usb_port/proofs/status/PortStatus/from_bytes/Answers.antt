@@ -14,4 +14,6 @@ returns-clause-port c p e =
       c.has_bit-5.ensures,
       c.has_bit-6.ensures,
       c.has_bit-7.ensures,
+      c.has_bit-8.ensures,
+      c.has_bit-9.ensures,
     ) (ap status_in e ∙ status_seen p)

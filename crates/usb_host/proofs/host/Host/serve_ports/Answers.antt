@@ -8,8 +8,8 @@ use Rattle.usb_host.proofs.Joins.{goes_none, goes_then, goes_wider, did_holds, h
 use Rattle.usb_host.proofs.Owners.{stays_none, stays_then}
 use Rattle.usb_host.proofs.Parts.{part_fails}
 use Rattle.usb_host.proofs.Soundness.{part_none, part_then}
-use Rattle.usb_host.proofs.host.Host.serve_told.Goals as goal
-use Rattle.usb_host.proofs.host.Host.serve_told.Goals.{then-bits-number-eq1+in_ok-handle_below, else-bits-number-eq1}
+use Rattle.usb_host.proofs.host.Host.serve_ports.Goals as goal
+use Rattle.usb_host.proofs.host.Host.serve_ports.Goals.{then-bits-number-eq1+in_ok-handle_below, else-bits-number-eq1}
 
 pub ports-init : goal.ports-init
 ports-init g c = record { goes = λ known. goes_none 0 _; holds = λ known. omega arith; owned = λ known. stays_none _; sound = λ known. part_none _; serves = λ known o. none_yet _; pays = λ known. told_none _ _ _ }
@@ -24,7 +24,7 @@ ports-preserved g c = elim c.if-bits-number-eq1.branch [
     holds = λ known. holds_then c.args.self.now c.ports.self w.handle_below.new.self (c.ports.invariant.holds known) (did_holds _ w.in_ok-handle_below.field-0 c.ports.self w.handle_below.new.self (w.handle_below.ensures.goes known) (w.in_ok-handle_below.ensures.handles known).handled.did);
     owned = λ known. stays_then _ _ _ (c.ports.invariant.owned known) (w.in_ok-handle_below.ensures.owned known);
     sound = λ known. part_then _ _ _ _ _ (c.ports.invariant.goes known).went (w.handle_below.ensures.goes known).went (c.ports.invariant.sound known) (w.in_ok-handle_below.ensures.sound known);
-    serves = λ known o. bit_set c.ports.number (c.ports.invariant.serves known o) (bit_so c.args.bits c.ports.number w.if-bits-number-eq1.true) ((w.in_ok-handle_below.ensures.handles known).handled.served ((c.ports.invariant.owned known).stays o));
+    serves = λ known o. bit_set c.ports.number (c.ports.invariant.serves known o) (bit_so c.args.bits c.ports.number w.if-bits-number-eq1.true) ((w.in_ok-handle_below.ensures.handles known).handled.served ((c.ports.invariant.sound known).sound.sound o));
     pays = λ known. told_next _ _ c.args.hub.now c.args.bits c.ports.number (omega (arith, c.ports.auto.number)) (omega (arith, c.ports-test.true)) c.args.self.now c.ports.self w.handle_below.new.self (c.ports.invariant.goes known).went (w.handle_below.ensures.goes known).went (c.ports.invariant.sound known)
         (c.ports.invariant.pays known) w.in_ok-handle_below.field-0 (bit_so c.args.bits c.ports.number w.if-bits-number-eq1.true) (w.in_ok-handle_below.ensures.handles known).pays;
   })

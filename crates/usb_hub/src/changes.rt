@@ -1,0 +1,120 @@
+//! Changes of a hub and of its ports that ask for nothing but their clearing (11.24.2). A hub that
+//! does not know such a feature answers STALL, and has no such change.
+ghost use Rattle.std.specs.Prelude.{◌+◌, ◌*◌, ◌≡◌, true, IfErr};
+ghost use Rattle.usb_transaction.specs.Transactions.{IsTarget};
+ghost use Rattle.usb_pipe.specs.Control.{FaultAfter, control_bound, write_bound};
+ghost use Rattle.usb_bus.specs.Traces.{Went};
+ghost use Rattle.usb_address.specs.Ownership.{KeepsAddresses};
+ghost use Rattle.usb_hub.specs.Addresses.{KeepsDevices};
+ghost use Rattle.usb_request.specs.HubRequests.{get_hub_status};
+ghost use Rattle.usb_hub.specs.Changes.{ClearsEach, ClearsOfHub, ClearsOfPort, ClearsTold, ToldBus, done_or_unknown, hub_status};
+ghost use Rattle.usb_hub.specs.Port.{IsAsked, order_bound};
+ghost use Rattle.usb_hub.specs.Requests.{Told};
+
+use crate::asking::{ask_all, order};
+use crate::external::clear_hub_port;
+use crate::status::HubStatus;
+use crate::{HubPort, PipeFault};
+use std::alloc::Global;
+use usb_pipe::{Bus, Setup, Target};
+use usb_request::hub_feature::{C_HUB_LOCAL_POWER, C_HUB_OVER_CURRENT};
+
+/// Clears C_PORT_SUSPEND or C_PORT_OVER_CURRENT of a hub's port (11.24.2.2). A root port tells
+/// neither.
+///
+/// # Errors
+///
+/// Those of `control_none` but `Stalled`.
+pub fn clear_port_change<B: Bus>(bus: &mut B, port: HubPort, feature: u16) -> Result<(), PipeFault>
+    requires { IsAsked B.modelled (B.world bus.old) port }
+    ensures went { B.modelled ≡ true → Went B.world B.trace (order_bound port) bus.old bus.new }
+    ensures fault { B.modelled ≡ true
+        → IfErr result (λ fault. FaultAfter 1 (B.world bus.old) fault (B.world bus.new)) }
+    ensures addresses { B.modelled ≡ true → KeepsAddresses (B.world bus.old) (B.world bus.new) }
+    ensures devices { B.modelled ≡ true → KeepsDevices (B.world bus.old) (B.world bus.new) }
+    ensures cleared { B.modelled ≡ true
+        → ClearsOfPort port feature (B.world bus.old) result (B.world bus.new) }
+{
+    match port {
+        HubPort::Root(_) => Ok(()),
+        HubPort::External { hub, port } => {
+            let cleared = clear_hub_port(bus, hub, port, feature);
+            done_or_unknown(cleared)
+        }
+    }
+}
+
+/// Asks a hub for its own status (11.24.2.6), and clears each change that it tells (11.24.2.1).
+///
+/// # Errors
+///
+/// Those of `control_in` and `control_none` but `Stalled`.
+#[tactic(auto, using(usb_address::proofs::Interface::keeps_then))]
+pub fn clear_hub_changes<B: Bus>(alloc: Global, bus: &mut B, hub: Target) -> Result<(), PipeFault>
+    requires { IsTarget hub }
+    ensures went { B.modelled ≡ true
+        → Went B.world B.trace (control_bound hub.max 4 + 2 * write_bound) bus.old bus.new }
+    ensures fault { B.modelled ≡ true → ToldBus result (B.world bus.new) }
+    ensures addresses { B.modelled ≡ true → KeepsAddresses (B.world bus.old) (B.world bus.new) }
+    ensures cleared { B.modelled ≡ true
+        → ClearsOfHub hub (B.world bus.old) result (B.world bus.new) }
+{
+    match own_status(alloc, bus, hub) {
+        Ok(status) => clear_each(bus, hub, status),
+        Err(fault) => done_or_unknown(Err(fault)),
+    }
+}
+
+/// The status of a hub itself (11.24.2.6).
+fn own_status<B: Bus>(alloc: Global, bus: &mut B, hub: Target) -> Result<HubStatus, PipeFault>
+    requires { IsTarget hub }
+    ensures went { B.modelled ≡ true
+        → Went B.world B.trace (control_bound hub.max 4) bus.old bus.new }
+    ensures told { B.modelled ≡ true
+        → Told hub_status hub get_hub_status (B.world bus.old) result (B.world bus.new) }
+    ensures addresses { B.modelled ≡ true → KeepsAddresses (B.world bus.old) (B.world bus.new) }
+{
+    let bytes = ask_all(alloc, bus, hub, Setup::get_hub_status())?;
+    Ok(HubStatus::from_bytes(bytes))
+}
+
+/// Clears each change that a hub told of itself (11.24.2.1).
+#[tactic(auto, using(usb_address::proofs::Interface::keeps_then))]
+fn clear_each<B: Bus>(bus: &mut B, hub: Target, status: HubStatus) -> Result<(), PipeFault>
+    requires { IsTarget hub }
+    ensures went { B.modelled ≡ true → Went B.world B.trace (2 * write_bound) bus.old bus.new }
+    ensures fault { B.modelled ≡ true → ToldBus result (B.world bus.new) }
+    ensures addresses { B.modelled ≡ true → KeepsAddresses (B.world bus.old) (B.world bus.new) }
+    ensures cleared { B.modelled ≡ true
+        → ClearsEach status hub (B.world bus.old) result (B.world bus.new) }
+{
+    clear_told(bus, hub, status.power_changed, C_HUB_LOCAL_POWER)?;
+    clear_told(bus, hub, status.over_current_changed, C_HUB_OVER_CURRENT)
+}
+
+/// Clears a change of a hub where it was told (11.24.2.1).
+#[tactic(auto, using(usb_address::proofs::Interface::keeps_none))]
+fn clear_told<B: Bus>(bus: &mut B, hub: Target, told: bool, feature: u16) -> Result<(), PipeFault>
+    requires { IsTarget hub }
+    ensures went { B.modelled ≡ true → Went B.world B.trace write_bound bus.old bus.new }
+    ensures fault { B.modelled ≡ true → ToldBus result (B.world bus.new) }
+    ensures addresses { B.modelled ≡ true → KeepsAddresses (B.world bus.old) (B.world bus.new) }
+    ensures cleared { B.modelled ≡ true
+        → ClearsTold told hub feature (B.world bus.old) result (B.world bus.new) }
+{
+    if !told {
+        return Ok(());
+    }
+    let cleared = order(bus, hub, Setup::clear_hub_feature(feature));
+    done_or_unknown(cleared)
+}
+
+/// What is told of a request that clears a change: a STALL counts as done.
+fn done_or_unknown(cleared: Result<(), PipeFault>) -> Result<(), PipeFault>
+    ensures { result ≡ done_or_unknown cleared }
+{
+    match cleared {
+        Err(PipeFault::Stalled) => Ok(()),
+        Ok(()) | Err(_) => cleared,
+    }
+}

@@ -1,0 +1,127 @@
+//! A hub with one device, which is listed, tells a change; the host clears it, and comes to rest.
+mod quirk;
+
+use quirk::{QuirkBus, Told};
+use std::alloc::{AllocError, Global};
+use std::test::Fail;
+use usb_bus::{SimBus, Tracer};
+use usb_enum::Finding;
+use usb_host::{Host, Round};
+use usb_port::PortPath;
+use usb_testbus::{bus_of, plan_text};
+
+/// A hub of two ports that powers itself, and a function at its first port.
+const PLAN: &str = "[[device]]
+name = \"hub\"
+speed = \"full\"
+descriptor = \"120100020900004001000200000100000001\"
+configs = [\"09021900010100C000090400000109000000070581030100FF\"]
+ports = 2
+self_powered = true
+[[device]]
+name = \"fn\"
+speed = \"full\"
+descriptor = \"120110010000000834120100000100000001\"
+configs = [\"0902120001010080320904000000FF000000\"]
+[[event]]
+do = \"plug\"
+path = \"1\"
+device = \"hub\"
+[[event]]
+do = \"plug\"
+path = \"1.1\"
+device = \"fn\"
+after = 0
+";
+
+struct Row {
+    about: &'static str,
+    tells: Told,
+}
+
+const ROWS: &[Row] = &[
+    Row {
+        about: "C_PORT_ENABLE: the port is disabled on an error",
+        tells: Told::Port(17),
+    },
+    Row {
+        about: "C_PORT_SUSPEND",
+        tells: Told::Port(18),
+    },
+    Row {
+        about: "C_PORT_OVER_CURRENT",
+        tells: Told::Port(19),
+    },
+    Row {
+        about: "C_HUB_LOCAL_POWER",
+        tells: Told::Hub(0),
+    },
+    Row {
+        about: "C_HUB_OVER_CURRENT",
+        tells: Told::Hub(1),
+    },
+];
+
+/// Before the change and after it both devices are listed; the change was cleared, and the port passes packets on.
+const SETTLED: &str =
+    "quiet, 1 device, 1.1 device; quiet, 1 device, 1.1 device; cleared 1, disabled false";
+
+type TestHost = Host<QuirkBus<SimBus<Tracer<Vec<u8>>>>>;
+
+/// Each path, and what was found there.
+fn put_entries(text: &mut String, entries: &[(PortPath, Finding)]) -> Result<(), AllocError> {
+    for (path, finding) in entries {
+        match finding {
+            Finding::Device(_) => write!(text, ", {} device", path.text())?,
+            Finding::Refused(cause) => write!(text, ", {} {cause}", path.text())?,
+        }
+    }
+    Ok(())
+}
+
+/// Rounds until one is quiet, ten at most, and the listing then.
+fn put_settled(text: &mut String, host: &mut TestHost) -> Result<(), Fail> {
+    let mut last = Round::Worked;
+    for _ in 0..10 {
+        if last == Round::Worked {
+            last = host.round()?;
+        }
+    }
+    text.push_str(match last {
+        Round::Worked => "busy",
+        Round::Quiet => "quiet",
+    })?;
+    put_entries(text, host.tree()?.entries())?;
+    text.push_str("; ")?;
+    Ok(())
+}
+
+/// What is told before the change and after it, how often it was cleared, and whether the port is disabled at last.
+fn told(alloc: Global, row: &Row) -> Result<String, Fail> {
+    let plan = plan_text(alloc, 100_000, &[PLAN])?;
+    let mut bus = bus_of(alloc, plan.as_str())?;
+    bus.apply_next_event()?;
+    bus.apply_next_event()?;
+    let mut host = Host::new(alloc, QuirkBus::new(bus));
+    let mut text = String::new(alloc);
+    put_settled(&mut text, &mut host)?;
+    host.bus_mut().tell(row.tells);
+    put_settled(&mut text, &mut host)?;
+    let bus = host.into_bus();
+    write!(
+        text,
+        "cleared {}, disabled {}",
+        bus.cleared(),
+        bus.is_disabled()
+    )?;
+    Ok(text)
+}
+
+#[test]
+fn a_hub_that_tells_more(rt: HostRuntime) -> Result<(), Fail> {
+    for row in ROWS {
+        let told = told(rt.alloc(), row)?;
+        assert_eq!(rt; told.as_str(), SETTLED, "{}", row.about);
+    }
+    Ok(())
+}

@@ -1,0 +1,262 @@
+//! A bus around another one, with a hub at address 1 that tells a change until that is cleared.
+ghost use Rattle.std.specs.Prelude.{false};
+ghost use Rattle.usb_world.specs.World.{IsAttempt};
+
+use arrayvec::ArrayVec;
+use usb_bus::{Attempt, Bus, BusFault, Outcome};
+use usb_packet::{Toggle, TokenKind};
+
+/// The hub's address: it is found first.
+const HUB: u8 = 1;
+
+/// Setup data of GetHubStatus (11.24.2.6), of GetPortStatus (11.24.2.7) and SetPortFeature(PORT_RESET) of port 1
+/// (11.24.2.13), and of SET_CONFIGURATION (9.4.7).
+const HUB_STATUS: [u8; 8] = [0xa0, 0, 0, 0, 0, 0, 4, 0];
+
+const PORT_STATUS: [u8; 8] = [0xa3, 0, 0, 0, 1, 0, 4, 0];
+
+const RESET: [u8; 8] = [0x23, 3, 4, 0, 1, 0, 0, 0];
+
+const CONFIGURE: [u8; 8] = [0, 9, 1, 0, 0, 0, 0, 0];
+
+/// A change, by the feature that clears it.
+#[derive(Clone, Copy, Debug, PartialEq, Eq)]
+pub(super) enum Told {
+    /// Of port 1 of the hub (11.24.2.7.2). With that of its enable the port is disabled, until it is reset.
+    Port(u8),
+    /// Of the hub itself (11.24.2.6).
+    Hub(u8),
+}
+
+impl Told {
+    /// The bits of the hub's status change (11.12.4).
+    fn bits(self) -> u8 {
+        match self {
+            Told::Port(_) => 2,
+            Told::Hub(_) => 1,
+        }
+    }
+
+    /// The bit of wPortChange or of wHubChange.
+    fn change(self) -> u8 {
+        match self {
+            Told::Port(17) | Told::Hub(1) => 2,
+            Told::Port(18) => 4,
+            Told::Port(19) => 8,
+            Told::Port(_) | Told::Hub(_) => 1,
+        }
+    }
+
+    /// The request that clears it (11.24.2.1, 11.24.2.2).
+    fn clearing(self) -> [u8; 8] {
+        match self {
+            Told::Port(feature) => [0x23, 1, feature, 0, 1, 0, 0, 0],
+            Told::Hub(feature) => [0x20, 1, feature, 0, 0, 0, 0, 0],
+        }
+    }
+}
+
+/// Who answers the hub's control transfer.
+#[derive(Clone, Copy, Debug, PartialEq, Eq)]
+enum Answers {
+    /// The bus below.
+    Below,
+    /// The bus below, and its answer is the status of port 1.
+    WithChange,
+    /// This bus, with the status of the hub.
+    HubStatus,
+    /// This bus, as it clears the change.
+    Clears,
+}
+
+/// The bus below, with such a hub.
+#[derive(Drop)]
+pub(super) struct QuirkBus<B: Bus> {
+    bus: B,
+    told: Option<Told>,
+    /// Whether port 1 is disabled.
+    disabled: bool,
+    answers: Answers,
+    /// The toggle of the next packet of the hub's status pipe.
+    next: Toggle,
+    cleared: u8,
+}
+
+/// A packet of data.
+fn packet(toggle: Toggle, data: &[u8]) -> Outcome {
+    let mut bytes = ArrayVec::new();
+    let _ = bytes.try_extend_from_slice(data);
+    Outcome::Payload(toggle, bytes)
+}
+
+impl<B: Bus> QuirkBus<B> {
+    pub(super) fn new(bus: B) -> Self {
+        QuirkBus {
+            bus,
+            told: None,
+            disabled: false,
+            answers: Answers::Below,
+            next: Toggle::Zero,
+            cleared: 0,
+        }
+    }
+
+    /// The hub tells this from now on.
+    pub(super) fn tell(&mut self, told: Told) {
+        self.told = Some(told);
+        self.disabled = told == Told::Port(17);
+    }
+
+    /// How many changes were cleared.
+    pub(super) fn cleared(&self) -> u8 {
+        self.cleared
+    }
+
+    /// Whether port 1 is disabled.
+    pub(super) fn is_disabled(&self) -> bool {
+        self.disabled
+    }
+
+    /// Who answers these setup data.
+    fn answers(&self, setup: &[u8]) -> Answers {
+        if setup == HUB_STATUS.as_slice() {
+            return Answers::HubStatus;
+        }
+        if setup == PORT_STATUS.as_slice() {
+            return Answers::WithChange;
+        }
+        match self.told {
+            Some(told) if setup == told.clearing().as_slice() => Answers::Clears,
+            _ => Answers::Below,
+        }
+    }
+
+    fn set_up(&mut self, attempt: &Attempt) -> Result<Outcome, BusFault>
+        requires { IsAttempt attempt.now }
+    {
+        if let Some((_, setup)) = &attempt.payload {
+            self.answers = self.answers(setup.as_slice());
+            self.disabled = self.disabled && setup.as_slice() != RESET.as_slice();
+            if setup.as_slice() == CONFIGURE.as_slice() {
+                self.next = Toggle::Zero;
+            }
+        }
+        match self.answers {
+            Answers::Below | Answers::WithChange => self.bus.attempt(attempt),
+            Answers::HubStatus | Answers::Clears => Ok(Outcome::Ack),
+        }
+    }
+
+    /// An IN of endpoint 0.
+    fn give(&mut self, attempt: &Attempt) -> Result<Outcome, BusFault>
+        requires { IsAttempt attempt.now }
+    {
+        let change = match self.told {
+            Some(told) => told.change(),
+            None => 0,
+        };
+        match self.answers {
+            Answers::Below => self.bus.attempt(attempt),
+            Answers::WithChange => {
+                let outcome = self.bus.attempt(attempt)?;
+                Ok(self.with_change(outcome))
+            }
+            Answers::HubStatus => Ok(packet(Toggle::One, &[0, 0, change, 0])),
+            Answers::Clears => {
+                self.told = None;
+                self.cleared = self.cleared.saturating_add(1);
+                Ok(packet(Toggle::One, &[]))
+            }
+        }
+    }
+
+    /// The status of port 1 as it is told.
+    fn with_change(&self, outcome: Outcome) -> Outcome {
+        match outcome {
+            Outcome::Payload(toggle, status) => match status.as_slice() {
+                _ if status.len() != 4 => Outcome::Payload(toggle, status),
+                bytes => {
+                    let change = match self.told {
+                        Some(Told::Port(feature)) => Told::Port(feature).change(),
+                        _ => 0,
+                    };
+                    let enabled = if self.disabled { 0xfd } else { 0xff };
+                    let told = [bytes[0] & enabled, bytes[1], bytes[2] | change, bytes[3]];
+                    packet(toggle, &told)
+                }
+            },
+            other => other,
+        }
+    }
+
+    /// An IN of the status pipe.
+    fn poll(&mut self, attempt: &Attempt) -> Result<Outcome, BusFault>
+        requires { IsAttempt attempt.now }
+    {
+        let bits = match self.told {
+            Some(told) => told.bits(),
+            None => 0,
+        };
+        let below = match self.bus.attempt(attempt)? {
+            Outcome::Payload(_, bytes) => match bytes.first() {
+                Some(byte) => *byte,
+                None => 0,
+            },
+            Outcome::Nak => 0,
+            other => return Ok(other),
+        };
+        if below | bits == 0 {
+            return Ok(Outcome::Nak);
+        }
+        let toggle = self.next;
+        self.next = toggle.other();
+        Ok(packet(toggle, &[below | bits]))
+    }
+}
+
+/// Nothing is said of its world.
+impl<B: Bus> Bus for QuirkBus<B> {
+    ghost modelled = { false };
+
+    ghost world = { λ quirk. B.world quirk.bus };
+
+    ghost trace = { λ quirk. B.trace quirk.bus };
+
+    fn attempt(&mut self, attempt: &Attempt) -> Result<Outcome, BusFault> {
+        if attempt.addr != HUB {
+            return self.bus.attempt(attempt);
+        }
+        match attempt.kind {
+            TokenKind::SetupTok => self.set_up(attempt),
+            TokenKind::InTok if attempt.ep == 1 => self.poll(attempt),
+            TokenKind::InTok => self.give(attempt),
+            TokenKind::OutTok => match self.answers {
+                Answers::HubStatus => Ok(Outcome::Ack),
+                _ => self.bus.attempt(attempt),
+            },
+        }
+    }
+
+    fn root_ports(&self) -> u8 {
+        self.bus.root_ports()
+    }
+
+    fn root_status(&self, port: u8) -> [u8; 4] {
+        if port == 0 || port > self.bus.root_ports() {
+            return [0; 4];
+        }
+        self.bus.root_status(port)
+    }
+
+    fn root_set(&mut self, port: u8, feature: u16) {
+        if port > 0 && port <= self.bus.root_ports() {
+            self.bus.root_set(port, feature);
+        }
+    }
+
+    fn root_clear(&mut self, port: u8, feature: u16) {
+        if port > 0 && port <= self.bus.root_ports() {
+            self.bus.root_clear(port, feature);
+        }
+    }
+}
