@@ -1,53 +1,112 @@
 -- What is done at a question, from what the bus did.
-use Rattle.std.proofs.Common.{◌≡◌, ◌∙◌, ℕ, ◌+◌, ◌<◌, ◌≤◌, Bool, true, false, List, [], ◌∷◌, ◌++◌, length, map, take, Option, Some, refl, sym, ap, ap₂, subst}
+use Rattle.std.proofs.Common.{◌≡◌, ◌∙◌, ℕ, ◌+◌, ◌<◌, Bool, true, false, List, [], ◌∷◌, ◌++◌, length, map, take, Option, Some, None, Ok, refl, sym, ap, ap₂, subst}
 use Rattle.std.specs.Prelude.{slice_index_or}
+use Rattle.std.proofs.KnownBytes.{Appends-nil}
+use Rattle.std.proofs.lemmas.Bool.{false≢true}
 use Rattle.std.proofs.lemmas.List.{map-append, take_more}
+use Rattle.std.specs.Io.KnownBytes.{Appends}
 use Rattle.usb_port.specs.PortState.{PortState, off, status_of}
+use Rattle.usb_port.specs.declared.call.PortCall.{PortCall}
 use Rattle.usb_world.specs.declared.event.Due.{Due}
 use Rattle.usb_world.specs.declared.types.Attempt.{Attempt}
 use Rattle.usb_world.specs.declared.types.Outcome.{Outcome}
 use Rattle.usb_world.specs.World.{World, roots_of}
-use Rattle.usb_world.specs.Steps.{after, attempt, event, outcome_in}
-use Rattle.usb_bus.specs.Lines.{next_due}
+use Rattle.usb_world.specs.Steps.{EventEnds, after, attempt, event, outcome_in, root_call}
+use Rattle.usb_bus.specs.Lines.{lines_between, next_due, step_lines}
+use Rattle.usb_bus.specs.Traces.{Attempts, TakesEvent}
 use Rattle.usb_wire.specs.declared.answer.Answer.{Answer}
 use Rattle.usb_wire.specs.declared.answer.Answer.TheVariants.{Done, Roots}
 use Rattle.usb_wire.specs.declared.question.Question.{Question}
 use Rattle.usb_wire.specs.declared.question.Question.TheVariants.{Hello}
-use Rattle.usb_far.specs.FarEnd.{Far, IsDone, attempt_done, came_in, done, due_answer, hello_done, is_poll, outcome_answer, wait_done}
+use Rattle.usb_far.specs.declared.fault.FarFault.TheVariants.{LongSend}
+use Rattle.usb_far.specs.FarEnd.{Far, IsDone, Played, SendsTooMuch, attempt_done, call_done, came_in, done, due_answer, hello_done, is_poll, outcome_answer, wait_done}
 
-pub attempt_made : (a : Attempt) (f : Far) (w : World) (o : Outcome) (answer : Answer) (poll came : Bool) (before now : ℕ)
-    → w ≡ after (attempt a) f.world → o ≡ outcome_in a f.world → answer ≡ outcome_answer o → poll ≡ is_poll a.kind o
-    → before ≡ f.world.taken → now ≡ w.taken → came ≡ came_in poll f.came before now
-    → IsDone (attempt_done a f) f answer (record f { world = w; came = came })
+pub attempt_made : (a : Attempt) (old new : Played) (o : Outcome) (answer : Answer) (poll came : Bool) (before now : ℕ)
+    → Attempts a old.far.world old.trace.bytes (Ok o) new.far.world new.trace.bytes
+    → answer ≡ outcome_answer o → poll ≡ is_poll a.kind o
+    → before ≡ old.far.world.taken → now ≡ new.far.world.taken → came ≡ came_in poll old.far.came before now
+    → new.far ≡ record old.far { world = new.far.world; came = came }
+    → IsDone (attempt_done a old.far) old answer new
 unfolding attempt_done
-attempt_made a f w o answer poll came before now world heard told polled then after_it is =
+attempt_made a old new o answer poll came before now made told polled then later is far =
+    let f = old.far in
+    let world : new.far.world ≡ after (attempt a) f.world = made.exact in
+    let heard : o ≡ outcome_in a f.world = made.outcome in
     let polled_in : poll ≡ is_poll a.kind (outcome_in a f.world) = polled ∙ ap (is_poll a.kind) heard in
-    let later : now ≡ (after (attempt a) f.world).taken = after_it ∙ ap (λ v. v.taken) world in
+    let taken : now ≡ (after (attempt a) f.world).taken = later ∙ ap (λ v. v.taken) world in
     let same : came ≡ came_in (is_poll a.kind (outcome_in a f.world)) f.came f.world.taken (after (attempt a) f.world).taken =
     is ∙ ap (λ p. came_in p f.came before now) polled_in
     ∙ ap (λ t. came_in (is_poll a.kind (outcome_in a f.world)) f.came t now) then
-    ∙ ap (λ t. came_in (is_poll a.kind (outcome_in a f.world)) f.came f.world.taken t) later in
+    ∙ ap (λ t. came_in (is_poll a.kind (outcome_in a f.world)) f.came f.world.taken t) taken in
     record {
       answered = sym (ap Some (told ∙ ap outcome_answer heard));
-      far = ap₂ (λ v b. record f { world = v; came = b }) world same;
+      made = λ _. sym (ap (λ v. v.fault) world) ∙ made.counts.ends.still;
+      far = far ∙ ap₂ (λ v b. record f { world = v; came = b }) world same;
+      traced = subst (λ v. Appends old.trace.bytes new.trace.bytes (step_lines a f.world v)) world made.text;
     }
 
-pub nothing_wanted : (f : Far) → f.came ≡ true → IsDone (wait_done f) f Done (record f { came = false })
+pub nothing_wanted : (old new : Played) → old.far.came ≡ true → new.far ≡ record old.far { came = false } → new.trace ≡ old.trace
+    → IsDone (wait_done old.far) old Done new
 unfolding wait_done
-nothing_wanted f came = rw came (record { answered = refl; far = refl })
-
-pub event_wanted : (f : Far) (w : World) (due : Option Due) (answer : Answer) → f.came ≡ false → w ≡ after event f.world → due ≡ next_due f.world
-    → due_answer due ≡ Some answer → IsDone (wait_done f) f answer (record f { world = w })
-unfolding wait_done
-event_wanted f w due answer came world next told = rw came (record {
-  answered = sym (ap due_answer next) ∙ told;
-  far = ap (λ v. record f { world = v; came = false }) world;
+nothing_wanted old new came far same = rw came (record {
+  answered = refl;
+  made = λ (by : false ≡ true). absurd (false≢true by);
+  far = far;
+  traced = subst (λ t. Appends old.trace.bytes t.bytes []) (sym same) (Appends-nil old.trace.bytes);
 })
 
-pub hello_answered : (f : Far) (q : Question) (roots : ℕ) → q ≡ Hello → roots ≡ roots_of f.world → IsDone (done q f) f (Roots roots) f
+event_due : (f : Far) → f.came ≡ false
+    → wait_done f ≡ record { answer = due_answer (next_due f.world); world = after event f.world; came = false; traced = lines_between f.world (after event f.world); by_bus = true }
+unfolding wait_done
+event_due f came = rw came refl
+
+still_sound : (w v : World) (due : Option Due) → EventEnds w (Ok due) v → v.fault ≡ None
+still_sound w v None ends = ap (λ u. u.fault) ends.same ∙ ends.sound
+still_sound w v (Some due) ends = ends.still
+
+pub event_wanted : (old new : Played) (due : Option Due) (answer : Answer) → old.far.came ≡ false
+    → TakesEvent old.far.world old.trace.bytes (Ok due) new.far.world new.trace.bytes
+    → due_answer due ≡ Some answer → new.far ≡ record old.far { world = new.far.world } → IsDone (wait_done old.far) old answer new
+event_wanted old new due answer came takes told far = subst (λ d. IsDone d old answer new) (sym (event_due old.far came)) (record {
+  answered = sym (ap due_answer takes.asked) ∙ told;
+  made = λ _. sym (ap (λ v. v.fault) takes.exact) ∙ still_sound old.far.world new.far.world due takes.took.ends;
+  far = far ∙ ap₂ (λ v b. record old.far { world = v; came = b }) takes.exact came;
+  traced = subst (λ v. Appends old.trace.bytes new.trace.bytes (lines_between old.far.world v)) takes.exact takes.text;
+})
+
+pub too_much_wanted : (old new : Played) (due : Option Due) → old.far.came ≡ false
+    → TakesEvent old.far.world old.trace.bytes (Ok due) new.far.world new.trace.bytes
+    → due_answer due ≡ None → new.far ≡ record old.far { world = new.far.world } → SendsTooMuch old LongSend new
+too_much_wanted old new due came takes told far =
+    let is = event_due old.far came in record {
+      is = refl;
+      made = λ _. ap (λ d. d.world.fault) is ∙ sym (ap (λ v. v.fault) takes.exact) ∙ still_sound old.far.world new.far.world due takes.took.ends;
+      none = ap (λ d. d.answer) is ∙ sym (ap due_answer takes.asked) ∙ told;
+      far = far ∙ ap (λ v. record old.far { world = v }) (takes.exact ∙ sym (ap (λ d. d.world) is));
+      traced = subst (λ t. Appends old.trace.bytes new.trace.bytes t) (sym (ap (λ d. d.traced) is))
+          (subst (λ v. Appends old.trace.bytes new.trace.bytes (lines_between old.far.world v)) takes.exact takes.text);
+    }
+
+pub port_called : (number : ℕ) (call : PortCall) (old new : Played) → new.far.world ≡ after (root_call call number) old.far.world
+    → new.far ≡ record old.far { world = new.far.world; came = false } → new.trace.bytes ≡ old.trace.bytes
+    → IsDone (call_done number call old.far) old Done new
+unfolding call_done
+port_called number call old new world far same = record {
+  answered = refl;
+  made = λ (by : false ≡ true). absurd (false≢true by);
+  far = far ∙ ap (λ w. record old.far { world = w; came = false }) world;
+  traced = subst (λ t. Appends old.trace.bytes t []) (sym same) (Appends-nil old.trace.bytes);
+}
+
+pub hello_answered : (f : Played) (q : Question) (roots : ℕ) → q ≡ Hello → roots ≡ roots_of f.far.world → IsDone (done q f.far) f (Roots roots) f
 unfolding hello_done
 hello_answered f q roots is count =
-    subst (λ r. IsDone (done r f) f (Roots roots) f) (sym is) (record { answered = sym (ap (λ n. Some (Roots n)) count); far = refl })
+    subst (λ r. IsDone (done r f.far) f (Roots roots) f) (sym is) (record {
+      answered = sym (ap (λ n. Some (Roots n)) count);
+      made = λ (by : false ≡ true). absurd (false≢true by);
+      far = refl;
+      traced = Appends-nil f.trace.bytes;
+    })
 
 -- the statuses of one port more
 pub status_more : (row : List PortState) (k : ℕ) (all : List (List ℕ)) (status : List ℕ) → k < length row → all ≡ map status_of (take k row)

@@ -1,172 +1,288 @@
--- How lines and their replies follow each other.
-use Rattle.std.proofs.Common.{◌≡◌, ◌≢◌, ◌∙◌, ℕ, ◌+◌, ◌<◌, ◌≤◌, Bool, true, false, if◌then◌else◌, List, [], ◌∷◌, ◌++◌, length, take, Option, Ok, refl, sym, ap, subst, arith, append_assoc, append-nil, length-append}
+-- How lines and their replies follow each other, and what stops them.
+use Rattle.std.proofs.Common.{◌≡◌, ◌≢◌, ◌⊎◌, inl, inr, ◌∙◌, ℕ, ◌+◌, ◌<◌, ◌≤◌, Bool, true, false, if◌then◌else◌, List, [], ◌∷◌, ◌++◌, length, take, Option, Ok, Err, Some, refl, sym, ap, subst, arith, append_assoc, append-nil, length-append}
 use Rattle.std.proofs.KnownBytes.{Appends-nil, Appends-trans, Consumes-nil, Consumes-trans}
+use Rattle.std.proofs.lemmas.Bool.{false≢true}
 use Rattle.std.proofs.lemmas.List.{take-append-le, take_all}
 use Rattle.std.proofs.lemmas.List.Elements.{All-append}
-use Rattle.std.specs.Io.KnownBytes.{Appends, Consumes, IsAtEnd}
+use Rattle.std.specs.Io.KnownBytes.{Appends, Consumes}
 use Rattle.usb_bus.specs.Watch.{AppendsFront}
-use Rattle.usb_bus.proofs.Interface.{front_after_first}
-use Rattle.usb_lines.specs.Lines.{IsUnbroken}
+use Rattle.usb_lines.specs.Lines.{EndsLine, IsNextLine, IsUnbroken}
+use Rattle.usb_lines.specs.Pipes.{Pipe}
+use Rattle.usb_lines.specs.declared.line.LineFault.{LineFault}
+use Rattle.usb_lines.specs.declared.line.LineFault.TheVariants.{Read, Cut}
 use Rattle.usb_wire.specs.Questions.{IsQuestion, IsQuestionLine}
 use Rattle.usb_wire.specs.declared.question.Question.{Question}
 use Rattle.usb_far.specs.declared.far_end.Phase.{Phase}
 use Rattle.usb_far.specs.declared.fault.FarFault.{FarFault}
-use Rattle.usb_lines.specs.declared.line.LineFault.{LineFault}
-use Rattle.usb_lines.specs.declared.line.LineFault.TheVariants.{Read, Cut}
-use Rattle.usb_far.specs.FarEnd.{Far, IsReplied, line_fault}
-use Rattle.usb_far.specs.Serving.{Answered, FailsNext, Refused, Refuses, Replied, Replies, ServedAll, ServedBefore, ServedFront, ServedNone, ServedOne, ServesNext, Streams, Torn, is_told, is_write, phase_behind, streams}
+use Rattle.usb_far.specs.declared.fault.FarFault.TheVariants as fault
+use Rattle.usb_far.specs.FarEnd.{Far, HasNoReply, IsReplied, Played, Replies, done, may_ask, reading_fault}
+use Rattle.usb_far.specs.Serving.{AllReplied, HasNoQuestion, HasQuestion, IsLastLine, MayGoOn, OnlyReads, OnlyReadsLine, Passed, Passes, ReadsOn, ReadsQuestion, Replied, Scene, ServedAll, ServedNone, ServedOne, ServedSome, ServedUpTo, ServesNext, CauseOf, and_then, is_told, passed, phase_behind}
 
-pub refused : (s : Streams) (f : Far) (e : FarFault) → Refuses e → Refused s → FailsNext s f e
-refused s f e other is = (λ (wrote : is_write e ≡ true). cc, λ _. is)
+-- ---- bytes that were read
 
-pub torn : (s : Streams) (f : Far) (e : FarFault) → is_write e ≡ true → Torn s f → FailsNext s f e
-torn s f e wrote is = (λ _. is, λ (other : is_write e ≡ false). cc)
+abbrev pub in_scene : Played → Pipe → Pipe → Scene
+in_scene played reader writer = record { played = played; reader = reader; writer = writer }
 
-pub refused_line : (r0 r1 w : Option (List ℕ)) (line : List ℕ) → Consumes r0 r1 line → Refused (streams r0 r1 w w)
-refused_line r0 r1 w line read = record { line = line; read = read; written = Appends-nil w }
+-- the first of bytes that were read behind others
+first_of_long : (front rest : List ℕ) (more : ℕ) → length front ≡ 1024 → take 1024 ((front ++ more ∷ []) ++ rest) ≡ front
+first_of_long front rest more full =
+    ap (take 1024) (append_assoc front (more ∷ []) rest)
+    ∙ take-append-le 1024 front (more ∷ [] ++ rest) (omega arith) ∙ take_all 1024 front (omega arith)
 
-pub refused_behind : (r0 r1 r2 w : Option (List ℕ)) (front rest : List ℕ) → Consumes r0 r1 front → Consumes r1 r2 rest → Refused (streams r0 r2 w w)
-refused_behind r0 r1 r2 w front rest first second = refused_line r0 r2 w (front ++ rest) (Consumes-trans r0 r1 r2 front rest first second)
+not_nil : (bytes rest : List ℕ) → 0 < length bytes → bytes ++ rest ≢ []
+not_nil [] rest some none = absurd (omega (arith, some))
+not_nil (c ∷ bytes) rest some none = cc
 
--- the fault of a line that was not read
-pub no_write : (e : LineFault) (f : FarFault) → f ≡ line_fault e → Refuses f
-no_write Read f is = ap is_write is
-no_write Cut f is = ap is_write is
+-- ---- what is told
 
 behind_told : (f : Far) (line : List ℕ) (p : Phase) → IsUnbroken line → is_told f.phase (take 1024 line) ≡ true → p ≡ phase_behind f.phase (take 1024 line)
-    → Replied f (line ++ 10 ∷ []) [] (record f { phase = p })
-behind_told f line p one told next = subst (λ q. Replied f (line ++ 10 ∷ []) [] (record f { phase = q })) (sym next) (Replied.told line one told)
+    → Replied f (passed (line ++ 10 ∷ []) [] []) (record f { phase = p })
+behind_told f line p one told next =
+    subst (λ q. Replied f (passed (line ++ 10 ∷ []) [] []) (record f { phase = q })) (sym next) (Replied.told line one told)
+
+told_line : (old new : Scene) (line : List ℕ) (p : Phase) → IsUnbroken line → Consumes old.reader.bytes new.reader.bytes (line ++ 10 ∷ [])
+    → is_told old.played.far.phase (take 1024 line) ≡ true → p ≡ phase_behind old.played.far.phase (take 1024 line)
+    → new.played.far ≡ record old.played.far { phase = p } → new.played.trace ≡ old.played.trace → ReadsOn old new → new.writer ≡ old.writer
+    → ServedOne old new
+told_line old new line p one read told next far trace reads writer = record {
+  passed = passed (line ++ 10 ∷ []) [] [];
+  replied = subst (Replied old.played.far (passed (line ++ 10 ∷ []) [] [])) (sym far) (behind_told old.played.far line p one told next);
+  passes = record {
+    read = read;
+    written = subst (λ w. Appends old.writer.bytes w.bytes []) (sym writer) (Appends-nil old.writer.bytes);
+    traced = subst (λ t. Appends old.played.trace.bytes t.bytes []) (sym trace) (Appends-nil old.played.trace.bytes);
+    reads = reads;
+    writes = ap (λ w. w.failed) writer;
+  };
+}
 
 -- a line that tells something
-pub told_whole : (r0 r1 w : Option (List ℕ)) (f : Far) (line : List ℕ) (p : Phase) → IsUnbroken line → length line ≤ 1024 → Consumes r0 r1 (line ++ 10 ∷ [])
-    → is_told f.phase line ≡ true → p ≡ phase_behind f.phase line → ServedOne (streams r0 r1 w w) f (record f { phase = p })
-told_whole r0 r1 w f line p one short read told next =
+pub told_whole : (old new : Scene) (line : List ℕ) (p : Phase) → IsUnbroken line → length line ≤ 1024
+    → Consumes old.reader.bytes new.reader.bytes (line ++ 10 ∷ []) → ReadsOn old new
+    → is_told old.played.far.phase line ≡ true → p ≡ phase_behind old.played.far.phase line
+    → new.played.far ≡ record old.played.far { phase = p } → new.played.trace ≡ old.played.trace → new.writer ≡ old.writer
+    → ServedOne old new
+told_whole old new line p one short read reads told next far trace writer =
     let all : line ≡ take 1024 line = sym (take_all 1024 line short) in
-    record {
-      line = line ++ 10 ∷ [];
-      reply = [];
-      replied = behind_told f line p one (subst (λ l. is_told f.phase l ≡ true) all told) (next ∙ ap (phase_behind f.phase) all);
-      read = read;
-      written = Appends-nil w;
-    }
+    told_line old new line p one read (subst (λ l. is_told old.played.far.phase l ≡ true) all told)
+    (next ∙ ap (phase_behind old.played.far.phase) all) far trace reads writer
 
 -- a long one, of which the front was read first
-pub told_long : (r0 r1 r2 w : Option (List ℕ)) (f : Far) (front rest : List ℕ) (more : ℕ) (p : Phase) → length front ≡ 1024 → IsUnbroken (front ++ more ∷ [])
-    → Consumes r0 r1 (front ++ more ∷ []) → IsUnbroken rest → Consumes r1 r2 (rest ++ 10 ∷ []) → is_told f.phase front ≡ true → p ≡ phase_behind f.phase front
-    → ServedOne (streams r0 r2 w w) f (record f { phase = p })
-told_long r0 r1 r2 w f front rest more p full one read last ended told next =
+pub told_long : (old new : Scene) (mid : Pipe) (front rest : List ℕ) (more : ℕ) (p : Phase) → length front ≡ 1024 → IsUnbroken (front ++ more ∷ [])
+    → Consumes old.reader.bytes mid.bytes (front ++ more ∷ []) → IsUnbroken rest → Consumes mid.bytes new.reader.bytes (rest ++ 10 ∷ [])
+    → ReadsOn old new → is_told old.played.far.phase front ≡ true → p ≡ phase_behind old.played.far.phase front
+    → new.played.far ≡ record old.played.far { phase = p } → new.played.trace ≡ old.played.trace → new.writer ≡ old.writer
+    → ServedOne old new
+told_long old new mid front rest more p full one read last ended reads told next far trace writer =
     let line = (front ++ more ∷ []) ++ rest in
-    let first : take 1024 (front ++ (more ∷ [] ++ rest)) ≡ front =
-    take-append-le 1024 front (more ∷ [] ++ rest) (omega arith) ∙ take_all 1024 front (omega arith) in
-    let is : front ≡ take 1024 line = sym first ∙ ap (take 1024) (sym (append_assoc front (more ∷ []) rest)) in
-    record {
-      line = line ++ 10 ∷ [];
-      reply = [];
-      replied = behind_told f line p (All-append (λ c. c ≢ 10) (front ++ more ∷ []) rest one last) (subst (λ l. is_told f.phase l ≡ true) is told) (next ∙ ap (phase_behind f.phase) is);
-      read = subst (Consumes r0 r2) (sym (append_assoc (front ++ more ∷ []) rest (10 ∷ []))) (Consumes-trans r0 r1 r2 (front ++ more ∷ []) (rest ++ 10 ∷ []) read ended);
-      written = Appends-nil w;
-    }
+    let is : front ≡ take 1024 line = sym (first_of_long front rest more full) in
+    told_line old new line p (All-append (λ c. c ≢ 10) (front ++ more ∷ []) rest one last)
+    (subst (Consumes old.reader.bytes new.reader.bytes) (sym (append_assoc (front ++ more ∷ []) rest (10 ∷ [])))
+    (Consumes-trans old.reader.bytes mid.bytes new.reader.bytes (front ++ more ∷ []) (rest ++ 10 ∷ []) read ended))
+    (subst (λ l. is_told old.played.far.phase l ≡ true) is told) (next ∙ ap (phase_behind old.played.far.phase) is) far trace reads writer
+
+-- ---- questions
 
 -- a question that was answered
-pub asked_line : (r0 r1 w0 w1 : Option (List ℕ)) (f g : Far) (line reply : List ℕ) (q : Question) → IsUnbroken line → Consumes r0 r1 (line ++ 10 ∷ [])
-    → IsQuestion q → IsQuestionLine line q → IsReplied q f g reply → Appends w0 w1 reply → ServedOne (streams r0 r1 w0 w1) f g
-asked_line r0 r1 w0 w1 f g line reply q one read may asks replied gone = record {
-  line = line ++ 10 ∷ [];
-  reply = reply;
-  replied = Replied.asked line q one may asks replied;
-  read = read;
-  written = gone;
+pub asked_line : (old new : Scene) (line reply : List ℕ) (q : Question) → IsUnbroken line → Consumes old.reader.bytes new.reader.bytes (line ++ 10 ∷ [])
+    → ReadsOn old new → HasQuestion line q → Replies q old.played new.played reply
+    → Appends old.writer.bytes new.writer.bytes reply → new.writer.failed ≡ old.writer.failed → ServedOne old new
+asked_line old new line reply q one read reads there replied gone writes = record {
+  passed = passed (line ++ 10 ∷ []) reply (done q old.played.far).traced;
+  replied = Replied.asked line q one there.is there.asks replied.replied;
+  passes = record { read = read; written = gone; traced = replied.traced; reads = reads; writes = writes };
 }
 
-pub asked_torn : (r0 r1 w0 w1 : Option (List ℕ)) (f g : Far) (line reply : List ℕ) (q : Question) → IsUnbroken line → Consumes r0 r1 (line ++ 10 ∷ [])
-    → IsQuestion q → IsQuestionLine line q → IsReplied q f g reply → AppendsFront w0 w1 reply → Torn (streams r0 r1 w0 w1) f
-asked_torn r0 r1 w0 w1 f g line reply q one read may asks replied gone = record {
-  line = line ++ 10 ∷ [];
-  reply = reply;
-  new = g;
-  replied = Replied.asked line q one may asks replied;
+reads_question : (old new : Scene) (line : List ℕ) (q : Question) → IsUnbroken line → Consumes old.reader.bytes new.reader.bytes (line ++ 10 ∷ [])
+    → ReadsOn old new → IsQuestion q → IsQuestionLine line q → may_ask old.played.far.phase q ≡ true → ReadsQuestion old q new
+reads_question old new line q one read reads is asks may = record {
+  line = line;
+  unbroken = one;
+  question = is;
+  asks = asks;
+  may = may;
   read = read;
-  written = gone;
+  reads = reads;
 }
 
-pub nothing_left : (r0 r1 w : Option (List ℕ)) (f : Far) → Consumes r0 r1 [] → IsAtEnd r1 → ServedNone (streams r0 r1 w w) f f
-nothing_left r0 r1 w f read ended = record { read = read; ended = ended; written = Appends-nil w; same = refl }
+-- one whose reply was not written to its end
+pub asked_torn : (old new : Scene) (line reply : List ℕ) (q : Question) → IsUnbroken line → Consumes old.reader.bytes new.reader.bytes (line ++ 10 ∷ [])
+    → ReadsOn old new → HasQuestion line q → Replies q old.played new.played reply
+    → AppendsFront old.writer.bytes new.writer.bytes reply → (new.writer.failed ≡ true) ⊎ Appends old.writer.bytes new.writer.bytes reply
+    → CauseOf old new fault.Write
+asked_torn old new line reply q one read reads there replied front (inl failed) =
+    CauseOf.unwritten q (reads_question old new line q one read reads there.is there.asks replied.replied.asks) (record {
+      gone = front.gone;
+      rest = front.rest;
+      replied = subst (IsReplied q old.played.far new.played.far) front.split replied.replied;
+      written = front.appended;
+      traced = replied.traced;
+      failed = inl failed;
+    })
+asked_torn old new line reply q one read reads there replied front (inr whole) =
+    CauseOf.unwritten q (reads_question old new line q one read reads there.is there.asks replied.replied.asks) (record {
+      gone = reply;
+      rest = [];
+      replied = subst (IsReplied q old.played.far new.played.far) (sym (append-nil reply)) replied.replied;
+      written = whole;
+      traced = replied.traced;
+      failed = inr refl;
+    })
+
+-- ---- lines that are not answered
+
+only_line : (old new : Scene) (line : List ℕ) → IsUnbroken line → length line ≤ 1024 → is_told old.played.far.phase line ≡ false
+    → Consumes old.reader.bytes new.reader.bytes (line ++ 10 ∷ []) → ReadsOn old new → new.played ≡ old.played → new.writer ≡ old.writer
+    → OnlyReadsLine old line new
+only_line old new line one short other read reads played writer = record {
+  unbroken = one;
+  short = short;
+  other = other;
+  read = read;
+  reads = reads;
+  played = played;
+  writer = writer;
+}
+
+-- one that asks nothing
+pub no_question_there : (old new : Scene) (line : List ℕ) (f : FarFault) → HasNoQuestion line f → IsUnbroken line → length line ≤ 1024
+    → is_told old.played.far.phase line ≡ false → Consumes old.reader.bytes new.reader.bytes (line ++ 10 ∷ []) → ReadsOn old new
+    → new.played ≡ old.played → new.writer ≡ old.writer → CauseOf old new f
+no_question_there old new line f (inl bad) one short other read reads played writer =
+    subst (CauseOf old new) (sym bad.0) (CauseOf.unprintable line (only_line old new line one short other read reads played writer) bad.1)
+no_question_there old new line f (inr none) one short other read reads played writer =
+    subst (CauseOf old new) (sym none.0) (CauseOf.no_question line (only_line old new line one short other read reads played writer) none.1
+    (λ q is asks. absurd (none.2 q is asks)))
+
+-- one whose question has no reply
+pub no_reply_there : (old new : Scene) (line : List ℕ) (q : Question) (f : FarFault) → HasNoReply q old.played f new.played
+    → HasQuestion line q → IsUnbroken line → length line ≤ 1024 → is_told old.played.far.phase line ≡ false
+    → Consumes old.reader.bytes new.reader.bytes (line ++ 10 ∷ []) → ReadsOn old new → new.writer ≡ old.writer → CauseOf old new f
+no_reply_there old new line q f (inl none) there one short other read reads writer =
+    subst (CauseOf old new) (sym none.0) (CauseOf.no_question line (only_line old new line one short other read reads none.2 writer) there.printable
+    (λ p may at. ap (may_ask old.played.far.phase) (there.only p may at) ∙ none.1))
+no_reply_there old new line q f (inr un) there one short other read reads writer =
+    CauseOf.unanswered f q (reads_question old new line q one read reads there.is there.asks un.0) un.1 writer
+
+-- the front of a line
+only_bytes : (old new : Scene) (bytes : List ℕ) → IsUnbroken bytes → Consumes old.reader.bytes new.reader.bytes bytes
+    → new.played ≡ old.played → new.writer ≡ old.writer → OnlyReads old bytes new
+only_bytes old new bytes one read played writer = record { unbroken = one; read = read; played = played; writer = writer }
+
+-- in a line of at most 1,024 bytes the reader failed, or the input ended
+pub not_read : (played : Played) (before behind writer : Pipe) (e : LineFault) (f : FarFault) → f ≡ reading_fault e
+    → IsNextLine before.bytes behind.bytes (Err e) → (e ≡ Read → behind.failed ≡ true) → (e ≢ Read → behind.failed ≡ before.failed)
+    → CauseOf (in_scene played before writer) (in_scene played behind writer) f
+not_read played before behind writer Read f is front failed still =
+    subst (CauseOf (in_scene played before writer) (in_scene played behind writer)) (sym is)
+    (CauseOf.unread front.bytes (only_bytes _ _ front.bytes front.unbroken front.read refl refl) (λ _. front.few) (failed refl))
+not_read played before behind writer Cut f is front failed still =
+    subst (CauseOf (in_scene played before writer) (in_scene played behind writer)) (sym is)
+    (CauseOf.cut_off front.bytes front.some (only_bytes _ _ front.bytes front.unbroken front.read refl refl) (λ _. front.few)
+    (still (λ (same : Cut ≡ Read). cc)) (inl front.ended))
+
+-- a long line that tells nothing
+pub too_long : (played : Played) (before behind writer : Pipe) (front : List ℕ) (more : ℕ) → length front ≡ 1024 → IsUnbroken (front ++ more ∷ [])
+    → Consumes before.bytes behind.bytes (front ++ more ∷ []) → behind.failed ≡ before.failed → is_told played.far.phase front ≡ false
+    → CauseOf (in_scene played before writer) (in_scene played behind writer) fault.LineTooLong
+too_long played before behind writer front more full one read still other =
+    let first : take 1024 (front ++ more ∷ []) ≡ front = take-append-le 1024 front (more ∷ []) (omega arith) ∙ take_all 1024 front (omega arith) in
+    CauseOf.too_long (front ++ more ∷ []) (only_bytes _ _ (front ++ more ∷ []) one read refl refl) (omega (arith, length-append front (more ∷ [])))
+    (ap (is_told played.far.phase) first ∙ other) still
+
+-- one that tells something, of which the rest was not read
+pub long_front : (played : Played) (before mid behind writer : Pipe) (front rest : List ℕ) (more : ℕ) → length front ≡ 1024 → IsUnbroken (front ++ more ∷ [])
+    → IsUnbroken rest → Consumes before.bytes mid.bytes (front ++ more ∷ []) → Consumes mid.bytes behind.bytes rest
+    → OnlyReads (in_scene played before writer) ((front ++ more ∷ []) ++ rest) (in_scene played behind writer)
+long_front played before mid behind writer front rest more full one last read ended = record {
+  unbroken = All-append (λ c. c ≢ 10) (front ++ more ∷ []) rest one last;
+  read = Consumes-trans before.bytes mid.bytes behind.bytes (front ++ more ∷ []) rest read ended;
+  played = refl;
+  writer = refl;
+}
+
+goes_on : (phase : Phase) (front rest : List ℕ) (more : ℕ) → length front ≡ 1024 → is_told phase front ≡ true → MayGoOn phase ((front ++ more ∷ []) ++ rest)
+goes_on phase front rest more full told other =
+    absurd (false≢true (sym other ∙ ap (is_told phase) (first_of_long front rest more full) ∙ told))
+
+pub not_skipped : (played : Played) (before mid behind writer : Pipe) (front : List ℕ) (more : ℕ) (e : LineFault) (f : FarFault) → f ≡ reading_fault e
+    → length front ≡ 1024 → IsUnbroken (front ++ more ∷ []) → Consumes before.bytes mid.bytes (front ++ more ∷ []) → mid.failed ≡ before.failed
+    → is_told played.far.phase front ≡ true → EndsLine mid.bytes behind.bytes (Err e)
+    → (e ≡ Read → behind.failed ≡ true) → (e ≢ Read → behind.failed ≡ mid.failed)
+    → CauseOf (in_scene played before writer) (in_scene played behind writer) f
+not_skipped played before mid behind writer front more Read f is full one read on told rest failed still =
+    subst (CauseOf (in_scene played before writer) (in_scene played behind writer)) (sym is)
+    (CauseOf.unread ((front ++ more ∷ []) ++ rest.bytes) (long_front played before mid behind writer front rest.bytes more full one rest.unbroken read rest.read)
+    (goes_on played.far.phase front rest.bytes more full told) (failed refl))
+not_skipped played before mid behind writer front more Cut f is full one read on told rest failed still =
+    subst (CauseOf (in_scene played before writer) (in_scene played behind writer)) (sym is)
+    (CauseOf.cut_off ((front ++ more ∷ []) ++ rest.bytes) (λ none. not_nil (front ++ more ∷ []) rest.bytes (omega (arith, length-append front (more ∷ []))) none)
+    (long_front played before mid behind writer front rest.bytes more full one rest.unbroken read rest.read)
+    (goes_on played.far.phase front rest.bytes more full told) (still (λ (same : Cut ≡ Read). cc) ∙ on)
+    (elim rest.ended [
+      | inl ended ↦ inl ended
+      | inr many ↦ inr (omega (arith, many, length-append (front ++ more ∷ []) rest.bytes, length-append front (more ∷ [])))
+    ]))
 
 -- ---- line after line
 
-pub begun : (r w : Option (List ℕ)) (f : Far) → Answered (streams r r w w) f f
-begun r w f = record { text = []; lines = []; replies = Replies.none; read = Consumes-nil r; written = Appends-nil w }
-
-pub answered_more : (r0 r1 r2 w0 w1 w2 : Option (List ℕ)) (a b c : Far) → Answered (streams r0 r1 w0 w1) a b → ServedOne (streams r1 r2 w1 w2) b c
-    → Answered (streams r0 r2 w0 w2) a c
-answered_more r0 r1 r2 w0 w1 w2 a b c so one = record {
-  text = so.text ++ one.line;
-  lines = so.lines ++ one.reply;
-  replies = Replies.next so.replies one.replied;
-  read = Consumes-trans r0 r1 r2 so.text one.line so.read one.read;
-  written = Appends-trans w0 w1 w2 so.lines one.reply so.written one.written;
+pub begun : (s : Scene) → ServedSome s 0 s
+begun s = record {
+  passed = passed [] [] [];
+  replies = AllReplied.none;
+  passes = record {
+    read = Consumes-nil s.reader.bytes;
+    written = Appends-nil s.writer.bytes;
+    traced = Appends-nil s.played.trace.bytes;
+    reads = refl;
+    writes = refl;
+  };
 }
 
-nothing_more : (r0 r1 r2 : Option (List ℕ)) (text : List ℕ) → Consumes r0 r1 text → Consumes r1 r2 [] → Consumes r0 r2 text
-nothing_more r0 r1 r2 text read none = subst (Consumes r0 r2) (append-nil text) (Consumes-trans r0 r1 r2 text [] read none)
+passes_then : (a b c : Scene) (p q : Passed) → Passes a p b → Passes b q c → Passes a (and_then p q) c
+passes_then a b c p q first second = record {
+  read = Consumes-trans a.reader.bytes b.reader.bytes c.reader.bytes p.asked q.asked first.read second.read;
+  written = Appends-trans a.writer.bytes b.writer.bytes c.writer.bytes p.said q.said first.written second.written;
+  traced = Appends-trans a.played.trace.bytes b.played.trace.bytes c.played.trace.bytes p.traced q.traced first.traced second.traced;
+  reads = second.reads ∙ first.reads;
+  writes = second.writes ∙ first.writes;
+}
 
-nothing_gone : (w0 w1 w2 : Option (List ℕ)) (lines : List ℕ) → Appends w0 w1 lines → Appends w1 w2 [] → Appends w0 w2 lines
-nothing_gone w0 w1 w2 lines gone none = subst (Appends w0 w2) (append-nil lines) (Appends-trans w0 w1 w2 lines [] gone none)
+pub served_more : (a b c : Scene) (count more : ℕ) → more ≡ count + 1 → ServedSome a count b → ServedOne b c → ServedSome a more c
+served_more a b c count more is so one = record {
+  passed = and_then so.passed one.passed;
+  replies = subst (λ n. AllReplied a.played.far n (and_then so.passed one.passed) c.played.far) (sym is) (AllReplied.next so.replies one.replied);
+  passes = passes_then a b c so.passed one.passed so.passes one.passes;
+}
 
-pub answered_all : (r0 r1 r2 w0 w1 w2 : Option (List ℕ)) (a b c : Far) → Answered (streams r0 r1 w0 w1) a b → ServedNone (streams r1 r2 w1 w2) b c
-    → ServedAll (streams r0 r2 w0 w2) a c
-answered_all r0 r1 r2 w0 w1 w2 a b c so none = record {
-  text = so.text;
-  lines = so.lines;
-  replies = subst (Replies a so.text so.lines) (sym none.same) so.replies;
-  read = nothing_more r0 r1 r2 so.text so.read none.read;
+pub served_all : (a b c : Scene) (count : ℕ) → ServedSome a count b → ServedNone b c → ServedAll a c
+served_all a b c count so none = record {
+  count = count;
+  passed = so.passed;
+  replies = subst (AllReplied a.played.far count so.passed) (sym none.same) so.replies;
+  passes = rw (append-nil so.passed.asked, append-nil so.passed.said, append-nil so.passed.traced) at
+      (passes_then a b c so.passed (passed [] [] []) so.passes none.passes);
   ended = none.ended;
-  written = nothing_gone w0 w1 w2 so.lines so.written none.written;
 }
 
--- at a fault
-abbrev pub EndsAt : Streams → Far → FarFault → Type 0
-EndsAt s a e = (is_write e ≡ true → ServedFront s a) × (is_write e ≡ false → ServedBefore s a)
+pub served_up_to : (a b c : Scene) (count number : ℕ) (f : FarFault) → ServedSome a count b → number ≡ count + 1
+    → CauseOf b c f ⊎ IsLastLine b number f c → ServedUpTo a number f c
+served_up_to a b c count number f so is stops = record {
+  count = count;
+  passed = so.passed;
+  mid = b;
+  replies = so.replies;
+  passes = so.passes;
+  next = is;
+  stops = stops;
+}
 
-pub answered_before : (r0 r1 r2 w0 w1 w2 : Option (List ℕ)) (a b : Far) (e : FarFault) → Answered (streams r0 r1 w0 w1) a b → FailsNext (streams r1 r2 w1 w2) b e
-    → EndsAt (streams r0 r2 w0 w2) a e
-answered_before r0 r1 r2 w0 w1 w2 a b e so fails = (
-  λ wrote. let t = fails.0 wrote in record {
-    text = so.text ++ t.line;
-    lines = so.lines ++ t.reply;
-    mid = t.new;
-    replies = Replies.next so.replies t.replied;
-    read = Consumes-trans r0 r1 r2 so.text t.line so.read t.read;
-    written = front_after_first w0 w1 w2 so.lines t.reply so.written t.written;
-  },
-  λ other. let t = fails.1 other in record {
-    text = so.text;
-    line = t.line;
-    lines = so.lines;
-    mid = b;
-    replies = so.replies;
-    read = Consumes-trans r0 r1 r2 so.text t.line so.read t.read;
-    written = nothing_gone w0 w1 w2 so.lines so.written t.written;
-  },
-)
-
-pub answered_on : (r0 r1 w0 w1 : Option (List ℕ)) (a b : Far) (e : FarFault) → Refuses e → Answered (streams r0 r1 w0 w1) a b → EndsAt (streams r0 r1 w0 w1) a e
-answered_on r0 r1 w0 w1 a b e other so = (
-  λ (wrote : is_write e ≡ true). cc,
-  λ _. record {
-    text = so.text;
-    line = [];
-    lines = so.lines;
-    mid = b;
-    replies = so.replies;
-    read = Consumes-trans r0 r1 r1 so.text [] so.read (Consumes-nil r1);
-    written = so.written;
-  },
-)
+pub only_one : (p q : Question) → ◌≡◌ {A = Option Question} (Some q) (Some p) → p ≡ q
+only_one p q found = cc
 
 -- the first three tests fail
 pub last_of_four : (a b c d r : Bool) → a ≡ false → b ≡ false → c ≡ false → r ≡ d → r ≡ (if a then true else if b then true else if c then true else d)
 last_of_four a b c d r first second third is = rw (first, second, third) is
 
-pub served_one : (s : Streams) (a b : Far) (more : Bool) → more ≡ true → ServesNext s a (Ok more) b → ServedOne s a b
-served_one s a b more is h = let P : Bool → Type 0 = λ v. ServesNext s a (Ok v) b in subst P is h
+pub served_one : (a b : Scene) (more : Bool) → more ≡ true → ServesNext a (Ok more) b → ServedOne a b
+served_one a b more is h = let P : Bool → Type 0 = λ v. ServesNext a (Ok v) b in subst P is h

@@ -1,5 +1,6 @@
 -- The far end as plain data, what it does at each question, and the lines that go out behind it.
-use Rattle.std.specs.Prelude.{◌≡◌, ℕ, ◌+◌, ◌==◌, nat_lt, Bool, true, false, not, if◌then◌else◌, List, [], ◌∷◌, ◌++◌, length, map, Option, Some, None}
+use Rattle.std.specs.Prelude.{◌≡◌, ◌⊎◌, ℕ, ◌+◌, ◌==◌, nat_lt, Bool, true, false, not, if◌then◌else◌, List, [], ◌∷◌, ◌++◌, length, map, Option, Some, None, Err}
+use Rattle.std.specs.Io.KnownBytes.{Appends}
 use Rattle.std.specs.Str.{bytes_eq}
 use Rattle.usb_packet.specs.declared.TokenKind.{TokenKind}
 use Rattle.usb_packet.specs.declared.TokenKind.TheVariants.{OutTok, InTok, SetupTok}
@@ -11,13 +12,17 @@ use Rattle.usb_request.specs.declared.setup.Setup.{Setup as SetupData}
 use Rattle.usb_world.specs.declared.event.Due.{Due}
 use Rattle.usb_world.specs.declared.event.Due.TheVariants as due
 use Rattle.usb_world.specs.declared.types.Attempt.{Attempt}
+use Rattle.usb_world.specs.declared.types.BusFault.{BusFault}
+use Rattle.usb_world.specs.declared.types.BusFault.TheVariants.{TraceFailed}
 use Rattle.usb_world.specs.declared.types.Outcome.{Outcome}
 use Rattle.usb_world.specs.declared.types.Outcome.TheVariants as outcome
-use Rattle.usb_world.specs.World.{World, root_row, roots_of}
+use Rattle.usb_world.specs.World.{World, IsRootPort, root_row, roots_of}
 use Rattle.usb_world.specs.Steps.{after, attempt, event, outcome_in, root_call}
 use Rattle.usb_bus.specs.declared.tracer.Trace.{Ghosts}
-use Rattle.usb_bus.specs.Lines.{next_due}
-use Rattle.usb_bus.specs.Sim.{world_of}
+use Rattle.usb_bus.specs.Lines.{lines_between, next_due, step_lines}
+use Rattle.usb_bus.specs.Sim.{trace_of, tracer_of, world_of}
+use Rattle.usb_bus.specs.Traces.{Attempts, TakesEvent}
+use Rattle.usb_lines.specs.Pipes.{Pipe}
 use Rattle.usb_lines.specs.declared.line.LineFault.{LineFault}
 use Rattle.usb_lines.specs.declared.line.LineFault.TheVariants as line
 use Rattle.usb_wire.specs.Answers.{said_line}
@@ -51,6 +56,17 @@ pub record Far : Type 0 where
 abbrev pub far_of : {T : Type 0} {g : Ghosts T} → FarEnd T g → Far
 far_of f = record { world = world_of f.bus; told = f.told.items; came = f.came; phase = f.phase }
 
+-- the same, with its trace
+pub record Played : Type 0 where
+  pub far : Far
+  pub trace : Pipe
+
+abbrev pub played_of : {T : Type 0} {g : Ghosts T} → FarEnd T g → Played
+played_of {T} {g} f = record {
+  far = far_of f;
+  trace = record { bytes = trace_of f.bus; failed = g.failed (tracer_of f.bus) };
+}
+
 -- wPortStatus and wPortChange of each root port (11.24.2.7)
 unfoldable pub statuses : World → List (List ℕ)
 statuses w = map status_of (root_row w)
@@ -61,44 +77,44 @@ far_begun w = record { world = w; told = statuses w; came = false; phase = New }
 
 -- ---- attempts
 
-abbrev pub is_low : Speed → Bool
-is_low Full = false
-is_low Low = true
-is_low LowBelowHub = true
+abbrev pub speed_is_low : Speed → Bool
+speed_is_low Full = false
+speed_is_low Low = true
+speed_is_low LowBelowHub = true
 
 abbrev pub is_pre : Speed → Bool
 is_pre Full = false
 is_pre Low = false
 is_pre LowBelowHub = true
 
-abbrev pub setup_attempt : Speed → Endpoint → SetupData → Attempt
-setup_attempt speed e setup = record {
+abbrev pub attempt_of_setup : Speed → Endpoint → SetupData → Attempt
+attempt_of_setup speed e setup = record {
   kind = SetupTok;
   addr = e.address;
   ep = e.number;
-  low = is_low speed;
+  low = speed_is_low speed;
   pre = is_pre speed;
   max = 8;
   payload = Some (Zero, record { items = bytes_of setup });
 }
 
-abbrev pub out_attempt : Speed → Endpoint → DataPacket → Attempt
-out_attempt speed e sent = record {
+abbrev pub attempt_of_out : Speed → Endpoint → DataPacket → Attempt
+attempt_of_out speed e sent = record {
   kind = OutTok;
   addr = e.address;
   ep = e.number;
-  low = is_low speed;
+  low = speed_is_low speed;
   pre = is_pre speed;
   max = 64;
   payload = Some (sent.toggle, sent.bytes);
 }
 
-abbrev pub in_attempt : Speed → Endpoint → ℕ → Attempt
-in_attempt speed e most = record {
+abbrev pub attempt_of_in : Speed → Endpoint → ℕ → Attempt
+attempt_of_in speed e most = record {
   kind = InTok;
   addr = e.address;
   ep = e.number;
-  low = is_low speed;
+  low = speed_is_low speed;
   pre = is_pre speed;
   max = most;
   payload = None;
@@ -127,11 +143,18 @@ is_poll SetupTok o = false
 
 -- ---- what is done at a question
 
--- the answer, where a line has room for it; the world behind it, and whether an event came that the host may not have seen
+-- the answer, where a line has room for it; the world behind it, and whether an event came that the host may not have seen;
+-- the lines of the trace, and whether the bus makes an attempt or lets an event come
 pub record Deed : Type 0 where
   pub answer : Option Answer
   pub world : World
   pub came : Bool
+  pub traced : List ℕ
+  pub by_bus : Bool
+
+-- the bus told no fault where it had a part in it
+abbrev pub IsFaultless : Deed → Type 0
+IsFaultless d = d.by_bus ≡ true → d.world.fault ≡ None
 
 -- an event came in the last INs, all of them answered by NAK
 abbrev pub came_in : Bool → Bool → ℕ → ℕ → Bool
@@ -144,44 +167,107 @@ attempt_done a f = record {
   answer = Some (outcome_answer (outcome_in a f.world));
   world = after (attempt a) f.world;
   came = came_in (is_poll a.kind (outcome_in a f.world)) f.came f.world.taken (after (attempt a) f.world).taken;
+  traced = step_lines a f.world (after (attempt a) f.world);
+  by_bus = true;
 }
 
 unfoldable pub call_done : ℕ → PortCall → Far → Deed
-call_done number call f = record { answer = Some Done; world = after (root_call call number) f.world; came = false }
+call_done number call f = record {
+  answer = Some Done;
+  world = after (root_call call number) f.world;
+  came = false;
+  traced = [];
+  by_bus = false;
+}
 
 -- at most 64 bytes
-unfoldable pub send_answer : List ℕ → List ℕ → Option Answer
-send_answer path bytes = if nat_lt 64 (length bytes) then None else Some (Send path (record { items = bytes }))
+unfoldable pub send_wanted : List ℕ → List ℕ → Option Answer
+send_wanted path bytes = if nat_lt 64 (length bytes) then None else Some (Send path (record { items = bytes }))
 
 -- what an event asks, and the end where none is left
 abbrev pub due_answer : Option Due → Option Answer
 due_answer None = Some End
 due_answer (Some due.Changed) = Some Done
 due_answer (Some due.Show) = Some Show
-due_answer (Some (due.Send path bytes)) = send_answer path bytes
+due_answer (Some (due.Send path bytes)) = send_wanted path bytes
 due_answer (Some (due.Receive path packets)) = Some (Receive path packets)
 due_answer (Some (due.Clear path)) = Some (Clear path)
 
 unfoldable pub wait_done : Far → Deed
 wait_done f =
-    if f.came then record { answer = Some Done; world = f.world; came = false }
-    else record { answer = due_answer (next_due f.world); world = after event f.world; came = false }
+    if f.came then record { answer = Some Done; world = f.world; came = false; traced = []; by_bus = false }
+    else record {
+      answer = due_answer (next_due f.world);
+      world = after event f.world;
+      came = false;
+      traced = lines_between f.world (after event f.world);
+      by_bus = true;
+    }
 
 unfoldable pub hello_done : Far → Deed
-hello_done f = record { answer = Some (Roots (roots_of f.world)); world = f.world; came = f.came }
+hello_done f = record {
+  answer = Some (Roots (roots_of f.world));
+  world = f.world;
+  came = f.came;
+  traced = [];
+  by_bus = false;
+}
 
 abbrev pub done : Question → Far → Deed
 done Hello f = hello_done f
-done (Setup speed endpoint setup) f = attempt_done (setup_attempt speed endpoint setup) f
-done (Out speed endpoint sent) f = attempt_done (out_attempt speed endpoint sent) f
-done (In speed endpoint most) f = attempt_done (in_attempt speed endpoint most) f
+done (Setup speed endpoint setup) f = attempt_done (attempt_of_setup speed endpoint setup) f
+done (Out speed endpoint sent) f = attempt_done (attempt_of_out speed endpoint sent) f
+done (In speed endpoint most) f = attempt_done (attempt_of_in speed endpoint most) f
 done (Port number call) f = call_done number call f
 done Wait f = wait_done f
 
--- a deed was done, with this answer
-pub record IsDone (d : Deed) (old : Far) (answer : Answer) (new : Far) : Type 0 where
+-- a deed was done, with this answer, and traced
+pub record IsDone (d : Deed) (old : Played) (answer : Answer) (new : Played) : Type 0 where
   pub answered : d.answer ≡ Some answer
-  pub far : new ≡ record old { world = d.world; came = d.came }
+  pub made : IsFaultless d
+  pub far : new.far ≡ record old.far { world = d.world; came = d.came }
+  pub traced : Appends old.trace.bytes new.trace.bytes d.traced
+
+-- ---- why a question is not answered
+
+-- the bus gave the attempt up, with its own fault; a failed trace is marked
+pub record IsGivenUp (a : Attempt) (old : Played) (f : FarFault) (new : Played) : Type 0 where
+  pub bus : BusFault
+  pub is : f ≡ fault.Bus bus
+  pub attempts : Attempts a old.far.world old.trace.bytes (Err bus) new.far.world new.trace.bytes
+  pub failed : bus ≡ TraceFailed → old.far.world.fault ≡ None → new.trace.failed ≡ true
+  pub far : new.far ≡ record old.far { world = new.far.world }
+
+-- there is no root port of that number
+pub record HasNoPort (number : ℕ) (old : Played) (f : FarFault) (new : Played) : Type 0 where
+  pub is : f ≡ fault.BadNumber
+  pub none : IsRootPort old.far.world number → ⊥
+  pub same : new ≡ old
+
+-- the next event was due, and the bus gave it up, with its own fault
+pub record IsEventGivenUp (old : Played) (f : FarFault) (new : Played) : Type 0 where
+  pub bus : BusFault
+  pub is : f ≡ fault.Bus bus
+  pub due : old.far.came ≡ false
+  pub takes : TakesEvent old.far.world old.trace.bytes (Err bus) new.far.world new.trace.bytes
+  pub failed : bus ≡ TraceFailed → old.far.world.fault ≡ None → new.trace.failed ≡ true
+  pub far : new.far ≡ record old.far { world = new.far.world }
+
+-- the next event came, and what it sends has no room in a line
+pub record SendsTooMuch (old : Played) (f : FarFault) (new : Played) : Type 0 where
+  pub is : f ≡ fault.LongSend
+  pub none : (wait_done old.far).answer ≡ None
+  pub made : IsFaultless (wait_done old.far)
+  pub far : new.far ≡ record old.far { world = (wait_done old.far).world }
+  pub traced : Appends old.trace.bytes new.trace.bytes (wait_done old.far).traced
+
+abbrev pub IsUnanswered : Question → Played → FarFault → Played → Type 0
+IsUnanswered Hello old f new = ⊥
+IsUnanswered (Setup speed endpoint setup) old f new = IsGivenUp (attempt_of_setup speed endpoint setup) old f new
+IsUnanswered (Out speed endpoint sent) old f new = IsGivenUp (attempt_of_out speed endpoint sent) old f new
+IsUnanswered (In speed endpoint most) old f new = IsGivenUp (attempt_of_in speed endpoint most) old f new
+IsUnanswered (Port number call) old f new = HasNoPort number old f new
+IsUnanswered Wait old f new = IsEventGivenUp old f new ⊎ SendsTooMuch old f new
 
 -- ---- the lines behind a question
 
@@ -205,11 +291,11 @@ pushes number told [] = []
 pushes number told (status ∷ more) = push_of number told status ++ pushes (number + 1) (behind_first told) more
 
 -- the hello is told no status
-abbrev pub pushed : Asked → Far → List ℕ
-pushed asked.Hello f = []
-pushed asked.Attempt f = pushes 1 f.told (statuses f.world)
-pushed asked.Port f = pushes 1 f.told (statuses f.world)
-pushed asked.Wait f = pushes 1 f.told (statuses f.world)
+abbrev pub status_lines : Asked → Far → List ℕ
+status_lines asked.Hello f = []
+status_lines asked.Attempt f = pushes 1 f.told (statuses f.world)
+status_lines asked.Port f = pushes 1 f.told (statuses f.world)
+status_lines asked.Wait f = pushes 1 f.told (statuses f.world)
 
 abbrev pub told_behind : Asked → Far → List (List ℕ)
 told_behind asked.Hello f = f.told
@@ -218,7 +304,7 @@ told_behind asked.Port f = statuses f.world
 told_behind asked.Wait f = statuses f.world
 
 pub record ChangesTold (a : Asked) (old new : Far) (lines : List ℕ) : Type 0 where
-  pub pushed : lines ≡ pushed a old
+  pub told : lines ≡ status_lines a old
   pub far : new ≡ record old { told = told_behind a old; phase = Asks }
 
 -- the hello stands first, and nowhere else
@@ -248,11 +334,23 @@ pub record IsReplied (q : Question) (old new : Far) (lines : List ℕ) : Type 0 
   pub asks : may_ask old.phase q ≡ true
   pub answer : Answer
   pub answered : (done q old).answer ≡ Some answer
+  pub made : IsFaultless (done q old)
   pub far : new ≡ far_after q old
-  pub is : lines ≡ pushed (kind_asked q) (far_done q old) ++ line_of (Answered answer)
+  pub is : lines ≡ status_lines (kind_asked q) (far_done q old) ++ line_of (Answered answer)
 
 -- of the private functions
 
-abbrev pub line_fault : LineFault → FarFault
-line_fault line.Read = fault.Read
-line_fault line.Cut = fault.HostGone
+-- the reply was made, and the deed traced
+pub record Replies (q : Question) (old new : Played) (lines : List ℕ) : Type 0 where
+  pub replied : IsReplied q old.far new.far lines
+  pub traced : Appends old.trace.bytes new.trace.bytes (done q old.far).traced
+
+-- the question may not stand there, or is not answered
+abbrev pub HasNoReply : Question → Played → FarFault → Played → Type 0
+HasNoReply q old f new =
+    ((f ≡ fault.NoQuestion) × (may_ask old.far.phase q ≡ false) × (new ≡ old))
+    ⊎ ((may_ask old.far.phase q ≡ true) × IsUnanswered q old f new)
+
+abbrev pub reading_fault : LineFault → FarFault
+reading_fault line.Read = fault.Read
+reading_fault line.Cut = fault.HostGone

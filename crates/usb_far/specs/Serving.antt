@@ -1,17 +1,21 @@
--- What is read and what goes out, line by line.
-use Rattle.std.specs.Prelude.{◌≡◌, ◌≢◌, ℕ, Bool, true, false, if◌then◌else◌, List, [], ◌∷◌, ◌++◌, take, codes, nat_eq, Option, Result, Ok, Err}
+-- What is read and what goes out, line by line, and why it ends.
+use Rattle.std.specs.Prelude.{◌≡◌, ◌≢◌, ◌⊎◌, ℕ, ◌+◌, ◌-◌, ◌^◌, ◌≤◌, Bool, true, false, if◌then◌else◌, List, [], ◌∷◌, ◌++◌, take, codes, length, nat_eq, Option, Result, Ok, Err}
 use Rattle.std.specs.List.{starts_with}
 use Rattle.std.specs.Str.{bytes_eq}
 use Rattle.std.specs.Io.KnownBytes.{Appends, Consumes, IsAtEnd}
-use Rattle.usb_bus.specs.Watch.{AppendsFront}
-use Rattle.usb_lines.specs.Lines.{IsUnbroken, ReadFront, ReadToEnd}
+use Rattle.usb_bus.specs.declared.tracer.Trace.{Ghosts}
+use Rattle.usb_bus.specs.declared.watched.Watched.{Watched}
+use Rattle.usb_lines.specs.Lines.{IsUnbroken}
+use Rattle.usb_lines.specs.Pipes.{Pipe, pipe_of}
 use Rattle.usb_wire.specs.Questions.{IsQuestion, IsQuestionLine}
+use Rattle.usb_wire.specs.Words.{all_printable}
 use Rattle.usb_wire.specs.declared.question.Question.{Question}
+use Rattle.usb_far.specs.declared.far_end.FarEnd.{FarEnd}
 use Rattle.usb_far.specs.declared.far_end.Phase.{Phase}
 use Rattle.usb_far.specs.declared.far_end.Phase.TheVariants.{New, Asks, Tells}
 use Rattle.usb_far.specs.declared.fault.FarFault.{FarFault}
 use Rattle.usb_far.specs.declared.fault.FarFault.TheVariants as fault
-use Rattle.usb_far.specs.FarEnd.{Far, IsReplied}
+use Rattle.usb_far.specs.FarEnd.{Far, IsReplied, IsUnanswered, Played, done, may_ask, played_of}
 
 abbrev pub begins_with : List ℕ → List ℕ → Bool
 begins_with line word = starts_with nat_eq line word
@@ -32,117 +36,186 @@ phase_behind New line = New
 phase_behind Asks line = if begins_with line (codes "listing ") then Tells else Asks
 phase_behind Tells line = if bytes_eq line (codes "end") then Asks else Tells
 
--- a line was read, and its reply is this: of a question its lines, of what is told none. Of a told line of more than 1,024
--- bytes the first 1,024 count
-pub data Replied (old : Far) : List ℕ → List ℕ → Far → Type 0 where
-  asked : {new : Far} {reply : List ℕ} (line : List ℕ) (q : Question) → IsUnbroken line → IsQuestion q → IsQuestionLine line q
-      → IsReplied q old new reply → Replied old (line ++ 10 ∷ []) reply new
+-- ---- lines that are answered
+
+-- what went through: bytes of the host, bytes to the host, and those of the trace
+pub record Passed : Type 0 where
+  pub asked : List ℕ
+  pub said : List ℕ
+  pub traced : List ℕ
+
+abbrev pub passed : List ℕ → List ℕ → List ℕ → Passed
+passed asked said traced = record { asked = asked; said = said; traced = traced }
+
+-- one behind the other
+abbrev pub and_then : Passed → Passed → Passed
+and_then p q = passed (p.asked ++ q.asked) (p.said ++ q.said) (p.traced ++ q.traced)
+
+-- a line was read, and its reply is this: of a question its lines, of what is told none. Of a told line
+-- of more than 1,024 bytes the first 1,024 count
+pub data Replied (old : Far) : Passed → Far → Type 0 where
+  asked : {new : Far} {reply : List ℕ} (line : List ℕ) (q : Question)
+      → IsUnbroken line → IsQuestion q → IsQuestionLine line q → IsReplied q old new reply
+      → Replied old (passed (line ++ 10 ∷ []) reply (done q old).traced) new
   told : (line : List ℕ) → IsUnbroken line → is_told old.phase (take 1024 line) ≡ true
-      → Replied old (line ++ 10 ∷ []) [] (record old { phase = phase_behind old.phase (take 1024 line) })
+      → Replied old (passed (line ++ 10 ∷ []) [] []) (record old { phase = phase_behind old.phase (take 1024 line) })
 
--- lines were read, one after the other, and their replies are these
-pub data Replies (old : Far) : List ℕ → List ℕ → Far → Type 0 where
-  none : Replies old [] [] old
-  next : {mid new : Far} {text lines line reply : List ℕ} → Replies old text lines mid → Replied mid line reply new
-      → Replies old (text ++ line) (lines ++ reply) new
+-- so many lines were read, one after the other, and their replies are these
+pub data AllReplied (old : Far) : ℕ → Passed → Far → Type 0 where
+  none : AllReplied old 0 (passed [] [] []) old
+  next : {count : ℕ} {mid new : Far} {p q : Passed} → AllReplied old count p mid → Replied mid q new
+      → AllReplied old (count + 1) (and_then p q) new
 
--- the bytes that a reader has left and those that a writer has, before and after, where they are known
-pub record Streams : Type 0 where
-  pub unread : Option (List ℕ)
-  pub left : Option (List ℕ)
-  pub before : Option (List ℕ)
-  pub now : Option (List ℕ)
+-- ---- what is seen of all that
 
-abbrev pub streams : Option (List ℕ) → Option (List ℕ) → Option (List ℕ) → Option (List ℕ) → Streams
-streams unread left before now = record { unread = unread; left = left; before = before; now = now }
+-- the far end with its trace, the reader of the host's lines and the writer of the replies
+pub record Scene : Type 0 where
+  pub played : Played
+  pub reader : Pipe
+  pub writer : Pipe
+
+abbrev pub scene : {T R W : Type 0} {g : Ghosts T} → (R → Option (List ℕ)) → (W → Option (List ℕ))
+    → FarEnd T g → Watched R → Watched W → Scene
+scene remaining contents far reader writer = record {
+  played = played_of far;
+  reader = pipe_of remaining reader;
+  writer = pipe_of contents writer;
+}
+
+-- just that went through, and neither the reader nor the writer failed
+pub record Passes (old : Scene) (p : Passed) (new : Scene) : Type 0 where
+  pub read : Consumes old.reader.bytes new.reader.bytes p.asked
+  pub written : Appends old.writer.bytes new.writer.bytes p.said
+  pub traced : Appends old.played.trace.bytes new.played.trace.bytes p.traced
+  pub reads : new.reader.failed ≡ old.reader.failed
+  pub writes : new.writer.failed ≡ old.writer.failed
+
+-- ---- why a line stops the far end
+
+-- this much was read, and nothing was done
+pub record OnlyReads (old : Scene) (bytes : List ℕ) (new : Scene) : Type 0 where
+  pub unbroken : IsUnbroken bytes
+  pub read : Consumes old.reader.bytes new.reader.bytes bytes
+  pub played : new.played ≡ old.played
+  pub writer : new.writer ≡ old.writer
+
+-- a line may go on behind these bytes
+abbrev pub MayGoOn : Phase → List ℕ → Type 0
+MayGoOn phase bytes = is_told phase (take 1024 bytes) ≡ false → length bytes ≤ 1024
+
+-- the reader did not fail
+abbrev pub ReadsOn : Scene → Scene → Type 0
+ReadsOn old new = new.reader.failed ≡ old.reader.failed
+
+-- a line of at most 1,024 bytes was read that tells nothing, and nothing was done
+pub record OnlyReadsLine (old : Scene) (line : List ℕ) (new : Scene) : Type 0 where
+  pub unbroken : IsUnbroken line
+  pub short : length line ≤ 1024
+  pub other : is_told old.played.far.phase line ≡ false
+  pub read : Consumes old.reader.bytes new.reader.bytes (line ++ 10 ∷ [])
+  pub reads : ReadsOn old new
+  pub played : new.played ≡ old.played
+  pub writer : new.writer ≡ old.writer
+
+-- a line was read that asks a question which may stand there
+pub record ReadsQuestion (old : Scene) (q : Question) (new : Scene) : Type 0 where
+  pub line : List ℕ
+  pub unbroken : IsUnbroken line
+  pub question : IsQuestion q
+  pub asks : IsQuestionLine line q
+  pub may : may_ask old.played.far.phase q ≡ true
+  pub read : Consumes old.reader.bytes new.reader.bytes (line ++ 10 ∷ [])
+  pub reads : ReadsOn old new
+
+-- the reply was made and traced, and a front of it has gone out: a write failed; or all of it, and the flush failed
+pub record IsUnwritten (q : Question) (old new : Scene) : Type 0 where
+  pub gone : List ℕ
+  pub rest : List ℕ
+  pub replied : IsReplied q old.played.far new.played.far (gone ++ rest)
+  pub written : Appends old.writer.bytes new.writer.bytes gone
+  pub traced : Appends old.played.trace.bytes new.played.trace.bytes (done q old.played.far).traced
+  pub failed : (new.writer.failed ≡ true) ⊎ (rest ≡ [])
+
+-- the cause of each fault, with what was read, done and written in that line
+pub data CauseOf (old new : Scene) : FarFault → Type 0 where
+  unread : (bytes : List ℕ) → OnlyReads old bytes new → MayGoOn old.played.far.phase bytes
+      → new.reader.failed ≡ true → CauseOf old new fault.Read
+  cut_off : (bytes : List ℕ) → bytes ≢ [] → OnlyReads old bytes new → MayGoOn old.played.far.phase bytes
+      → ReadsOn old new → IsAtEnd new.reader.bytes ⊎ (2 ^ 64 ≤ length bytes)
+      → CauseOf old new fault.HostGone
+  too_long : (bytes : List ℕ) → OnlyReads old bytes new → length bytes ≡ 1025
+      → is_told old.played.far.phase (take 1024 bytes) ≡ false → ReadsOn old new
+      → CauseOf old new fault.LineTooLong
+  unprintable : (line : List ℕ) → OnlyReadsLine old line new → all_printable line ≡ false
+      → CauseOf old new fault.BadCharacter
+  no_question : (line : List ℕ) → OnlyReadsLine old line new → all_printable line ≡ true
+      → ((q : Question) → IsQuestion q → IsQuestionLine line q → may_ask old.played.far.phase q ≡ false)
+      → CauseOf old new fault.NoQuestion
+  unanswered : (f : FarFault) (q : Question) → ReadsQuestion old q new
+      → IsUnanswered q old.played f new.played → new.writer ≡ old.writer → CauseOf old new f
+  unwritten : (q : Question) → ReadsQuestion old q new → IsUnwritten q old new
+      → CauseOf old new fault.Write
+
+-- ---- the whole
 
 -- all of it was read and answered
-pub record ServedAll (s : Streams) (old new : Far) : Type 0 where
-  pub text : List ℕ
-  pub lines : List ℕ
-  pub replies : Replies old text lines new
-  pub read : Consumes s.unread s.left text
-  pub ended : IsAtEnd s.left
-  pub written : Appends s.before s.now lines
+pub record ServedAll (old new : Scene) : Type 0 where
+  pub count : ℕ
+  pub passed : Passed
+  pub replies : AllReplied old.played.far count passed new.played.far
+  pub passes : Passes old passed new
+  pub ended : IsAtEnd new.reader.bytes
 
--- the lines before one were answered; of that line, or of what was asked there, nothing has gone out
-pub record ServedBefore (s : Streams) (old : Far) : Type 0 where
-  pub text : List ℕ
-  pub line : List ℕ
-  pub lines : List ℕ
-  pub mid : Far
-  pub replies : Replies old text lines mid
-  pub read : Consumes s.unread s.left (text ++ line)
-  pub written : Appends s.before s.now lines
+-- no more lines than that are counted
+abbrev pub IsLastLine : Scene → ℕ → FarFault → Scene → Type 0
+IsLastLine old number f new = (number ≡ 2 ^ 64 - 1) × (f ≡ fault.LineTooLong) × (new ≡ old)
 
--- the writer failed: a front of the replies has gone out
-pub record ServedFront (s : Streams) (old : Far) : Type 0 where
-  pub text : List ℕ
-  pub lines : List ℕ
-  pub mid : Far
-  pub replies : Replies old text lines mid
-  pub read : Consumes s.unread s.left text
-  pub written : AppendsFront s.before s.now lines
+-- the lines before the one of this number were answered, and that one has this fault
+pub record ServedUpTo (old : Scene) (number : ℕ) (f : FarFault) (new : Scene) : Type 0 where
+  pub count : ℕ
+  pub passed : Passed
+  pub mid : Scene
+  pub replies : AllReplied old.played.far count passed mid.played.far
+  pub passes : Passes old passed mid
+  pub next : number ≡ count + 1
+  pub stops : CauseOf mid new f ⊎ IsLastLine mid number f new
 
--- whether the writer failed
-abbrev pub is_write : FarFault → Bool
-is_write fault.Read = false
-is_write fault.LineTooLong = false
-is_write fault.BadCharacter = false
-is_write fault.NoQuestion = false
-is_write fault.BadNumber = false
-is_write fault.HostGone = false
-is_write fault.LongSend = false
-is_write (fault.Bus f) = false
-is_write fault.Write = true
-
-abbrev pub Serves : Streams → Far → Result (Unit {0}) (ℕ × FarFault) → Far → Type 0
-Serves s old (Ok done) new = ServedAll s old new
-Serves s old (Err end) new = (is_write end.1 ≡ true → ServedFront s old) × (is_write end.1 ≡ false → ServedBefore s old)
+abbrev pub ServesHost : Scene → Result (Unit {0}) (ℕ × FarFault) → Scene → Type 0
+ServesHost old (Ok _) new = ServedAll old new
+ServesHost old (Err end) new = ServedUpTo old end.0 end.1 new
 
 -- of the private functions: the lines so far, and the next one
 
-pub record Answered (s : Streams) (old new : Far) : Type 0 where
-  pub text : List ℕ
-  pub lines : List ℕ
-  pub replies : Replies old text lines new
-  pub read : Consumes s.unread s.left text
-  pub written : Appends s.before s.now lines
+pub record ServedSome (old : Scene) (count : ℕ) (new : Scene) : Type 0 where
+  pub passed : Passed
+  pub replies : AllReplied old.played.far count passed new.played.far
+  pub passes : Passes old passed new
 
-pub record ServedOne (s : Streams) (old new : Far) : Type 0 where
-  pub line : List ℕ
-  pub reply : List ℕ
-  pub replied : Replied old line reply new
-  pub read : Consumes s.unread s.left line
-  pub written : Appends s.before s.now reply
+pub record ServedOne (old new : Scene) : Type 0 where
+  pub passed : Passed
+  pub replied : Replied old.played.far passed new.played.far
+  pub passes : Passes old passed new
 
-pub record ServedNone (s : Streams) (old new : Far) : Type 0 where
-  pub read : Consumes s.unread s.left []
-  pub ended : IsAtEnd s.left
-  pub written : Appends s.before s.now []
-  pub same : new ≡ old
+pub record ServedNone (old new : Scene) : Type 0 where
+  pub passes : Passes old (passed [] [] []) new
+  pub ended : IsAtEnd new.reader.bytes
+  pub same : new.played.far ≡ old.played.far
 
-pub record Refused (s : Streams) : Type 0 where
-  pub line : List ℕ
-  pub read : Consumes s.unread s.left line
-  pub written : Appends s.before s.now []
+abbrev pub ServesNext : Scene → Result Bool FarFault → Scene → Type 0
+ServesNext old (Ok true) new = ServedOne old new
+ServesNext old (Ok false) new = ServedNone old new
+ServesNext old (Err f) new = CauseOf old new f
 
-pub record Torn (s : Streams) (old : Far) : Type 0 where
-  pub line : List ℕ
-  pub reply : List ℕ
-  pub new : Far
-  pub replied : Replied old line reply new
-  pub read : Consumes s.unread s.left line
-  pub written : AppendsFront s.before s.now reply
+-- a line that asks nothing
+abbrev pub HasNoQuestion : List ℕ → FarFault → Type 0
+HasNoQuestion line f =
+    ((f ≡ fault.BadCharacter) × (all_printable line ≡ false))
+    ⊎ ((f ≡ fault.NoQuestion) × (all_printable line ≡ true)
+    × ((q : Question) → IsQuestion q → IsQuestionLine line q → ⊥))
 
--- a fault that is not the writer's
-abbrev pub Refuses : FarFault → Type 0
-Refuses f = is_write f ≡ false
-
-abbrev pub FailsNext : Streams → Far → FarFault → Type 0
-FailsNext s old f = (is_write f ≡ true → Torn s old) × (is_write f ≡ false → Refused s)
-
-abbrev pub ServesNext : Streams → Far → Result Bool FarFault → Far → Type 0
-ServesNext s old (Ok true) new = ServedOne s old new
-ServesNext s old (Ok false) new = ServedNone s old new
-ServesNext s old (Err f) new = FailsNext s old f
+-- a line that asks this question and no other
+pub record HasQuestion (line : List ℕ) (q : Question) : Type 0 where
+  pub is : IsQuestion q
+  pub asks : IsQuestionLine line q
+  pub only : (p : Question) → IsQuestion p → IsQuestionLine line p → p ≡ q
+  pub printable : all_printable line ≡ true

@@ -2,7 +2,7 @@
 ghost use Rattle.std.specs.Prelude.{◌≡◌, ◌≤◌};
 ghost use Rattle.usb_wire.specs.Questions.{IsEndpoint};
 ghost use Rattle.usb_world.specs.World.{IsAttempt};
-ghost use Rattle.usb_far.specs.FarEnd.{in_attempt, is_low, is_poll, is_pre, out_attempt, outcome_answer, setup_attempt};
+ghost use Rattle.usb_far.specs.FarEnd.{attempt_of_in, speed_is_low, is_poll, is_pre, attempt_of_out, outcome_answer, attempt_of_setup};
 
 use arrayvec::ArrayVec;
 use usb_bus::{Attempt, Outcome};
@@ -13,7 +13,7 @@ use usb_wire::{Answer, DataPacket, Endpoint, Speed};
 /// The attempt that sends setup data (8.5.3).
 pub(crate) fn setup_attempt(speed: Speed, endpoint: Endpoint, setup: Setup) -> Attempt
     requires { IsEndpoint endpoint }
-    ensures value { result ≡ setup_attempt speed endpoint setup }
+    ensures value { result ≡ attempt_of_setup speed endpoint setup }
     ensures fits { IsAttempt result }
 {
     let mut bytes = ArrayVec::new();
@@ -32,7 +32,7 @@ pub(crate) fn setup_attempt(speed: Speed, endpoint: Endpoint, setup: Setup) -> A
 /// The attempt that sends data (8.5.1).
 pub(crate) fn out_attempt(speed: Speed, endpoint: Endpoint, sent: DataPacket) -> Attempt
     requires { IsEndpoint endpoint }
-    ensures value { result ≡ out_attempt speed endpoint sent }
+    ensures value { result ≡ attempt_of_out speed endpoint sent }
     ensures fits { IsAttempt result }
 {
     let DataPacket { toggle, bytes } = sent;
@@ -52,7 +52,7 @@ pub(crate) fn in_attempt(speed: Speed, endpoint: Endpoint, most: u8) -> Attempt
     requires endpoint { IsEndpoint endpoint }
     requires least { 1 ≤ most }
     requires most { most ≤ 64 }
-    ensures value { result ≡ in_attempt speed endpoint most }
+    ensures value { result ≡ attempt_of_in speed endpoint most }
     ensures fits { IsAttempt result }
 {
     Attempt {
@@ -67,7 +67,7 @@ pub(crate) fn in_attempt(speed: Speed, endpoint: Endpoint, most: u8) -> Attempt
 }
 
 fn is_low(speed: Speed) -> bool
-    ensures { result ≡ is_low speed }
+    ensures { result ≡ speed_is_low speed }
 {
     match speed {
         Speed::Full => false,

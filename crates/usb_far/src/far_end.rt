@@ -1,12 +1,12 @@
 //! What the far end does at each question.
-ghost use Rattle.std.specs.Prelude.{◌≡◌, ◌∷◌, [], false, true, IfErr, IfOk};
+ghost use Rattle.std.specs.Prelude.{◌≡◌, ◌⊎◌, ◌∷◌, [], false, true, IfErr, IfOk};
 ghost use Rattle.usb_world.specs.Steps.{after, opening, root_call};
 ghost use Rattle.usb_world.specs.World.{IsAttempt, IsRootPort};
 ghost use Rattle.usb_bus.specs.Watch.{has_failed};
-ghost use Rattle.usb_bus.specs.Sim.{world_of};
+ghost use Rattle.usb_bus.specs.Sim.{trace_of, world_of};
+ghost use Rattle.usb_lines.specs.Pipes.{pipe_of};
 ghost use Rattle.usb_wire.specs.Questions.{IsQuestion};
-ghost use Rattle.usb_far.specs.Serving.{Refuses};
-ghost use Rattle.usb_far.specs.FarEnd.{IsDone, attempt_done, call_done, came_in, done, due_answer, send_answer, statuses, wait_done};
+ghost use Rattle.usb_far.specs.FarEnd.{IsEventGivenUp, IsGivenUp, HasNoPort, IsDone, IsUnanswered, SendsTooMuch, attempt_done, call_done, came_in, done, due_answer, send_wanted, statuses, wait_done};
 
 use crate::attempt::{answer_of, in_attempt, is_poll, out_attempt, setup_attempt};
 use crate::fault::FarFault;
@@ -46,7 +46,7 @@ pub struct FarEnd<T: Trace> {
 }
 
 impl<W: Write + Drop> FarEnd<Tracer<W>> {
-    ghost use Rattle.usb_far.specs.FarEnd.{far_begun, far_of};
+    ghost use Rattle.usb_far.specs.FarEnd.{far_begun, far_of, played_of};
 
     /// The far end of a plan, before anything came: all root ports are off. Its trace goes to a writer.
     ///
@@ -54,7 +54,9 @@ impl<W: Write + Drop> FarEnd<Tracer<W>> {
     /// Memory is refused.
     pub fn new(alloc: Global, plan: &Plan, writer: Watched<W>) -> Result<Self, AllocError>
         requires { has_failed writer ≡ false }
-        ensures { IfOk result (λ far. far_of far ≡ far_begun (opening plan.now)) }
+        ensures far { IfOk result (λ far. far_of far ≡ far_begun (opening plan.now)) }
+        ensures trace { IfOk result (λ far.
+            (played_of far).trace ≡ pipe_of W.contents writer) }
     {
         match SimBus::new(alloc, plan, writer) {
             Ok(bus) => Ok(FarEnd {
@@ -69,14 +71,16 @@ impl<W: Write + Drop> FarEnd<Tracer<W>> {
 }
 
 impl<T: Trace> FarEnd<T> {
-    ghost use Rattle.usb_far.specs.FarEnd.{far_of};
+    ghost use Rattle.usb_far.specs.FarEnd.{far_of, played_of};
 
     /// Does what is asked, and answers it.
     pub(crate) fn answer(&mut self, question: Question) -> Result<Answer, FarFault>
         requires { IsQuestion question }
         ensures done { IfOk result (λ answer.
-            IsDone (done question (far_of self.old)) (far_of self.old) answer (far_of self.new)) }
-        ensures fault { IfErr result Refuses }
+            IsDone (done question (far_of self.old)) (played_of self.old) answer
+            (played_of self.new)) }
+        ensures fault { IfErr result (λ fault.
+            IsUnanswered question (played_of self.old) fault (played_of self.new)) }
     {
         match question {
             Question::Hello => Ok(Answer::Roots(self.bus.root_ports())),
@@ -104,9 +108,10 @@ impl<T: Trace> FarEnd<T> {
     fn attempt(&mut self, attempt: &Attempt) -> Result<Answer, FarFault>
         requires { IsAttempt attempt.now }
         ensures done { IfOk result (λ answer.
-            IsDone (attempt_done attempt.now (far_of self.old)) (far_of self.old) answer
-            (far_of self.new)) }
-        ensures fault { IfErr result Refuses }
+            IsDone (attempt_done attempt.now (far_of self.old)) (played_of self.old) answer
+            (played_of self.new)) }
+        ensures fault { IfErr result (λ fault.
+            IsGivenUp attempt.now (played_of self.old) fault (played_of self.new)) }
     {
         let taken = self.bus.events_taken();
         let outcome = match self.bus.attempt(attempt) {
@@ -121,9 +126,10 @@ impl<T: Trace> FarEnd<T> {
     /// Makes a call at a root port, where there is one of that number.
     fn call(&mut self, number: u8, call: PortCall) -> Result<Answer, FarFault>
         ensures done { IfOk result (λ answer.
-            IsDone (call_done number call (far_of self.old)) (far_of self.old) answer
-            (far_of self.new)) }
-        ensures fault { IfErr result Refuses }
+            IsDone (call_done number call (far_of self.old)) (played_of self.old) answer
+            (played_of self.new)) }
+        ensures fault { IfErr result (λ fault.
+            HasNoPort number (played_of self.old) fault (played_of self.new)) }
     {
         if number < 1 || number > self.bus.root_ports() {
             return Err(FarFault::BadNumber);
@@ -136,8 +142,10 @@ impl<T: Trace> FarEnd<T> {
     /// Tells what is wanted: nothing where an event came that the host may not have seen, else what the next event asks.
     fn wait(&mut self) -> Result<Answer, FarFault>
         ensures done { IfOk result (λ answer.
-            IsDone (wait_done (far_of self.old)) (far_of self.old) answer (far_of self.new)) }
-        ensures fault { IfErr result Refuses }
+            IsDone (wait_done (far_of self.old)) (played_of self.old) answer (played_of self.new)) }
+        ensures fault { IfErr result (λ fault.
+            IsEventGivenUp (played_of self.old) fault (played_of self.new)
+            ⊎ SendsTooMuch (played_of self.old) fault (played_of self.new)) }
     {
         if self.came {
             self.came = false;
@@ -178,7 +186,8 @@ pub(crate) fn statuses<T: Trace>(bus: &SimBus<T>) -> Statuses
 /// Makes a call at a root port, by its feature (11.24).
 fn call_root<T: Trace>(bus: &mut SimBus<T>, port: u8, call: PortCall)
     requires { IsRootPort (world_of bus.old) port }
-    ensures { world_of bus.new ≡ after (root_call call port) (world_of bus.old) }
+    ensures world { world_of bus.new ≡ after (root_call call port) (world_of bus.old) }
+    ensures silent { trace_of bus.new ≡ trace_of bus.old }
 {
     match call {
         PortCall::SetPower => bus.root_set(port, PORT_POWER),
@@ -206,9 +215,9 @@ fn answer_of_due(due: Option<Due>) -> Option<Answer>
 }
 
 /// What is to be sent, where a line has room for it.
-#[tactic(auto, unfolding(crate::specs::FarEnd::send_answer))]
+#[tactic(auto, unfolding(crate::specs::FarEnd::send_wanted))]
 fn send_answer(path: PortPath, bytes: &SentBytes) -> Option<Answer>
-    ensures { result ≡ send_answer path bytes.now }
+    ensures { result ≡ send_wanted path bytes.now }
 {
     if bytes.as_slice().len() > 64 {
         return None;

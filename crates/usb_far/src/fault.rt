@@ -1,6 +1,6 @@
 //! Why the far end says no more.
 ghost use Rattle.std.specs.Prelude.{◌≡◌};
-ghost use Rattle.usb_far.specs.FarEnd.{line_fault};
+ghost use Rattle.usb_far.specs.FarEnd.{reading_fault};
 
 use thiserror::Error;
 use usb_bus::BusFault;
@@ -39,7 +39,7 @@ pub enum FarFault {
 }
 
 impl From<LineFault> for FarFault {
-    ghost from_gives = { λ e fault. fault ≡ line_fault e };
+    ghost from_gives = { λ e fault. fault ≡ reading_fault e };
 
     fn from(fault: LineFault) -> FarFault {
         match fault {

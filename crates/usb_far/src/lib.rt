@@ -7,12 +7,17 @@
 //!
 //! # What is proved
 //!
-//! `serve`, of readers and writers whose bytes are known (*Serves*, `specs/Serving.antt`): what was read is lines, each a
-//! question of `usb_wire`'s grammar or one that tells something, and what has gone out is, for each question in its
-//! order and once, its reply: a line for each root port whose status is not what was told last, and the line of the
+//! `serve`, of readers and writers whose bytes are known (*ServesHost*, `specs/Serving.antt`): what was read is lines,
+//! each a question of `usb_wire`'s grammar or one that tells something, and what has gone out is, for each question in
+//! its order and once, its reply: a line for each root port whose status is not what was told last, and the line of the
 //! answer. The answer to an attempt is what `outcome_in` of usb_world gives at that attempt's world, and the world
-//! behind it is the world `after` it (*answer_in*, *far_after*, `specs/FarEnd.antt`); so with root calls and events. At
-//! a fault the replies to the lines before have gone out and nothing more, or a front of them where the writer failed.
+//! behind it is the world `after` it (*done*, *far_after*, `specs/FarEnd.antt`); so with root calls and events. The
+//! trace has the lines of just these attempts and events.
+//!
+//! At a fault the lines before the one that is told were answered, and nothing more; *CauseOf* has, for each fault,
+//! what is so of that line, of the reader and the writer, and of the far end behind it: so Read and Write are told
+//! only where the reader or the writer failed, and a fault of the bus only where the bus told it. *Not said*: that a
+//! reply goes out before the next line is read, and that a flush failed where Write is told behind a whole reply.
 //! *Only tested*: the words of the faults.
 #![tactic(auto)]
 

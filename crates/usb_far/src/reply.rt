@@ -1,8 +1,7 @@
 //! The lines that go out behind a question.
 ghost use Rattle.std.specs.Prelude.{◌≡◌, ◌+◌, ◌*◌, ◌≤◌, ◌∷◌, ◌++◌, [], length, IfErr, IfOk};
 ghost use Rattle.usb_wire.specs.Questions.{IsQuestion};
-ghost use Rattle.usb_far.specs.FarEnd.{ChangesTold, IsReplied, behind_first, is_first, line_of, may_ask, pushes};
-ghost use Rattle.usb_far.specs.Serving.{Refuses};
+ghost use Rattle.usb_far.specs.FarEnd.{ChangesTold, HasNoReply, Replies, behind_first, is_first, line_of, may_ask, pushes};
 
 use crate::far_end::{FarEnd, Phase, statuses};
 use crate::fault::FarFault;
@@ -17,7 +16,7 @@ const ROOM: usize = 5608;
 pub(crate) type Reply = ArrayVec<u8, ROOM>;
 
 impl<T: Trace> FarEnd<T> {
-    ghost use Rattle.usb_far.specs.FarEnd.{far_of};
+    ghost use Rattle.usb_far.specs.FarEnd.{far_of, played_of};
 
     /// Does what is asked, and gives the lines to that: the statuses of root ports that are not what was last told, and
     /// the answer.
@@ -28,8 +27,9 @@ impl<T: Trace> FarEnd<T> {
     pub(crate) fn reply(&mut self, question: Question) -> Result<Reply, FarFault>
         requires { IsQuestion question }
         ensures replied { IfOk result (λ reply.
-            IsReplied question (far_of self.old) (far_of self.new) reply.items) }
-        ensures fault { IfErr result Refuses }
+            Replies question (played_of self.old) (played_of self.new) reply.items) }
+        ensures fault { IfErr result (λ fault.
+            HasNoReply question (played_of self.old) fault (played_of self.new)) }
     {
         if !may_ask(self.phase, &question) {
             return Err(FarFault::NoQuestion);
@@ -47,6 +47,7 @@ impl<T: Trace> FarEnd<T> {
     /// The lines of root ports whose status is not what was last told, which it is then.
     fn changes(&mut self, asked: Asked) -> Reply
         ensures told { ChangesTold asked (far_of self.old) (far_of self.new) result.items }
+        ensures bus { self.new.bus ≡ self.old.bus }
         ensures few { length result.items ≤ 4907 }
     {
         self.phase = Phase::Asks;

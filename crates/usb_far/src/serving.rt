@@ -1,11 +1,11 @@
 //! The host's lines in, the far end's lines out.
-ghost use Rattle.std.specs.Prelude.{◌≡◌, ◌≤◌, ◌∷◌, ◌++◌, [], ℕ, List, Option, length, IfErr, IfOk};
+ghost use Rattle.std.specs.Prelude.{◌≡◌, ◌≤◌, ◌∷◌, ◌++◌, [], ℕ, length, IfErr, IfOk};
 ghost use Rattle.std.specs.Io.KnownBytes.{Consumes};
-ghost use Rattle.usb_bus.specs.Watch.{inner_of};
 ghost use Rattle.usb_lines.specs.Lines.{IsUnbroken};
-ghost use Rattle.usb_wire.specs.Questions.{IsQuestion, IsQuestionLine};
-ghost use Rattle.usb_far.specs.FarEnd.{far_of};
-ghost use Rattle.usb_far.specs.Serving.{Refuses, Serves, ServesNext, is_told, phase_behind, streams};
+ghost use Rattle.usb_lines.specs.Pipes.{Pipe as APipe, pipe_of};
+ghost use Rattle.usb_wire.specs.Words.{all_printable, is_printable};
+ghost use Rattle.usb_far.specs.FarEnd.{played_of};
+ghost use Rattle.usb_far.specs.Serving.{HasNoQuestion, HasQuestion, ServesHost, ServesNext, is_told, phase_behind, scene};
 
 use crate::far_end::{FarEnd, Phase};
 use crate::fault::FarFault;
@@ -24,9 +24,8 @@ pub fn serve<T: Trace, R: Read, W: Write>(
     reader: &mut Watched<R>,
     writer: &mut Watched<W>,
 ) -> Result<(), (u64, FarFault)>
-    ensures { Serves (streams (R.remaining (inner_of reader.old)) (R.remaining (inner_of reader.new))
-        (W.contents (inner_of writer.old)) (W.contents (inner_of writer.new)))
-        (far_of far.old) result (far_of far.new) }
+    ensures { ServesHost (scene R.remaining W.contents far.old reader.old writer.old) result
+        (scene R.remaining W.contents far.new reader.new writer.new) }
 {
     'lines: for number in 1..u64::MAX {
         match far.serve_next(reader, writer) {
@@ -45,10 +44,8 @@ impl<T: Trace> FarEnd<T> {
         reader: &mut Watched<R>,
         writer: &mut Watched<W>,
     ) -> Result<bool, FarFault>
-        ensures { ServesNext (streams (R.remaining (inner_of reader.old))
-            (R.remaining (inner_of reader.new)) (W.contents (inner_of writer.old))
-            (W.contents (inner_of writer.new)))
-            (far_of self.old) result (far_of self.new) }
+        ensures { ServesNext (scene R.remaining W.contents self.old reader.old writer.old) result
+            (scene R.remaining W.contents self.new reader.new writer.new) }
     {
         match read_line(reader) {
             Ok(Line::Ended) => Ok(false),
@@ -66,9 +63,19 @@ impl<T: Trace> FarEnd<T> {
     ) -> Result<bool, FarFault>
         requires unbroken { IsUnbroken line.now }
         requires short { length line.now ≤ 1024 }
-        ensures { (unread left : Option (List ℕ)) → Consumes unread left (line.now ++ 10 ∷ [])
-            → ServesNext (streams unread left (W.contents (inner_of writer.old))
-            (W.contents (inner_of writer.new))) (far_of self.old) result (far_of self.new) }
+        // Whichever reader gave that line.
+        ensures { (before behind : APipe) → Consumes before.bytes behind.bytes (line.now ++ 10 ∷ [])
+            → behind.failed ≡ before.failed → ServesNext
+            (record {
+              played = played_of self.old;
+              reader = before;
+              writer = pipe_of W.contents writer.old;
+            }) result
+            (record {
+              played = played_of self.new;
+              reader = behind;
+              writer = pipe_of W.contents writer.new;
+            }) }
     {
         if is_told(self.phase, line) {
             self.phase = phase_behind(self.phase, line);
@@ -95,10 +102,16 @@ impl<T: Trace> FarEnd<T> {
         reader: &mut Watched<R>,
     ) -> Result<bool, FarFault>
         requires { length front.now ≡ 1024 }
-        ensures { (unread now : Option (List ℕ)) (more : ℕ) → IsUnbroken (front.now ++ more ∷ [])
-            → Consumes unread (R.remaining (inner_of reader.old)) (front.now ++ more ∷ [])
-            → ServesNext (streams unread (R.remaining (inner_of reader.new)) now now)
-            (far_of self.old) result (far_of self.new) }
+        // Whatever the reader was before it gave that front, and whichever the writer.
+        ensures { (before writer : APipe) (more : ℕ) → IsUnbroken (front.now ++ more ∷ [])
+            → Consumes before.bytes (pipe_of R.remaining reader.old).bytes (front.now ++ more ∷ [])
+            → (pipe_of R.remaining reader.old).failed ≡ before.failed → ServesNext
+            (record { played = played_of self.old; reader = before; writer = writer }) result
+            (record {
+              played = played_of self.new;
+              reader = pipe_of R.remaining reader.new;
+              writer = writer;
+            }) }
     {
         if !is_told(self.phase, front) {
             return Err(FarFault::LineTooLong);
@@ -115,16 +128,28 @@ impl<T: Trace> FarEnd<T> {
 
 /// The question that a line asks.
 fn question_in(line: &[u8]) -> Result<Question, FarFault>
-    ensures asked { IfOk result (λ q. IsQuestion q × IsQuestionLine line.now q) }
-    ensures fault { IfErr result Refuses }
+    ensures asked { IfOk result (HasQuestion line.now) }
+    ensures fault { IfErr result (HasNoQuestion line.now) }
 {
-    if !line.iter().all(|byte| (b' '..=b'~').contains(byte)) {
+    if !all_printable(line) {
         return Err(FarFault::BadCharacter);
     }
     match read_question(line) {
         Some(question) => Ok(question),
         None => Err(FarFault::NoQuestion),
     }
+}
+
+fn all_printable(line: &[u8]) -> bool
+    ensures { result ≡ all_printable line.now }
+{
+    line.iter().all(|byte| is_printable(*byte))
+}
+
+fn is_printable(byte: u8) -> bool
+    ensures { result ≡ is_printable byte }
+{
+    (b' '..=b'~').contains(&byte)
 }
 
 /// Whether a line tells something: it is of a listing, or how a transfer went.

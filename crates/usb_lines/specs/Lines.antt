@@ -1,5 +1,5 @@
 -- The next line of a reader, where its bytes are known.
-use Rattle.std.specs.Prelude.{◌≡◌, ◌≢◌, ℕ, List, [], ◌∷◌, ◌++◌, length, All, Option, Some, None, Result, Ok, Err}
+use Rattle.std.specs.Prelude.{◌≡◌, ◌≢◌, ◌⊎◌, ℕ, ◌-◌, ◌^◌, ◌≤◌, List, [], ◌∷◌, ◌++◌, length, All, Option, Some, None, Result, Ok, Err}
 use Rattle.std.specs.Io.KnownBytes.{Consumes, IsAtEnd}
 use Rattle.usb_lines.specs.declared.line.Line.{Line}
 use Rattle.usb_lines.specs.declared.line.Line.TheVariants.{Whole, Long, Ended}
@@ -16,9 +16,18 @@ pub record ReadFront (old new : Option (List ℕ)) : Type 0 where
   pub unbroken : IsUnbroken bytes
   pub read : Consumes old new bytes
 
--- the same, and the input ended
+-- the same of at most 1,024 bytes
+pub record ReadPart (old new : Option (List ℕ)) : Type 0 where
+  pub bytes : List ℕ
+  pub few : length bytes ≤ 1024
+  pub unbroken : IsUnbroken bytes
+  pub read : Consumes old new bytes
+
+-- the same of some bytes, and the input ended
 pub record ReadToEnd (old new : Option (List ℕ)) : Type 0 where
   pub bytes : List ℕ
+  pub some : bytes ≢ []
+  pub few : length bytes ≤ 1024
   pub unbroken : IsUnbroken bytes
   pub read : Consumes old new bytes
   pub ended : IsAtEnd new
@@ -40,13 +49,21 @@ abbrev pub IsNextLine : Option (List ℕ) → Option (List ℕ) → Result Line 
 IsNextLine old new (Ok (Whole line)) = ReadLine old new line.items
 IsNextLine old new (Ok (Long line)) = ReadLong old new line.items
 IsNextLine old new (Ok Ended) = Consumes old new [] × IsAtEnd new
-IsNextLine old new (Err Read) = ReadFront old new
+IsNextLine old new (Err Read) = ReadPart old new
 IsNextLine old new (Err Cut) = ReadToEnd old new
+
+-- the input ended before the newline, or it stands behind more bytes than are counted
+pub record ReadNoEnd (old new : Option (List ℕ)) : Type 0 where
+  pub bytes : List ℕ
+  pub unbroken : IsUnbroken bytes
+  pub read : Consumes old new bytes
+  pub ended : IsAtEnd new ⊎ (length bytes ≡ 2 ^ 64 - 1)
 
 -- the rest of a line was read, with its newline
 abbrev pub EndsLine : Option (List ℕ) → Option (List ℕ) → Result (Unit {0}) LineFault → Type 0
 EndsLine old new (Ok done) = (rest : List ℕ) × ReadLine old new rest
-EndsLine old new (Err fault) = ReadFront old new
+EndsLine old new (Err Read) = ReadFront old new
+EndsLine old new (Err Cut) = ReadNoEnd old new
 
 -- of a private function: a byte was read, or the input ended
 abbrev pub ReadsByte : Option (List ℕ) → Option (List ℕ) → Result (Option ℕ) LineFault → Type 0

@@ -6,8 +6,8 @@
 //! # What is proved
 //!
 //! Of readers and writers whose bytes are known: what was read is the line with its newline, or all there was, and no
-//! byte of it is another newline (*IsNextLine*, `specs/Lines.antt`); what went out is the lines, or a
-//! front of that where the writer failed.
+//! byte of it is another newline (*IsNextLine*, `specs/Lines.antt`); what went out is the lines, or a front of that
+//! where the writer failed. A reader or writer is marked as failed just where that is told, but for a flush.
 #![tactic(auto)]
 
 mod line;

@@ -1,5 +1,5 @@
 //! Lines, in and out.
-ghost use Rattle.std.specs.Prelude.{◌≡◌, ◌≤◌, ◌∷◌, ◌++◌, [], length, true, MatchOption, MatchResult, IfErr, IsErrOf, OnErr, OnOk};
+ghost use Rattle.std.specs.Prelude.{◌≡◌, ◌≢◌, ◌≤◌, ◌⊎◌, ◌∷◌, ◌++◌, [], length, true, MatchOption, MatchResult, IfErr, IsErrOf, OnErr, OnOk};
 ghost use Rattle.std.specs.Io.KnownBytes.{Appends, Consumes, IsAtEnd, Keeps};
 ghost use Rattle.usb_bus.specs.Watch.{AppendsFront, has_failed, inner_of};
 ghost use Rattle.usb_lines.specs.Lines.{EndsLine, IsNextLine, ReadsByte};
@@ -39,9 +39,11 @@ pub enum LineFault {
 /// # Errors
 /// Read where the reader failed, Cut where the input ended in mid-line.
 pub fn read_line<R: Read>(reader: &mut Watched<R>) -> Result<Line, LineFault>
-    ensures line { IsNextLine (R.remaining (inner_of reader.old)) (R.remaining (inner_of reader.new))
-        result }
+    ensures line { IsNextLine (R.remaining (inner_of reader.old))
+        (R.remaining (inner_of reader.new)) result }
     ensures read { IsErrOf result LineFault.Read → has_failed reader.new ≡ true }
+    ensures unmarked { (result ≢ Err LineFault.Read)
+        → has_failed reader.new ≡ has_failed reader.old }
 {
     let mut line = ArrayVec::new();
     'bytes: loop {
@@ -67,6 +69,8 @@ pub fn skip_line<R: Read>(reader: &mut Watched<R>) -> Result<(), LineFault>
     ensures line { EndsLine (R.remaining (inner_of reader.old)) (R.remaining (inner_of reader.new))
         result }
     ensures read { IsErrOf result LineFault.Read → has_failed reader.new ≡ true }
+    ensures unmarked { (result ≢ Err LineFault.Read)
+        → has_failed reader.new ≡ has_failed reader.old }
 {
     'bytes: for _ in 0..u64::MAX {
         match next_byte(reader) {
@@ -82,6 +86,7 @@ pub fn skip_line<R: Read>(reader: &mut Watched<R>) -> Result<(), LineFault>
 /// What the end of the input is, behind the front of a line.
 fn at_end(line: &ArrayVec<u8, LINE_LIMIT>) -> Result<Line, LineFault>
     ensures ok { OnOk result (line.now.items ≡ []) }
+    ensures err { OnErr result (line.now.items ≢ []) }
     ensures ended { MatchResult result (λ l. l ≡ Line.Ended) (λ fault. fault ≡ LineFault.Cut) }
 {
     if line.is_empty() {
@@ -97,6 +102,7 @@ fn next_byte<R: Read>(reader: &mut Watched<R>) -> Result<Option<u8>, LineFault>
         result }
     ensures fault { IfErr result (λ fault. fault ≡ LineFault.Read) }
     ensures read { OnErr result (has_failed reader.new ≡ true) }
+    ensures unmarked { OnOk result (has_failed reader.new ≡ has_failed reader.old) }
 {
     let mut byte = [0u8];
     match reader.read(&mut byte) {
@@ -109,12 +115,15 @@ fn next_byte<R: Read>(reader: &mut Watched<R>) -> Result<Option<u8>, LineFault>
 /// Writes lines with their newlines, and flushes.
 ///
 /// # Errors
-/// The writer failed, and a front of them has gone out.
+/// The writer failed: a write did, and is marked, and a front of them has gone out; or all have, and no flush was done.
 pub fn put_lines<W: Write>(writer: &mut Watched<W>, lines: &[u8]) -> Result<(), WriteFailed>
     ensures front { AppendsFront (W.contents (inner_of writer.old))
         (W.contents (inner_of writer.new)) lines.now }
     ensures ok { OnOk result (Appends (W.contents (inner_of writer.old))
         (W.contents (inner_of writer.new)) lines.now) }
+    ensures unmarked { OnOk result (has_failed writer.new ≡ has_failed writer.old) }
+    ensures marked { OnErr result ((has_failed writer.new ≡ true) ⊎ Appends
+        (W.contents (inner_of writer.old)) (W.contents (inner_of writer.new)) lines.now) }
 {
     put_piece(writer, lines)?;
     match writer.flush() {

@@ -1,26 +1,12 @@
-use Rattle.std.proofs.Common.{refl}
-use Rattle.usb_bus.specs.Watch.{inner_of}
-use Rattle.usb_far.specs.FarEnd.{far_of}
-use Rattle.usb_far.specs.declared.fault.FarFault.TheVariants as fault
-use Rattle.usb_far.proofs.Lines.{answered_before, answered_more, answered_on, begun, served_one}
+use Rattle.std.proofs.Common.{arith}
+use Rattle.usb_far.specs.Serving.{scene}
+use Rattle.usb_far.proofs.Lines.{begun, served_more, served_one}
 use Rattle.usb_far.proofs.serving.serve.Goals as goal
 
 pub lines-init : goal.lines-init
-lines-init g c = begun (g.R.Read.remaining (inner_of c.args.reader.now)) (g.W.Write.contents (inner_of c.args.writer.now)) (far_of c.args.far.now)
+lines-init g c = begun (scene g.R.Read.remaining g.W.Write.contents c.args.far.now c.args.reader.now c.args.writer.now)
 
 pub lines-preserved : goal.lines-preserved
 lines-preserved g c =
-    answered_more (g.R.Read.remaining (inner_of c.args.reader.now)) (g.R.Read.remaining (inner_of c.lines.reader)) (g.R.Read.remaining (inner_of c.serve_next.new.reader))
-    (g.W.Write.contents (inner_of c.args.writer.now)) (g.W.Write.contents (inner_of c.lines.writer)) (g.W.Write.contents (inner_of c.serve_next.new.writer)) (far_of c.args.far.now) (far_of c.lines.far) (far_of c.serve_next.new.self)
-    c.lines.invariant (served_one _ (far_of c.lines.far) (far_of c.serve_next.new.self) c.in-Ok-true.field-0 c.in-Ok-true.field-0-test c.in-Ok-true.ensures)
-
-pub returns-in-Err : goal.returns-in-Err
-returns-in-Err g c =
-    answered_before (g.R.Read.remaining (inner_of c.args.reader.now)) (g.R.Read.remaining (inner_of c.lines.reader)) (g.R.Read.remaining (inner_of c.serve_next.new.reader))
-    (g.W.Write.contents (inner_of c.args.writer.now)) (g.W.Write.contents (inner_of c.lines.writer)) (g.W.Write.contents (inner_of c.serve_next.new.writer)) (far_of c.args.far.now) (far_of c.lines.far) c.in-Err.fault
-    c.lines.invariant c.in-Err.ensures
-
-pub returns : goal.returns
-returns g c =
-    answered_on (g.R.Read.remaining (inner_of c.args.reader.now)) (g.R.Read.remaining (inner_of c.lines.reader)) (g.W.Write.contents (inner_of c.args.writer.now)) (g.W.Write.contents (inner_of c.lines.writer))
-    (far_of c.args.far.now) (far_of c.lines.far) fault.LineTooLong refl c.lines.invariant
+    served_more (scene g.R.Read.remaining g.W.Write.contents c.args.far.now c.args.reader.now c.args.writer.now) (scene g.R.Read.remaining g.W.Write.contents c.lines.far c.lines.reader c.lines.writer) _ _ _ (omega arith)
+    c.lines.invariant (served_one _ _ c.in-Ok-true.field-0 c.in-Ok-true.field-0-test c.in-Ok-true.ensures)

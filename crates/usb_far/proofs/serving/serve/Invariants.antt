@@ -1,9 +1,8 @@
-use Rattle.usb_bus.specs.Watch.{inner_of}
-use Rattle.usb_far.specs.FarEnd.{far_of}
-use Rattle.usb_far.specs.Serving.{Answered, streams}
+use Rattle.std.proofs.Common.{◌-◌}
+use Rattle.usb_far.specs.Serving.{ServedSome, scene}
 use Rattle.usb_far.proofs.serving.serve.Given as goal
 
 -- the lines so far were answered
 abbrev pub invariant-lines : goal.invariant-lines
 invariant-lines g l =
-    Answered (streams (g.R.Read.remaining (inner_of l.fn.reader)) (g.R.Read.remaining (inner_of l.reader)) (g.W.Write.contents (inner_of l.fn.writer)) (g.W.Write.contents (inner_of l.writer))) (far_of l.fn.far) (far_of l.far)
+    ServedSome (scene g.R.Read.remaining g.W.Write.contents l.fn.far l.fn.reader l.fn.writer) (l.number - 1) (scene g.R.Read.remaining g.W.Write.contents l.far l.reader l.writer)

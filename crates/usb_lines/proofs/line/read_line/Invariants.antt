@@ -1,5 +1,5 @@
-use Rattle.std.proofs.Common.{◌≤◌, ◌-◌, length}
-use Rattle.usb_bus.specs.Watch.{inner_of}
+use Rattle.std.proofs.Common.{◌≡◌, ◌≤◌, ◌-◌, length}
+use Rattle.usb_bus.specs.Watch.{has_failed, inner_of}
 use Rattle.std.specs.Io.KnownBytes.{Consumes}
 use Rattle.usb_lines.specs.Lines.{IsUnbroken}
 use Rattle.usb_lines.proofs.line.read_line.Given as goal
@@ -8,6 +8,7 @@ use Rattle.usb_lines.proofs.line.read_line.Given as goal
 abbrev pub invariant-bytes : goal.invariant-bytes
 invariant-bytes g l = IsUnbroken l.line.items
     × Consumes (g.R.Read.remaining (inner_of l.fn.reader)) (g.R.Read.remaining (inner_of l.reader)) l.line.items
+    × (has_failed l.reader ≡ has_failed l.fn.reader) × (length l.line.items ≤ 1024)
 
 abbrev pub decreases-bytes : goal.decreases-bytes
 decreases-bytes g l = 1024 - length l.line.items

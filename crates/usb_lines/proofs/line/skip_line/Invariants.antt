@@ -1,5 +1,5 @@
-use Rattle.std.proofs.Common.{List, ℕ}
-use Rattle.usb_bus.specs.Watch.{inner_of}
+use Rattle.std.proofs.Common.{◌≡◌, List, ℕ, length}
+use Rattle.usb_bus.specs.Watch.{has_failed, inner_of}
 use Rattle.std.specs.Io.KnownBytes.{Consumes}
 use Rattle.usb_lines.specs.Lines.{IsUnbroken}
 use Rattle.usb_lines.proofs.line.skip_line.Given as goal
@@ -8,3 +8,4 @@ use Rattle.usb_lines.proofs.line.skip_line.Given as goal
 abbrev pub invariant-bytes : goal.invariant-bytes
 invariant-bytes g l = (rest : List ℕ) × IsUnbroken rest
     × Consumes (g.R.Read.remaining (inner_of l.fn.reader)) (g.R.Read.remaining (inner_of l.reader)) rest
+    × (length rest ≡ l.counter) × (has_failed l.reader ≡ has_failed l.fn.reader)

@@ -1,8 +1,9 @@
-use Rattle.usb_far.specs.FarEnd.{far_of}
+use Rattle.std.proofs.Common.{refl}
+use Rattle.usb_far.specs.FarEnd.{played_of}
 use Rattle.usb_far.proofs.Deeds.{attempt_made}
 use Rattle.usb_far.proofs.far_end.FarEnd.attempt.Goals as goal
 
 pub returns-clause-done : goal.returns-clause-done
 returns-clause-done g c =
-    attempt_made c.args.attempt.now (far_of c.args.self.now) _ _ _ _ _ _ _ c.in-Ok.ensures.attempts.exact c.in-Ok.ensures.attempts.outcome c.answer_of.ensures c.is_poll-poll.ensures
-    c.events_taken-taken.ensures c.events_taken.ensures c.came_in-self.ensures
+    attempt_made c.args.attempt.now (played_of c.args.self.now) _ _ _ _ _ _ _ c.in-Ok.ensures.attempts c.answer_of.ensures c.is_poll-poll.ensures
+    c.events_taken-taken.ensures c.events_taken.ensures c.came_in-self.ensures refl

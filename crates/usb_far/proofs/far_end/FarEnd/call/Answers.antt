@@ -1,10 +1,7 @@
-use Rattle.std.proofs.Common.{false, refl, ap}
-use Rattle.usb_far.specs.FarEnd.{call_done, far_of}
+use Rattle.std.proofs.Common.{refl}
+use Rattle.usb_far.specs.FarEnd.{played_of}
+use Rattle.usb_far.proofs.Deeds.{port_called}
 use Rattle.usb_far.proofs.far_end.FarEnd.call.Goals as goal
 
 pub returns-clause-done : goal.returns-clause-done
-unfolding call_done
-returns-clause-done g c = record {
-  answered = refl;
-  far = ap (λ w. record (far_of c.args.self.now) { world = w; came = false }) c.call_root.ensures;
-}
+returns-clause-done g c = port_called c.args.number c.args.call (played_of c.args.self.now) _ c.call_root.ensures.world refl c.call_root.ensures.silent
