@@ -1,12 +1,16 @@
-//! Serves the rows of `data/`: plans, each in both modes, and packets in digits. Prints a line for each that is not as
-//! wanted, and how many rows there are and how many of them differ.
+//! Serves the rows of `data/`: plans, each in both modes and by a host before a far end, and packets in digits. Prints a
+//! line for each that is not as wanted, and how many rows there are and how many of them differ.
 #![tactic(auto)]
 
+mod live;
+
+use live::course_of;
 use std::alloc::{AllocError, Global};
 use std::rt::Files;
 use std::{fs, io, str};
 use usb_bus::Watched;
-use usb_serve::{Mode, ServeFault, serve};
+use usb_far::FarFault;
+use usb_serve::{Mode, ServeFault, plan_of, serve};
 use usb_text::packet_line;
 
 /// A line for each row of a plan: its NAME. The plan is NAME.toml; NAME.run.txt and NAME.tree.txt are what is written
@@ -44,7 +48,8 @@ fn serve_plans<R: Files + Print + AllocGlobal>(rt: &R, tally: &mut Tally) -> io:
     'names: for name in names.lines() {
         let run = is_as_wanted(rt, name, Mode::Run)?;
         let tree = is_as_wanted(rt, name, Mode::Tree)?;
-        tally.count(run && tree);
+        let live = is_told_live(rt, name)?;
+        tally.count(run && tree && live);
     }
     Ok(())
 }
@@ -78,6 +83,43 @@ fn is_as_wanted<R: Files + Print + AllocGlobal>(
         return Ok(false);
     }
     Ok(true)
+}
+
+/// Whether a host before the far end of a row's plan tells what is wanted in mode Tree, but for the bound. Rows that do
+/// not end well are left out, and those that send more than a line has room for.
+fn is_told_live<R: Files + Print + AllocGlobal>(rt: &R, name: &str) -> io::Result<bool> {
+    let alloc = rt.alloc();
+    let status = fs::read_to_string(rt, format!(in alloc; "{name}.status")?)?;
+    if !wanted_fault(status.as_str()).is_empty() {
+        return Ok(true);
+    }
+    let mut plan = Watched::new(fs::open(rt, format!(in alloc; "{name}.toml")?)?);
+    let Ok(plan) = plan_of(alloc, &mut plan) else {
+        return Ok(false);
+    };
+    let wanted = fs::read_to_string(rt, format!(in alloc; "{name}.tree.txt")?)?;
+    let course = course_of(alloc, &plan)?;
+    if course.fault == Some(FarFault::LongSend) {
+        return Ok(true);
+    }
+    if let Err(end) = course.ended {
+        println!(rt; "{name} live: {end}")?;
+        return Ok(false);
+    }
+    let told = str::from_utf8(course.told.as_slice()).unwrap_or("");
+    if !told.lines().eq(unbound(wanted.as_str()).lines()) {
+        println!(rt; "{name} live: told otherwise")?;
+        return Ok(false);
+    }
+    Ok(true)
+}
+
+/// The lines of listings and transfers, without that of the bound, which stands last.
+fn unbound(text: &str) -> &str {
+    match text.rfind("bound ") {
+        Some(at) => text.get(..at).unwrap_or(text),
+        None => text,
+    }
 }
 
 /// The number, from 1, of the first line that is another, or that one of the texts has alone.

@@ -90,7 +90,7 @@ pub use serving::{
     Mode, ServeFault, item_lines, next_untraced, number_of, plan_of, serve, serve_through,
     write_lines,
 };
-pub use transfer::TransferFault;
+pub use transfer::{TransferFault, answered, counted};
 pub use usb_bus::{BusFault, Plan, SimBus, Trace, Tracer, Untraced, Watched};
 pub use usb_host::{Host, Tree};
 pub use usb_plan::PlanFault;

@@ -31,9 +31,7 @@ pub enum TransferFault {
 }
 
 /// What a transfer came to; the error is one that ends the run.
-pub(crate) fn answered<T>(
-    outcome: Result<T, HostFault>,
-) -> Result<Result<T, TransferFault>, RunFault>
+pub fn answered<T>(outcome: Result<T, HostFault>) -> Result<Result<T, TransferFault>, RunFault>
     ensures { result ≡ transfer_ended outcome }
 {
     match outcome {
@@ -68,7 +66,7 @@ fn answer_of_pipe(fault: PipeFault) -> Result<TransferFault, RunFault>
 }
 
 /// How many bytes were sent, where they were.
-pub(crate) fn counted(count: usize, sent: Result<(), TransferFault>) -> Result<u64, TransferFault>
+pub fn counted(count: usize, sent: Result<(), TransferFault>) -> Result<u64, TransferFault>
     ensures { result ≡ sent_count count sent }
 {
     match sent {

@@ -1,12 +1,11 @@
 -- How lines are heard, one after the other, and what a question leaves.
-use Rattle.std.proofs.Common.{◌≡◌, ◌≢◌, ◌∙◌, ◌⊎◌, inl, inr, ℕ, ◌+◌, ◌-◌, ◌≤◌, Bool, true, false, List, [], ◌∷◌, ◌++◌, length, Option, Some, None, Result, Ok, Err, refl, sym, ap, subst, arith, append-nil}
+use Rattle.std.proofs.Common.{◌≡◌, ◌≢◌, ◌∙◌, inl, inr, ℕ, ◌-◌, ◌≤◌, List, [], ◌∷◌, ◌++◌, Option, Some, None, refl, sym, ap, subst, arith, append-nil}
 use Rattle.std.specs.Prelude.{slice_set}
 use Rattle.std.proofs.KnownBytes.{Appends-nil, Consumes-nil, Consumes-trans}
 use Rattle.std.specs.Io.KnownBytes.{Appends, Consumes}
 use Rattle.usb_bus.specs.Watch.{AppendsFront}
 use Rattle.usb_wire.specs.declared.answer.Answer.{Answer}
 use Rattle.usb_wire.specs.declared.answer.Answer.TheVariants as answer
-use Rattle.usb_wire.specs.declared.answer.Said.{Said}
 use Rattle.usb_wire.specs.declared.answer.Said.TheVariants.{Changed, Answered}
 use Rattle.usb_wire.specs.declared.question.Asked.{Asked}
 use Rattle.usb_wire.specs.declared.question.Asked.TheVariants as asked
@@ -14,7 +13,8 @@ use Rattle.usb_wire.specs.Questions.{kind_asked, question_line}
 use Rattle.usb_wire.specs.declared.question.Question.{Question}
 use Rattle.usb_stream.specs.declared.fault.LiveFault.{LiveFault}
 use Rattle.usb_stream.specs.declared.fault.LiveFault.TheVariants.{LimitReached, Write}
-use Rattle.usb_stream.specs.Stream.{AskedWell, AsksNoMore, AsksNothing, Heard, Kept, ReadSome, SaidEnd, SaidLine, Says, Streams, Told, streams}
+use Rattle.usb_stream.specs.declared.fault.LiveFault.TheVariants as fault
+use Rattle.usb_stream.specs.Stream.{AskedWell, AsksNoMore, AsksNothing, Heard, Kept, ReadSome, SaidLine, Says, Told, streams, questions}
 
 -- a status is a line: the end is none
 said_changed : (a : Asked) (roots : ℕ) (unread left : Option (List ℕ)) (number : ℕ) (status : List ℕ) → Says a roots unread left (Changed number status)
@@ -80,32 +80,41 @@ at_limit q r w k none = record {
   written = nothing_of w (question_line q ++ 10 ∷ []);
   read = none_read r;
   limit = λ _. (none, Consumes-nil r, Appends-nil w);
-  fewer = omega arith;
+  spent = omega arith;
   roots = refl;
 }
 
-pub not_written : (q : Question) (r w0 w1 : Option (List ℕ)) (k : Kept) → AppendsFront w0 w1 (question_line q ++ 10 ∷ [])
+pub not_written : (q : Question) (r w0 w1 : Option (List ℕ)) (k : Kept) → AppendsFront w0 w1 (question_line q ++ 10 ∷ []) → k.left ≢ 0
     → AsksNoMore q (streams r r w0 w1) k Write (record k { left = k.left - 1; fault = Some Write })
-not_written q r w0 w1 k front = record {
+not_written q r w0 w1 k front some = record {
   kept = refl;
   written = front;
   read = none_read r;
   limit = λ (e : Write ≡ LimitReached). cc;
-  fewer = omega arith;
+  spent = omega (arith, some);
   roots = refl;
 }
 
 front_all : (w0 w1 : Option (List ℕ)) (line : List ℕ) → Appends w0 w1 line → AppendsFront w0 w1 line
 front_all w0 w1 line gone = record { gone = line; rest = []; split = sym (append-nil line); appended = gone }
 
+-- a question went out, where the limit is not reached
+one_gone : (f : LiveFault) → f ≢ LimitReached → questions f ≡ 1
+one_gone fault.Read other = refl
+one_gone (fault.Line f) other = refl
+one_gone fault.TooManyPushes other = refl
+one_gone fault.Gone other = refl
+one_gone Write other = refl
+one_gone LimitReached other = absurd (other refl)
+
 pub not_heard : (q : Question) (r0 r1 w0 w1 : Option (List ℕ)) (k : Kept) (f : LiveFault) (st : List (List ℕ)) → Appends w0 w1 (question_line q ++ 10 ∷ [])
-    → f ≢ LimitReached → ReadSome r0 r1 → AsksNoMore q (streams r0 r1 w0 w1) k f (record k { left = k.left - 1; statuses = st; fault = Some f })
-not_heard q r0 r1 w0 w1 k f st gone other read = record {
+    → k.left ≢ 0 → f ≢ LimitReached → ReadSome r0 r1 → AsksNoMore q (streams r0 r1 w0 w1) k f (record k { left = k.left - 1; statuses = st; fault = Some f })
+not_heard q r0 r1 w0 w1 k f st gone some other read = record {
   kept = refl;
   written = front_all w0 w1 (question_line q ++ 10 ∷ []) gone;
   read = read;
   limit = λ e. absurd (other e);
-  fewer = omega arith;
+  spent = omega (arith, some, one_gone f other);
   roots = refl;
 }
 

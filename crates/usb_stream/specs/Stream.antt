@@ -8,7 +8,7 @@ use Rattle.usb_packet.specs.declared.Toggle.TheVariants.{Zero, One}
 use Rattle.usb_packet.specs.declared.TokenKind.{TokenKind}
 use Rattle.usb_packet.specs.declared.TokenKind.TheVariants.{OutTok, InTok, SetupTok}
 use Rattle.usb_port.specs.declared.call.PortCall.{PortCall}
-use Rattle.usb_bus.specs.Watch.{AppendsFront}
+use Rattle.usb_bus.specs.Watch.{AppendsFront, inner_of}
 use Rattle.usb_lines.specs.Lines.{IsUnbroken}
 use Rattle.usb_wire.specs.Answers.{IsSaidLine, MaySay}
 use Rattle.usb_wire.specs.QuestionReading.{setup_by}
@@ -31,6 +31,12 @@ use Rattle.usb_world.specs.declared.types.Outcome.TheVariants.{Payload, Ack, Nak
 use Rattle.usb_stream.specs.declared.bus.StreamBus.{StreamBus}
 use Rattle.usb_stream.specs.declared.fault.LiveFault.{LiveFault}
 use Rattle.usb_stream.specs.declared.fault.LiveFault.TheVariants.{LimitReached, Write}
+use Rattle.usb_stream.specs.declared.fault.LiveFault.TheVariants as fault
+use Rattle.usb_device.specs.Tree.{new_ports}
+use Rattle.usb_world.specs.Losses.{no_losses}
+use Rattle.usb_world.specs.World.{World}
+use Rattle.usb_world.specs.declared.types.BusFault.{BusFault}
+use Rattle.usb_world.specs.declared.types.BusFault.TheVariants as bus
 
 -- ---- attempts as questions
 
@@ -93,6 +99,13 @@ pub record Kept : Type 0 where
 abbrev pub kept_of : {R W : Type 0} → StreamBus R W → Kept
 kept_of b = record { roots = b.roots; statuses = b.statuses; left = b.left; fault = b.fault }
 
+-- the bytes that the reader of a bus has left, and those that its writer has, where they are known
+abbrev pub unread_of : {R W : Type 0} → (R → Option (List ℕ)) → StreamBus R W → Option (List ℕ)
+unread_of remaining b = remaining (inner_of b.reader)
+
+abbrev pub written_of : {R W : Type 0} → (W → Option (List ℕ)) → StreamBus R W → Option (List ℕ)
+written_of contents b = contents (inner_of b.writer)
+
 -- ---- what is read and written
 
 -- the bytes that the reader has left and those that the writer has, before and after, where they are known
@@ -150,13 +163,22 @@ pub record AskedWell (q : Question) (s : Streams) (old : Kept) (got : Answer) (n
   pub roots : new.roots ≡ old.roots
   pub sound : new.fault ≡ None
 
+-- how many questions went out, or a front of one, that ended with a fault
+abbrev pub questions : LiveFault → ℕ
+questions fault.Read = 1
+questions (fault.Line f) = 1
+questions fault.TooManyPushes = 1
+questions fault.Gone = 1
+questions fault.Write = 1
+questions fault.LimitReached = 0
+
 -- a fault is kept; at most one question went out, or a front of it, and one less is left; at the limit nothing did
 pub record AsksNoMore (q : Question) (s : Streams) (old : Kept) (f : LiveFault) (new : Kept) : Type 0 where
   pub kept : new.fault ≡ Some f
   pub written : AppendsFront s.before s.now (question_line q ++ 10 ∷ [])
   pub read : ReadSome s.unread s.left
   pub limit : f ≡ LimitReached → (old.left ≡ 0) × Consumes s.unread s.left [] × Appends s.before s.now []
-  pub fewer : new.left ≤ old.left
+  pub spent : new.left + questions f ≡ old.left
   pub roots : new.roots ≡ old.roots
 
 abbrev pub AsksOnce : Question → Streams → Kept → Result Answer LiveFault → Kept → Type 0
@@ -180,13 +202,28 @@ pub record GivesAs (q : Question) (most : ℕ) (s : Streams) (old : Kept) (outco
   pub asked : AskedWell q s old got new
   pub is : outcome ≡ outcome_for most got
 
-abbrev pub AttemptsBy : Option Question → ℕ → Streams → Kept → Result Outcome LiveFault → Kept → Type 0
+-- what a fault is to a host: the limit is reached, or the bus makes no more steps
+abbrev pub bus_fault : LiveFault → BusFault
+bus_fault fault.Read = bus.TraceFailed
+bus_fault (fault.Line f) = bus.TraceFailed
+bus_fault fault.TooManyPushes = bus.TraceFailed
+bus_fault fault.Gone = bus.TraceFailed
+bus_fault fault.Write = bus.TraceFailed
+bus_fault fault.LimitReached = bus.LimitReached
+
+-- an attempt was asked for, and a fault is kept, which is told as it is to a host
+pub record FailsAs (q : Question) (s : Streams) (old : Kept) (told : BusFault) (new : Kept) : Type 0 where
+  pub f : LiveFault
+  pub asked : AsksNoMore q s old f new
+  pub is : told ≡ bus_fault f
+
+abbrev pub AttemptsBy : Option Question → ℕ → Streams → Kept → Result Outcome BusFault → Kept → Type 0
 AttemptsBy (Some q) most s old (Ok outcome) new = GivesAs q most s old outcome new
-AttemptsBy (Some q) most s old (Err f) new = AsksNoMore q s old f new
+AttemptsBy (Some q) most s old (Err told) new = FailsAs q s old told new
 AttemptsBy None most s old result new = AsksNothing s old new × (result ≡ Ok Nothing)
 
 -- an attempt is one question, where there is a line for it
-abbrev pub Attempts : Attempt → Streams → Kept → Result Outcome LiveFault → Kept → Type 0
+abbrev pub Attempts : Attempt → Streams → Kept → Result Outcome BusFault → Kept → Type 0
 Attempts a s old result new = AttemptsBy (question_for a) a.max s old result new
 
 -- a call at a root port that there is is one question
@@ -241,3 +278,19 @@ pub record Opens (limit : ℕ) (s : Streams) (new : Kept) : Type 0 where
   pub mid : Kept
   pub asked : AsksOnce Hello s (unasked limit) result mid
   pub kept : new ≡ greeted result mid
+
+-- the world of a bus of which no world is said
+pub no_world : World
+no_world = record {
+  roots = new_ports 0;
+  devices = [];
+  left = [];
+  taken = 0;
+  attempts = 0;
+  attempts_then = 0;
+  limit = 0;
+  damages = [];
+  losses = no_losses;
+  shared = false;
+  fault = None;
+}

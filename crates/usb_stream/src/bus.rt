@@ -2,16 +2,16 @@
 ghost use Rattle.std.specs.Prelude.{◌≡◌, ◌≢◌, ◌-◌, ◌≤◌, ◌∷◌, ◌++◌, [], slice_set, IfErr, IfOk, None, Ok, Err};
 ghost use Rattle.std.specs.Io.KnownBytes.{Appends};
 ghost use Rattle.usb_bus.specs.Watch.{AppendsFront, inner_of};
-ghost use Rattle.usb_port.specs.Calls.{clear_call, set_call};
+ghost use Rattle.usb_port.specs.Calls.{IsClearFeature, IsSetFeature, clear_call, set_call};
 ghost use Rattle.usb_world.specs.World.{FitsMaximum, IsAttempt};
 ghost use Rattle.usb_wire.specs.Questions.{IsQuestion, kind_asked, question_line};
 ghost use Rattle.usb_wire.specs.declared.question.Question.TheVariants as question;
 
 use crate::asked::{outcome_for, question_for};
-use crate::fault::LiveFault;
+use crate::fault::{LiveFault, bus_fault};
 use arrayvec::ArrayVec;
 use std::io::{Read, Write};
-use usb_bus::{Attempt, Outcome, Watched};
+use usb_bus::{Attempt, Bus, BusFault, Outcome, Watched};
 use usb_lines::{Line, LineFault, put_lines, read_line};
 use usb_port::PortCall;
 use usb_wire::{Answer, Asked, Question, Said, WireFault, question_line, read_said};
@@ -39,18 +39,103 @@ pub struct StreamBus<R, W> {
     ghost few_roots: { roots ≤ 7 },
 }
 
-impl<R: Drop, W> StreamBus<R, W> {
-    /// Gives the writer back.
-    pub fn into_writer(self) -> Watched<W>
-        ensures { result ≡ self.writer }
+impl<R, W> StreamBus<R, W> {
+    /// Gives the reader and the writer back.
+    pub fn into_ends(self) -> (Watched<R>, Watched<W>)
+        ensures reader { result.0 ≡ self.reader }
+        ensures writer { result.1 ≡ self.writer }
     {
-        let StreamBus { writer, .. } = self;
-        writer
+        let StreamBus { reader, writer, .. } = self;
+        (reader, writer)
+    }
+}
+
+/// Nothing is said of a world: what a far end does is its own. Root calls tell no fault: it is kept, and the next
+/// question tells it.
+impl<R: Read, W: Write> Bus for StreamBus<R, W> {
+    ghost use Rattle.std.specs.Prelude.{false};
+    ghost use Rattle.usb_stream.specs.Stream.{Attempts, Calls, bus_fault, kept_of, no_world, status_at, streams};
+    ghost use Rattle.usb_stream.specs.declared.fault.LiveFault.{LiveFault as AFault};
+
+    ghost modelled = { false };
+
+    ghost world = { λ bus. no_world };
+
+    ghost trace = { λ bus. None };
+
+    /// Makes one attempt. Setup data that are not 8 bytes in DATA0 have no line, and no answer comes.
+    ///
+    /// # Errors
+    /// LimitReached where no more questions are left, TraceFailed at any other fault.
+    fn attempt(&mut self, attempt: &Attempt) -> Result<Outcome, BusFault>
+        requires { IsAttempt attempt.now }
+        ensures again { (f : AFault) → (kept_of self.old).fault ≡ Some f
+            → (result ≡ Err (bus_fault f)) × (self.new ≡ self.old) }
+        ensures asks { (kept_of self.old).fault ≡ None → Attempts attempt.now
+            (streams (R.remaining (inner_of self.old.reader))
+            (R.remaining (inner_of self.new.reader)) (W.contents (inner_of self.old.writer))
+            (W.contents (inner_of self.new.writer)))
+            (kept_of self.old) result (kept_of self.new) }
+        ensures fits { IfOk result (FitsMaximum attempt.now.max) }
+    {
+        let Some(question) = question_for(attempt) else {
+            return self.unasked();
+        };
+        match self.ask(&question) {
+            Ok(answer) => Ok(outcome_for(attempt.max, answer)),
+            Err(fault) => Err(bus_fault(fault)),
+        }
+    }
+
+    fn root_ports(&self) -> u8
+        ensures roots { result ≡ (kept_of self.now).roots }
+        ensures least { 1 ≤ result }
+        ensures most { result ≤ 7 }
+    {
+        self.roots
+    }
+
+    /// The status of a root port as it was told last, 0 where there is no such port (11.24.2.7).
+    fn root_status(&self, port: u8) -> [u8; 4]
+        ensures { result ≡ status_at (kept_of self.now) port }
+    {
+        if port < 1 || port > ROOTS {
+            return [0; 4];
+        }
+        self.statuses[usize::from(port) - 1]
+    }
+
+    fn root_set(&mut self, port: u8, feature: u16)
+        requires { IsSetFeature feature }
+        ensures again { (kept_of self.old).fault ≢ None → self.new ≡ self.old }
+        ensures asks { (kept_of self.old).fault ≡ None → Calls port (set_call feature)
+            (streams (R.remaining (inner_of self.old.reader))
+            (R.remaining (inner_of self.new.reader)) (W.contents (inner_of self.old.writer))
+            (W.contents (inner_of self.new.writer)))
+            (kept_of self.old) (kept_of self.new) }
+    {
+        if let Some(call) = PortCall::of_set(feature) {
+            self.call(port, call);
+        }
+    }
+
+    fn root_clear(&mut self, port: u8, feature: u16)
+        requires { IsClearFeature feature }
+        ensures again { (kept_of self.old).fault ≢ None → self.new ≡ self.old }
+        ensures asks { (kept_of self.old).fault ≡ None → Calls port (clear_call feature)
+            (streams (R.remaining (inner_of self.old.reader))
+            (R.remaining (inner_of self.new.reader)) (W.contents (inner_of self.old.writer))
+            (W.contents (inner_of self.new.writer)))
+            (kept_of self.old) (kept_of self.new) }
+    {
+        if let Some(call) = PortCall::of_clear(feature) {
+            self.call(port, call);
+        }
     }
 }
 
 impl<R: Read, W: Write> StreamBus<R, W> {
-    ghost use Rattle.usb_stream.specs.Stream.{AsksOnce, Attempts, Calls, FailsOnce, Heard, Opens, ReadSome, Says, Tells, greeted, kept_of, status_at, streams};
+    ghost use Rattle.usb_stream.specs.Stream.{AsksOnce, Calls, FailsOnce, Heard, Opens, ReadSome, Says, Tells, bus_fault, greeted, kept_of, streams};
     ghost use Rattle.usb_stream.specs.declared.fault.LiveFault.{LiveFault as AFault};
 
     /// Says the hello to a far end, which tells how many root ports there are; at most so many questions are asked in
@@ -106,75 +191,6 @@ impl<R: Read, W: Write> StreamBus<R, W> {
         self.lines
     }
 
-    /// Makes one attempt. Setup data that are not 8 bytes in DATA0 have no line, and no answer comes.
-    ///
-    /// # Errors
-    /// The fault that was told before, or told now.
-    pub fn attempt(&mut self, attempt: &Attempt) -> Result<Outcome, LiveFault>
-        requires { IsAttempt attempt.now }
-        ensures again { (f : AFault) → (kept_of self.old).fault ≡ Some f
-            → (result ≡ Err f) × (self.new ≡ self.old) }
-        ensures asks { (kept_of self.old).fault ≡ None → Attempts attempt.now
-            (streams (R.remaining (inner_of self.old.reader))
-            (R.remaining (inner_of self.new.reader)) (W.contents (inner_of self.old.writer))
-            (W.contents (inner_of self.new.writer)))
-            (kept_of self.old) result (kept_of self.new) }
-        ensures fits { IfOk result (FitsMaximum attempt.now.max) }
-    {
-        let Some(question) = question_for(attempt) else {
-            return self.unasked();
-        };
-        let answer = self.ask(&question)?;
-        Ok(outcome_for(attempt.max, answer))
-    }
-
-    /// The number of root ports, 1 to 7.
-    pub fn root_ports(&self) -> u8
-        ensures roots { result ≡ (kept_of self.now).roots }
-        ensures least { 1 ≤ result }
-        ensures most { result ≤ 7 }
-    {
-        self.roots
-    }
-
-    /// The status of a root port as it was told last, 0 where there is no such port (11.24.2.7).
-    pub fn root_status(&self, port: u8) -> [u8; 4]
-        ensures { result ≡ status_at (kept_of self.now) port }
-    {
-        if port < 1 || port > ROOTS {
-            return [0; 4];
-        }
-        self.statuses[usize::from(port) - 1]
-    }
-
-    /// Sets a feature of a root port (11.24.2.13). A fault is told by the next question.
-    pub fn root_set(&mut self, port: u8, feature: u16)
-        ensures again { (kept_of self.old).fault ≢ None → self.new ≡ self.old }
-        ensures asks { (kept_of self.old).fault ≡ None → Calls port (set_call feature)
-            (streams (R.remaining (inner_of self.old.reader))
-            (R.remaining (inner_of self.new.reader)) (W.contents (inner_of self.old.writer))
-            (W.contents (inner_of self.new.writer)))
-            (kept_of self.old) (kept_of self.new) }
-    {
-        if let Some(call) = PortCall::of_set(feature) {
-            self.call(port, call);
-        }
-    }
-
-    /// Clears a feature of a root port (11.24.2.2). A fault is told by the next question.
-    pub fn root_clear(&mut self, port: u8, feature: u16)
-        ensures again { (kept_of self.old).fault ≢ None → self.new ≡ self.old }
-        ensures asks { (kept_of self.old).fault ≡ None → Calls port (clear_call feature)
-            (streams (R.remaining (inner_of self.old.reader))
-            (R.remaining (inner_of self.new.reader)) (W.contents (inner_of self.old.writer))
-            (W.contents (inner_of self.new.writer)))
-            (kept_of self.old) (kept_of self.new) }
-    {
-        if let Some(call) = PortCall::of_clear(feature) {
-            self.call(port, call);
-        }
-    }
-
     /// Asks what is wanted.
     ///
     /// # Errors
@@ -216,12 +232,14 @@ impl<R: Read, W: Write> StreamBus<R, W> {
     }
 
     /// An attempt that no line asks for.
-    fn unasked(&self) -> Result<Outcome, LiveFault>
-        ensures again { (f : AFault) → (kept_of self.now).fault ≡ Some f → result ≡ Err f }
+    fn unasked(&self) -> Result<Outcome, BusFault>
+        ensures again { (f : AFault) → (kept_of self.now).fault ≡ Some f
+            → result ≡ Err (bus_fault f) }
         ensures none { (kept_of self.now).fault ≡ None → result ≡ Ok Outcome.Nothing }
+        ensures fits { IfOk result (λ outcome. outcome ≡ Outcome.Nothing) }
     {
         match self.fault {
-            Some(fault) => Err(fault),
+            Some(fault) => Err(bus_fault(fault)),
             None => Ok(Outcome::Nothing),
         }
     }

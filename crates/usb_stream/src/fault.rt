@@ -1,5 +1,9 @@
 //! Why a bus asks no more.
+ghost use Rattle.std.specs.Prelude.{◌≡◌};
+ghost use Rattle.usb_stream.specs.Stream.{bus_fault};
+
 use thiserror::Error;
+use usb_bus::BusFault;
 use usb_wire::WireFault;
 
 /// Why a bus asks no more.
@@ -23,4 +27,18 @@ pub enum LiveFault {
     /// As many questions were asked as the limit allows.
     #[error("limit reached")]
     LimitReached,
+}
+
+/// What the fault is to a host: it asks only whether the limit is reached.
+pub(crate) fn bus_fault(fault: LiveFault) -> BusFault
+    ensures { result ≡ bus_fault fault }
+{
+    match fault {
+        LiveFault::LimitReached => BusFault::LimitReached,
+        LiveFault::Read
+        | LiveFault::Line(_)
+        | LiveFault::TooManyPushes
+        | LiveFault::Gone
+        | LiveFault::Write => BusFault::TraceFailed,
+    }
 }

@@ -1,7 +1,8 @@
 //! A bus whose far end is a stream of lines: the host's end of `usb_wire`.
 //!
-//! `StreamBus` asks a question for each attempt, for each call at a root port and for what is wanted, and reads the
-//! lines up to its answer. It makes no bus of its own: what devices do, and how long anything takes, is the far end's.
+//! `StreamBus` is a `Bus`, of which no world is said (`modelled`): it asks a question for each attempt, for
+//! each call at a root port and for what is wanted, and reads the lines up to its answer. What devices do, and how long
+//! anything takes, is the far end's.
 //!
 //! # What is proved
 //!

@@ -6,7 +6,7 @@ use std::alloc::{AllocError, Global};
 use std::io;
 use std::io::{Error, ErrorKind, Read, Write};
 use std::test::Fail;
-use usb_bus::{Attempt, Outcome, Watched};
+use usb_bus::{Attempt, Bus, Outcome, Watched};
 use usb_packet::{Toggle, TokenKind};
 use usb_request::feature::{C_PORT_CONNECTION, PORT_RESET};
 use usb_stream::{LiveFault, StreamBus};
@@ -247,8 +247,9 @@ fn play<R: Read + Drop>(
         given.push_str("told; ")?;
     }
     let fault = bus.fault();
+    let (_reader, writer) = bus.into_ends();
     Ok(Played {
-        host: bus.into_writer().into_inner().taken,
+        host: writer.into_inner().taken,
         given,
         fault,
     })

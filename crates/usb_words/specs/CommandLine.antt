@@ -7,7 +7,7 @@ use Rattle.clap.specs.declared.builder.action.ArgAction.TheVariants.{Set, SetTru
 use Rattle.clap.specs.declared.builder.value_parser.ValueParser.TheVariants as parser
 use Rattle.usb_words.specs.declared.words.DeviceWords.{DeviceWords}
 use Rattle.usb_words.specs.declared.words.Words.{Words}
-use Rattle.usb_words.specs.declared.words.Words.TheVariants.{Stdin, Packet, Check, Tree, Draw, Run, Pcap, Device, Far}
+use Rattle.usb_words.specs.declared.words.Words.TheVariants.{Stdin, Packet, Check, Tree, Draw, Run, Pcap, Device, Far, Live}
 
 -- the one text that a subcommand wants
 abbrev pub text_rule : Rule
@@ -33,6 +33,14 @@ ports_rule = record (new_rule (codes "ports")) { long = Some (codes "ports"); ac
 abbrev pub device_app : App
 device_app = with_rule (with_rule (with_rule (new_app (codes "device")) name_rule) text_rule) ports_rule
 
+-- the most questions that `live` asks, 2 ^ 63 - 1 where it is left out
+abbrev pub limit_rule : Rule
+limit_rule =
+    record (new_rule (codes "limit")) { long = Some (codes "limit"); action = Some Set; value_names = 1; parser = Some (parser.Unsigned 0 9223372036854775807); defaults = codes "9223372036854775807" ∷ [] }
+
+abbrev pub live_app : App
+live_app = with_rule (new_app (codes "live")) limit_rule
+
 -- the program takes its words without its name, and has a version
 abbrev pub plain_app : App
 plain_app = let app = new_app (codes "usbplan") in record app { top = record app.top { no_binary_name = true; has_version = true } }
@@ -46,7 +54,8 @@ abbrev pub first_app : App
 first_app = with_text (with_text (with_text plain_app (codes "packet")) (codes "check")) (codes "tree")
 
 abbrev pub program_app : App
-program_app = with_text (with_subcommand (with_text (with_text (with_subcommand first_app draw_app.top) (codes "run")) (codes "pcap")) device_app.top) (codes "far")
+program_app =
+    with_subcommand (with_text (with_subcommand (with_text (with_text (with_subcommand first_app draw_app.top) (codes "run")) (codes "pcap")) device_app.top) (codes "far")) live_app.top
 
 -- clap reads this subcommand from the words, with this text
 pub record HasSubcommand (words : List Text) (name text : List ℕ) : Type 0 where
@@ -78,6 +87,15 @@ pub record ReadsDevice (words : List Text) (asked : DeviceWords) : Type 0 where
   pub subcommand : subcommand_of program_app words ≡ Some (codes "device", rows)
   pub device : IsDevice rows asked
 
+-- clap reads `live` from the words, with this limit
+pub record ReadsLive (words : List Text) (limit : ℕ) : Type 0 where
+  pub rows : List Row
+  pub subcommand : subcommand_of program_app words ≡ Some (codes "live", rows)
+  pub numeral : List ℕ
+  pub given : one_of (codes "limit") rows ≡ Some numeral
+  pub is_numeral : IsNumeral 10 (without_leading_plus numeral)
+  pub value : limit ≡ digits_value 10 (without_leading_plus numeral)
+
 -- what the words say, by the subcommand that clap reads from them and its text
 abbrev pub ReadsWords : List Text → Words → Type 0
 ReadsWords words Stdin = subcommand_of program_app words ≡ None
@@ -89,3 +107,4 @@ ReadsWords words (Run text) = HasSubcommand words (codes "run") text.now
 ReadsWords words (Pcap text) = HasSubcommand words (codes "pcap") text.now
 ReadsWords words (Device asked) = ReadsDevice words asked
 ReadsWords words (Far text) = HasSubcommand words (codes "far") text.now
+ReadsWords words (Live limit) = ReadsLive words limit

@@ -3,7 +3,7 @@ ghost use Rattle.std.specs.Prelude.{◌≡◌, IfOk, IfSome, List, map, true, fa
 ghost use Rattle.clap.specs.Simple.{app_of, subcommand_of, subcommand_rows_of, with_subcommand};
 ghost use Rattle.clap.specs.Matches.{found_of};
 ghost use Rattle.clap.specs.Walk.{Text, rows_of, rule_of};
-ghost use Rattle.usb_words.specs.CommandLine.{IsDevice, ReadsWords, device_app, draw_app, first_app, name_rule, plain_app, ports_rule, program_app, text_app, text_rule, with_text};
+ghost use Rattle.usb_words.specs.CommandLine.{IsDevice, ReadsWords, device_app, draw_app, first_app, limit_rule, live_app, name_rule, plain_app, ports_rule, program_app, text_app, text_rule, with_text};
 
 use clap::builder::ValueParser;
 use clap::error::ErrorKind;
@@ -34,6 +34,8 @@ pub enum Words<'a> {
     Device(DeviceWords<'a>),
     /// The far end of a bus, played from a plan, by the plan's file.
     Far(&'a str),
+    /// A host before a far end, and the most questions that it asks.
+    Live(u64),
 }
 
 /// What entry a device makes.
@@ -59,7 +61,7 @@ pub enum WordFault {
 }
 
 /// Reads the words after the program's name: `packet HEX`, `check FILE`, `tree FILE`, `draw [--ascii] FILE`,
-/// `run FILE`, `pcap FILE`, `device NAME FILE [--ports N]`, `far FILE` or none.
+/// `run FILE`, `pcap FILE`, `device NAME FILE [--ports N]`, `far FILE`, `live [--limit N]` or none.
 ///
 /// # Errors
 /// Refused where `clap` reads no such command, or is asked for the help or the version.
@@ -92,6 +94,7 @@ fn words_of<'a>(matches: &ArgMatches<'a>) -> Option<Words<'a>>
         Some(("pcap", found)) => Some(Words::Pcap(found.get_str("text")?)),
         Some(("device", found)) => Some(Words::Device(device_words(found)?)),
         Some(("far", found)) => Some(Words::Far(found.get_str("text")?)),
+        Some(("live", found)) => Some(Words::Live(found.get_one::<u64>("limit")?)),
         Some(_) => None,
     }
 }
@@ -149,13 +152,15 @@ fn program<'a>(alloc: Global) -> Result<Command<'a>, AllocError>
     )?;
     let device = device_command(alloc)?;
     let with_device = with_command(with_pcap, device)?;
-    with_text_command(
+    let with_far = with_text_command(
         alloc,
         with_device,
         "far",
         "Answers a host, line by line, as the devices of a plan would",
         text(alloc, "FILE", "The plan's file"),
-    )
+    )?;
+    let live = live_command(alloc)?;
+    with_command(with_far, live)
 }
 
 /// The program with its first three commands.
@@ -206,7 +211,8 @@ fn plain_program<'a>(alloc: Global) -> Result<Command<'a>, AllocError>
                  The same for Wireshark: usbplan run plan.toml | usbplan pcap - > plan.pcap\n\
                  A device of Linux for a plan: usbplan device mouse \
                  /sys/bus/usb/devices/1-1/descriptors >> plan.toml\n\
-                 What a host asks on standard input, answered: usbplan far plan.toml\n\n\
+                 What a host asks on standard input, answered: usbplan far plan.toml\n\
+                 A host before such a far end: usbplan live < answers > questions\n\n\
                  Status: 0 done, 1 refused, 2 no such command, or help or version, 3 limit reached,\n\
                  4 memory, input or output failed.\n\n\
                  Plans are described in docs/PLANS.md, what is written in docs/OUTPUT.md.",
@@ -312,6 +318,30 @@ fn ports<'a>(alloc: Global) -> Arg<'a>
         .value_parser(ValueParser::unsigned(1, 7))
         .default_value("7")
         .help("How many ports it has, if it is a hub: 1 to 7")
+}
+
+/// The command that is a host before a far end.
+fn live_command<'a>(alloc: Global) -> Result<Command<'a>, AllocError>
+    ensures { IfOk result (λ c. app_of c ≡ live_app) }
+{
+    let plain = Command::new(alloc, "live").about(
+        "Asks a far end on standard input and output, line by line, and tells it what the host found",
+    );
+    plain.arg(limit(alloc))
+}
+
+/// The most questions that `live` asks.
+fn limit<'a>(alloc: Global) -> Arg<'a>
+    ensures local { result.global ≡ false }
+    ensures rule { rule_of result ≡ limit_rule }
+{
+    Arg::new(alloc, "limit")
+        .long("limit")
+        .action(ArgAction::Set)
+        .value_name("N")
+        .value_parser(ValueParser::unsigned(0, 9223372036854775807))
+        .default_value("9223372036854775807")
+        .help("How many questions it asks at most")
 }
 
 /// The file of a command that reads a plan.

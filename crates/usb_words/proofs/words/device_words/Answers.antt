@@ -1,13 +1,9 @@
-use Rattle.std.proofs.Common.{◌≡◌, ◌∙◌, sym, ap, ℕ, List, Option, Some, None, codes}
+use Rattle.std.proofs.Common.{◌∙◌, sym, codes}
 use Rattle.clap.specs.Walk.{one_of, rows_of}
 use Rattle.clap.specs.Matches.{found_of, one_text, first_value}
 use Rattle.clap.proofs.WalkLemmas.{first_value-rows, one_text-rows}
+use Rattle.usb_words.proofs.Numbers.{text_of}
 use Rattle.usb_words.proofs.words.device_words.Goals as goal
-
--- the text that a number is read from
-text_of : (o : Option (List ℕ)) (r : Option ℕ) (n : ℕ) → (o ≡ None → r ≡ None) → r ≡ Some n → (t : List ℕ) × (o ≡ Some t)
-text_of (Some t) r n none some = (t, λ i. Some t)
-text_of None r n none some = let gone : r ≡ None = none (λ i. None) in cc
 
 pub returns : goal.returns
 returns c =

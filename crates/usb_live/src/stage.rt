@@ -1,0 +1,38 @@
+//! How far a course is.
+ghost use Rattle.std.specs.Prelude.{◌≡◌};
+ghost use Rattle.usb_live.specs.Course.{stage_behind, stage_of};
+
+use usb_serve::Item;
+use usb_stream::LiveFault;
+use usb_wire::Answer;
+
+/// How far a course is.
+#[derive(Clone, Copy, Debug, PartialEq, Eq)]
+pub(crate) enum Stage {
+    /// The host asks and tells.
+    Asks,
+    /// It asked last what is wanted, and that was the end.
+    EndWanted,
+    /// Behind that it told a listing.
+    Over,
+}
+
+/// How far it is behind an answer to what is wanted.
+pub(crate) fn stage_of(answer: &Result<Answer, LiveFault>) -> Stage
+    ensures { result ≡ stage_of answer.now }
+{
+    match answer {
+        Ok(Answer::End) => Stage::EndWanted,
+        _ => Stage::Asks,
+    }
+}
+
+/// How far it is behind an item that was told.
+pub(crate) fn stage_behind(stage: Stage, item: &Item) -> Stage
+    ensures { result ≡ stage_behind stage item.now }
+{
+    match (stage, item) {
+        (Stage::EndWanted, Item::Listing(_, _)) => Stage::Over,
+        _ => Stage::Asks,
+    }
+}

@@ -1,0 +1,100 @@
+//! A host before the far end that plays a plan, both in memory.
+use std::alloc::{AllocError, Global};
+use std::cell::RefCell;
+use std::io;
+use std::io::{Error, ErrorKind, Read, Write};
+use usb_bus::{Plan, Tracer, Watched};
+use usb_far::{FarEnd, FarFault, serve};
+use usb_live::{LiveEnd, live};
+
+/// The most questions.
+const LIMIT: u64 = 1_000_000;
+
+/// A far end, and the lines between it and a host.
+#[derive(Drop)]
+struct Link {
+    alloc: Global,
+    far: FarEnd<Tracer<Vec<u8>>>,
+    /// What the far end has said, and how much of that was read.
+    answers: Vec<u8>,
+    read: usize,
+    /// What the host has told.
+    told: Vec<u8>,
+    /// Why the far end says no more.
+    fault: Option<FarFault>,
+}
+
+impl Link {
+    /// Takes lines of the host.
+    fn take(&mut self, lines: &[u8]) -> io::Result<()> {
+        let mut reader = Watched::new(lines);
+        let mut writer = Watched::new(Vec::new(self.alloc));
+        if let Err((_, fault)) = serve(&mut self.far, &mut reader, &mut writer) {
+            self.fault = Some(fault);
+            return Err(Error::from(ErrorKind::Other));
+        }
+        let said = writer.into_inner();
+        self.answers.extend_from_slice(said.as_slice())?;
+        if said.is_empty() {
+            self.told.extend_from_slice(lines)?;
+        }
+        Ok(())
+    }
+}
+
+/// The host's end of a link, for reading and for writing.
+#[derive(Clone, Copy, Drop)]
+struct Ends<'a>(&'a RefCell<Link>);
+
+impl Read for Ends<'_> {
+    fn read(&mut self, buf: &mut [u8]) -> io::Result<usize> {
+        let Ok(mut link) = self.0.try_borrow_mut() else {
+            return Err(Error::from(ErrorKind::Other));
+        };
+        let mut left = link.answers.as_slice().get(link.read..).unwrap_or(&[]);
+        let count = left.read(buf)?;
+        link.read = link.read.saturating_add(count);
+        Ok(count)
+    }
+}
+
+impl Write for Ends<'_> {
+    fn write(&mut self, buf: &[u8]) -> io::Result<usize> {
+        let Ok(mut link) = self.0.try_borrow_mut() else {
+            return Err(Error::from(ErrorKind::Other));
+        };
+        link.take(buf)?;
+        Ok(buf.len())
+    }
+
+    fn flush(&mut self) -> io::Result<()> {
+        Ok(())
+    }
+}
+
+/// What a host told a far end, and how that ended.
+#[derive(Drop)]
+pub(crate) struct Course {
+    /// How it ended.
+    pub(crate) ended: Result<(), LiveEnd>,
+    /// Why the far end said no more, if it did not to the end.
+    pub(crate) fault: Option<FarFault>,
+    /// The lines that were told.
+    pub(crate) told: Vec<u8>,
+}
+
+/// The course of a host before a far end that plays a plan.
+pub(crate) fn course_of(alloc: Global, plan: &Plan) -> Result<Course, AllocError> {
+    let link = RefCell::new(Link {
+        alloc,
+        far: FarEnd::new(alloc, plan, Watched::new(Vec::new(alloc)))?,
+        answers: Vec::new(alloc),
+        read: 0,
+        told: Vec::new(alloc),
+        fault: None,
+    });
+    let ends = Ends(&link);
+    let (ended, _reader, _writer) = live(alloc, Watched::new(ends), Watched::new(ends), LIMIT);
+    let Link { told, fault, .. } = link.into_inner();
+    Ok(Course { ended, fault, told })
+}
