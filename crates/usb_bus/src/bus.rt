@@ -11,8 +11,8 @@ use crate::{Attempt, BusFault, Outcome};
 
 /// A bus with the host's root ports.
 ///
-/// Whoever implements this has the whole host half. A bus around another one can; of a real controller the contract
-/// cannot be proved, since nothing says what it will answer (`docs/PORTING.md`).
+/// Whoever implements this has the whole host half. Of a bus that does what its world does (`modelled`) each call is a
+/// step of that world; of another, as that of a real controller, only what names no world is said (`docs/PORTING.md`).
 pub trait Bus {
     /// Whether the bus does what its world does.
     ghost modelled: { Bool };

@@ -4,7 +4,7 @@
 
 use anyhow::Result;
 use std::str;
-use usb_bus::{Bus, SimBus};
+use usb_bus::{Bus, SimBus, Untraced};
 use usb_enum::Finding;
 use usb_host::{Host, HostFault, PortPath, Round};
 use usb_plan::read_plan;
@@ -27,15 +27,17 @@ device = "stick"
 "#;
 
 fn main(rt: HostRuntime) -> Result<()> {
-    let plan = read_plan(rt.alloc(), WORLD)?;
-    let mut bus = SimBus::untraced(rt.alloc(), &plan)?;
+    let mut bus = SimBus::untraced(rt.alloc(), &read_plan(rt.alloc(), WORLD)?)?;
     // The first event of the plan: the device is plugged.
     bus.apply_next_event()?;
-    let mut host = Host::new(rt.alloc(), bus);
-    settle(&mut host)?;
-    let tree = host.tree()?;
-    for (path, finding) in tree.entries() {
-        meet(&rt, &mut host, path, finding)?;
+    visit(&rt, &mut Host::new(rt.alloc(), bus))
+}
+
+/// Lets the host find the device, and meets it.
+fn visit(rt: &impl Print, host: &mut Host<SimBus<Untraced>>) -> Result<()> {
+    settle(host)?;
+    for (path, finding) in host.tree()?.entries() {
+        meet(rt, host, path, finding)?;
     }
     println!(rt; "{} attempts", host.bus().attempts())?;
     Ok(())

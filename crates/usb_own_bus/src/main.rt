@@ -10,7 +10,7 @@ mod counted;
 
 use anyhow::Result;
 use counted::CountedBus;
-use usb_bus::SimBus;
+use usb_bus::{Bus, SimBus};
 use usb_host::{Host, Round};
 use usb_plan::read_plan;
 
@@ -35,10 +35,14 @@ how = "lose"
 "#;
 
 fn main(rt: HostRuntime) -> Result<()> {
-    let plan = read_plan(rt.alloc(), WORLD)?;
-    let mut bus = SimBus::untraced(rt.alloc(), &plan)?;
+    let mut bus = SimBus::untraced(rt.alloc(), &read_plan(rt.alloc(), WORLD)?)?;
     bus.apply_next_event()?;
     let mut host = Host::new(rt.alloc(), CountedBus::new(bus));
+    count(&rt, &mut host)
+}
+
+/// Lets the host work until a round finds nothing more to do, and prints what went over its bus.
+fn count<B: Bus>(rt: &impl Print, host: &mut Host<CountedBus<B>>) -> Result<()> {
     for _ in 0..1000 {
         if host.round()? == Round::Quiet {
             break;
