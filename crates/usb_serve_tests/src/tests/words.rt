@@ -17,6 +17,7 @@ Commands:
   pcap    Writes the packets of a run as a pcap file, for Wireshark
   device  Writes the `[[device]]` table of a plan, from a device's descriptors in Linux
   far     Answers a host, line by line, as the devices of a plan would
+  live    Asks a far end on standard input and output, line by line, and tells it what the host found
   help    Print this message or the help of the given subcommand(s)
 
 Options:
@@ -33,6 +34,7 @@ All packets of a run: usbplan run plan.toml
 The same for Wireshark: usbplan run plan.toml | usbplan pcap - > plan.pcap
 A device of Linux for a plan: usbplan device mouse /sys/bus/usb/devices/1-1/descriptors >> plan.toml
 What a host asks on standard input, answered: usbplan far plan.toml
+A host before such a far end: usbplan live < answers > questions
 
 Status: 0 done, 1 refused, 2 no such command, or help or version, 3 limit reached,
 4 memory, input or output failed.
