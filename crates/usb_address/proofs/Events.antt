@@ -1,7 +1,7 @@
 -- What events do to the addresses that devices hold.
 use Rattle.std.proofs.Common.{◌≡◌, false, Option, None, Some, Result, Ok, Err, refl, ap, ◌∙◌}
 use Rattle.std.specs.Prelude.{OnOk}
-use Rattle.usb_world.specs.declared.event.Due.{Due}
+use Rattle.usb_world.specs.declared.event.Ask.{Ask}
 use Rattle.usb_world.specs.declared.types.BusFault.{BusFault}
 use Rattle.usb_world.specs.declared.types.BusFault.TheVariants.{LimitReached, Memory, TraceFailed}
 use Rattle.usb_world.specs.Steps.{event, after, TookEvent}
@@ -28,13 +28,13 @@ unfolding after
 came_keeps old new e is = record { kept = λ f o. let kept : Owned f (after event old) = event_owned f old (o.so e) in rw is (record { so = λ _. kept; single = kept.single }) }
 
 -- an event that came, and none that was left; where the bus gave up, the event came or it did not
-pub event_keeps : (old : World) (result : Result (Option Due) BusFault) (new : World) → TookEvent old result new → OnOk result (new ≡ after event old)
+pub event_keeps : (old : World) (result : Result (Option (Option Ask)) BusFault) (new : World) → TookEvent old result new → OnOk result (new ≡ after event old)
     → (result ≡ Err Memory → old.fault ≡ None → new ≡ record old { fault = Some Memory })
     → (result ≡ Err TraceFailed → old.fault ≡ None → new ≡ record (after event old) { fault = Some TraceFailed })
     → (result ≡ Err LimitReached → old.fault ≡ None → ⊥) → KeepsAddresses old new
 event_keeps old result new took_it exact refused cut other = split old.fault refl
   where
-    sound : (r : Result (Option Due) BusFault) → result ≡ r → OnOk r (new ≡ after event old) → old.fault ≡ None → KeepsAddresses old new
+    sound : (r : Result (Option (Option Ask)) BusFault) → result ≡ r → OnOk r (new ≡ after event old) → old.fault ≡ None → KeepsAddresses old new
     sound (Ok due) is came e = came_keeps old new e came
     sound (Err Memory) is came e = record { kept = λ f o. gave_up (Owned f) Memory old new (refused is e) o.single }
     sound (Err TraceFailed) is came e = record { kept = λ f o. gave_up (Owned f) TraceFailed (after event old) new (cut is e) (event_owned f old (o.so e)).single }

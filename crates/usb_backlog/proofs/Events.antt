@@ -6,7 +6,8 @@ use Rattle.usb_device.specs.Rows.{fresh}
 use Rattle.usb_device.specs.Spec.{Spec, Hub}
 use Rattle.usb_device.specs.Tree.{Ports, ended, vacant, taken, new_ports, first_ports, replaced, changed_at}
 use Rattle.usb_world.specs.declared.event.Action.{Action}
-use Rattle.usb_world.specs.declared.event.Action.TheVariants.{Plug, Unplug, Show, Send, Receive, Clear}
+use Rattle.usb_world.specs.declared.event.Action.TheVariants.{Change, Ask}
+use Rattle.usb_world.specs.declared.event.Change.TheVariants.{Plug, Unplug}
 use Rattle.usb_world.specs.declared.event.Event.{Event}
 use Rattle.usb_world.specs.PlanCourses.{AtPorts, PlugsAtPort}
 use Rattle.usb_world.specs.Steps.{after, event, happened, ready, took, with_plugged}
@@ -145,7 +146,7 @@ module _ (m v r : PortMark) (few : Few v r) where
     devices = λ d. devices_by-plugged d s k i p;
   }
 
-  adds-unplugged : (path : List ℕ) (devices : List Spec) (k : Ports) → Adds k (happened (Unplug path) devices k)
+  adds-unplugged : (path : List ℕ) (devices : List Spec) (k : Ports) → Adds k (happened (Change (Unplug path)) devices k)
   adds-unplugged [] devices k = adds-none k
   adds-unplugged (zero ∷ p) devices k = adds-none k
   adds-unplugged (suc i ∷ p) devices k = record {
@@ -155,12 +156,9 @@ module _ (m v r : PortMark) (few : Few v r) where
   }
 
   adds-happened : (action : Action) (devices : List Spec) (k : Ports) → PlugsAtPort action → Adds k (happened action devices k)
-  adds-happened (Plug path device) devices k h = adds-plugged (slice_get devices device) path k h.1
-  adds-happened (Unplug path) devices k h = adds-unplugged path devices k
-  adds-happened Show devices k h = adds-none k
-  adds-happened (Send path bytes) devices k h = adds-none k
-  adds-happened (Receive path packets) devices k h = adds-none k
-  adds-happened (Clear path) devices k h = adds-none k
+  adds-happened (Change (Plug path device)) devices k h = adds-plugged (slice_get devices device) path k h.1
+  adds-happened (Change (Unplug path)) devices k h = adds-unplugged path devices k
+  adds-happened (Ask ask) devices k h = adds-none k
 
   pub keeps-none : (w : World) → AtPorts w.left → KeepsBy m v r w w
   keeps-none w h = record { looks = omega arith; strays = omega arith; devices = λ d. omega arith; left = h; onward = omega arith; still = λ e d. refl }

@@ -6,7 +6,7 @@ use Rattle.std.proofs.KnownBytes.{Appends-trans, Appends-nil}
 use Rattle.usb_device.specs.Tree.{Ports}
 use Rattle.usb_device.specs.Delivery.{held, is_twice}
 use Rattle.usb_world.specs.declared.event.Event.{Event}
-use Rattle.usb_world.specs.declared.event.Due.{Due}
+use Rattle.usb_world.specs.declared.event.Ask.{Ask}
 use Rattle.usb_world.specs.declared.types.BusFault.{BusFault}
 use Rattle.usb_world.specs.declared.types.BusFault.TheVariants.{LimitReached, Memory, TraceFailed}
 use Rattle.usb_world.specs.declared.exchange.Exchange.{Exchange}
@@ -14,7 +14,7 @@ use Rattle.usb_world.specs.declared.types.Attempt.{Attempt}
 use Rattle.usb_world.specs.Exchange.{exchange_in, ports_in}
 use Rattle.usb_world.specs.Losses.{counted, after_clearing}
 use Rattle.usb_world.specs.World.{World}
-use Rattle.usb_world.specs.Steps.{Coming, next_came, happened, is_due, has_due, took, took_first, due_from, ready, damage_in, made_in, with_attempt, outcome_made, outcome_in, due_of}
+use Rattle.usb_world.specs.Steps.{Coming, next_came, happened, is_due, has_due, took, took_first, due_from, ready, damage_in, made_in, with_attempt, outcome_made, outcome_in, ask_of}
 use Rattle.usb_bus.specs.Lines.{action_line, next_due, lines_between, made_line, step_lines}
 use Rattle.usb_bus.specs.Watch.{AppendsFront, WritesText}
 use Rattle.usb_bus.proofs.Fronts.{front_of, front_after_first}
@@ -46,7 +46,7 @@ came_sound w e events left roots sound split rest h =
     let faulted : Option BusFault → World = λ o. record (took_first w.left w) { fault = o } in
     came_faulted w e events left roots None split rest h ∙ ap faulted (sym (first_fault w.left w ∙ sound))
 
-pub due_next : (w : World) (e : Event) (events : List Event) → w.left ≡ e ∷ events → Some (due_of e.action) ≡ next_due w
+pub due_next : (w : World) (e : Event) (events : List Event) → w.left ≡ e ∷ events → Some (ask_of e.action) ≡ next_due w
 unfolding next_due
 due_next w e events split = rw split refl
 
@@ -212,7 +212,7 @@ writes_memory (Err Memory) t s text is h = h
 writes_memory (Err TraceFailed) t s text is h = cc is
 
 -- an event that was due did not come whole
-pub due_cut : (r : Result (Option Due) BusFault) (f : BusFault) (first w v : World) (had has now : Option (List ℕ)) → r ≡ Err f → DueSoFar first w had has → has_due w ≡ true
+pub due_cut : (r : Result (Option (Option Ask)) BusFault) (f : BusFault) (first w v : World) (had has now : Option (List ℕ)) → r ≡ Err f → DueSoFar first w had has → has_due w ≡ true
     → IfErr r (λ x. x ≢ LimitReached) → (r ≡ Err Memory → v ≡ record w { fault = Some Memory }) → (r ≡ Err TraceFailed → v ≡ record (took_first w.left w) { fault = Some TraceFailed })
     → WritesText r has now (lines_between w v) → WritesText r had now (lines_between first v)
 due_cut (Ok x) f first w v had has now is d h other kept cut text = cc is
@@ -235,7 +235,7 @@ unfaulted w v f sound e =
     ap (faulted None) e ∙ ap (λ o. faulted o w) (sym sound)
 
 -- an event that was cut came, or it did not
-pub coming_cut : (r : Result (Option Due) BusFault) (f : BusFault) (first w v : World) → r ≡ Err f → Coming first w → has_due w ≡ true → w.fault ≡ None → IfErr r (λ x. x ≢ LimitReached)
+pub coming_cut : (r : Result (Option (Option Ask)) BusFault) (f : BusFault) (first w v : World) → r ≡ Err f → Coming first w → has_due w ≡ true → w.fault ≡ None → IfErr r (λ x. x ≢ LimitReached)
     → (r ≡ Err Memory → v ≡ record w { fault = Some Memory }) → (r ≡ Err TraceFailed → v ≡ record (took_first w.left w) { fault = Some TraceFailed })
     → Coming first (record v { fault = None })
 coming_cut (Ok x) f first w v is c h sound other kept cut = cc is

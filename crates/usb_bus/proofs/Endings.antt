@@ -3,7 +3,7 @@ use Rattle.std.proofs.Common.{◌≡◌, Bool, true, false, if◌then◌else◌,
 use Rattle.std.specs.Prelude.{◌==◌}
 use Rattle.std.proofs.lemmas.Bool.{eq-eqb}
 use Rattle.std.proofs.Common.{arith, ℕ}
-use Rattle.usb_world.specs.declared.event.Due.{Due}
+use Rattle.usb_world.specs.declared.event.Ask.{Ask}
 use Rattle.usb_world.specs.declared.types.Attempt.{Attempt}
 use Rattle.usb_world.specs.declared.types.Outcome.{Outcome}
 use Rattle.usb_world.specs.declared.types.BusFault.{BusFault}
@@ -52,7 +52,7 @@ pub made_exact : (r : Result Outcome BusFault) (a : Attempt) (w m : World) → w
 made_exact (Ok o) a w m sound below e = e ∙ made a w sound below
 made_exact (Err x) a w m sound below e = e
 
-pub event_exact : (r : Result (Option Due) BusFault) (w m : World) → w.fault ≡ None → OnOk r (m ≡ took_first w.left w) → OnOk r (m ≡ after event w)
+pub event_exact : (r : Result (Option (Option Ask)) BusFault) (w m : World) → w.fault ≡ None → OnOk r (m ≡ took_first w.left w) → OnOk r (m ≡ after event w)
 unfolding after
 event_exact (Ok o) w m sound e = e ∙ ap (λ o. event_taken o w) (sym sound)
 event_exact (Err x) w m sound e = e
@@ -161,7 +161,7 @@ made_attempts r a w v t s sound below made = record {
 
 -- What an event is, at each of its ends
 
-abbrev untaken : BusFault → Result (Option Due) BusFault
+abbrev untaken : BusFault → Result (Option (Option Ask)) BusFault
 untaken f = Err f
 
 same_fault : (f x : BusFault) → Some f ≡ Some x → untaken f ≡ untaken x
@@ -182,7 +182,7 @@ again_takes w t f told limit = record {
   text = writes_none (untaken f) w w t refl;
 }
 
-event_ends : (r : Result (Option Due) BusFault) (w v : World) → w.fault ≡ None → v.fault ≡ fault_of r → (r ≡ Ok None → (to_come w ≡ 0) × (v ≡ w)) → IfOk r (λ due. IsSome due → v.taken ≡ w.taken + 1) → IfErr r (λ x. x ≢ LimitReached) → EventEnds w r v
+event_ends : (r : Result (Option (Option Ask)) BusFault) (w v : World) → w.fault ≡ None → v.fault ≡ fault_of r → (r ≡ Ok None → (to_come w ≡ 0) × (v ≡ w)) → IfOk r (λ due. IsSome due → v.taken ≡ w.taken + 1) → IfErr r (λ x. x ≢ LimitReached) → EventEnds w r v
 event_ends (Ok None) w v sound told none one other = record { sound = sound; none = (none refl).0; same = (none refl).1 }
 event_ends (Ok (Some due)) w v sound told none one other = record { sound = sound; one = one refl; still = told }
 event_ends (Err f) w v sound told none one other = record { told = told; at_limit = λ e. absurd (other e) }
@@ -194,7 +194,7 @@ never_limit (Err LimitReached) other e = absurd (other refl)
 never_limit (Err Memory) other e = cc e
 never_limit (Err TraceFailed) other e = cc e
 
-pub taken_takes : (r : Result (Option Due) BusFault) (w v : World) (t s : Option (List ℕ)) → w.fault ≡ None → OneEventCame w t r v s → TakesEvent w t r v s
+pub taken_takes : (r : Result (Option (Option Ask)) BusFault) (w v : World) (t s : Option (List ℕ)) → w.fault ≡ None → OneEventCame w t r v s → TakesEvent w t r v s
 taken_takes r w v t s sound came = record {
   took = record { spends = came.spends; ends = event_ends r w v sound came.told came.none came.one came.other; again = λ x h. absurd (cc (sound, h)) };
   asked = came.asked;

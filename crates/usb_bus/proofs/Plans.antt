@@ -5,18 +5,16 @@ use Rattle.std.specs.List.{list_all}
 use Rattle.usb_device.specs.Spec.{Spec}
 use Rattle.usb_world.specs.declared.event.Event.{Event}
 use Rattle.usb_world.specs.declared.event.Action.{Action}
-use Rattle.usb_world.specs.declared.event.Action.TheVariants.{Plug, Unplug, Show, Send, Receive, Clear}
+use Rattle.usb_world.specs.declared.event.Action.TheVariants.{Change, Ask}
+use Rattle.usb_world.specs.declared.event.Change.TheVariants.{Plug, Unplug}
 use Rattle.usb_world.specs.PluggedDevices.{PluggedMap, plugged_after, has_port}
 use Rattle.usb_world.specs.PlanLimits.{after_most}
 use Rattle.usb_world.specs.PlanData.{PlanData, IsPlan, is_taken, action_fits, event_fits, events_fit, can_be_done, can_come}
 
 action_done : (roots : ℕ) (devices : List Spec) (tree : PluggedMap) (a : Action) → action_fits roots devices tree a ≡ true → can_be_done (length devices) a ≡ true
-action_done roots devices tree (Plug path device) h = (and_parts (has_port roots devices tree path && not (is_taken tree path)) (nat_lt device (length devices)) h).1
-action_done roots devices tree (Unplug path) h = refl
-action_done roots devices tree Show h = refl
-action_done roots devices tree (Send path bytes) h = refl
-action_done roots devices tree (Receive path packets) h = refl
-action_done roots devices tree (Clear path) h = refl
+action_done roots devices tree (Change (Plug path device)) h = (and_parts (has_port roots devices tree path && not (is_taken tree path)) (nat_lt device (length devices)) h).1
+action_done roots devices tree (Change (Unplug path)) h = refl
+action_done roots devices tree (Ask ask) h = refl
 
 -- each event of a plan can come
 events_come : (roots : ℕ) (devices : List Spec) (tree : PluggedMap) (events : List Event) → events_fit roots devices tree events ≡ true → list_all (can_come (length devices)) events ≡ true

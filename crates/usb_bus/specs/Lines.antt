@@ -2,11 +2,12 @@
 use Rattle.std.specs.Prelude.{ℕ, ◌+◌, ◌-◌, ◌==◌, if◌then◌else◌, List, [], ◌∷◌, ◌++◌, take, flat_map, map, slice_get, Option, Some, None}
 use Rattle.usb_device.specs.Spec.{Spec}
 use Rattle.usb_world.specs.declared.event.Action.{Action}
-use Rattle.usb_world.specs.declared.event.Action.TheVariants.{Plug, Unplug, Show, Send, Receive, Clear}
-use Rattle.usb_world.specs.declared.event.Due.{Due}
+use Rattle.usb_world.specs.declared.event.Action.TheVariants.{Change, Ask}
+use Rattle.usb_world.specs.declared.event.Change.TheVariants.{Plug, Unplug}
+use Rattle.usb_world.specs.declared.event.Ask.{Ask as Asked}
 use Rattle.usb_world.specs.declared.types.Attempt.{Attempt}
 use Rattle.usb_world.specs.World.{World}
-use Rattle.usb_world.specs.Steps.{ready, made_in, due_of}
+use Rattle.usb_world.specs.Steps.{ready, made_in, ask_of}
 use Rattle.usb_bus.specs.Shown.{shown_name}
 use Rattle.usb_bus.specs.Trace.{plug_line, unplug_line, attempt_line}
 
@@ -16,18 +17,15 @@ shown_names devices = map (λ (d : Spec). shown_name d.name) devices
 
 -- the line of an event, by those names
 unfoldable pub event_line : Action → List (List ℕ) → List ℕ
-event_line (Plug path device) names = elim (slice_get names device) [ None ↦ [] | Some shown ↦ plug_line path shown ++ 10 ∷ [] ]
-event_line (Unplug path) names = unplug_line path ++ 10 ∷ []
-event_line Show names = []
-event_line (Send path bytes) names = []
-event_line (Receive path packets) names = []
-event_line (Clear path) names = []
+event_line (Change (Plug path device)) names = elim (slice_get names device) [ None ↦ [] | Some shown ↦ plug_line path shown ++ 10 ∷ [] ]
+event_line (Change (Unplug path)) names = unplug_line path ++ 10 ∷ []
+event_line (Ask ask) names = []
 
 abbrev pub action_line : Action → List Spec → List ℕ
 action_line action devices = event_line action (shown_names devices)
 
-unfoldable pub next_due : World → Option Due
-next_due w = elim w.left [ [] ↦ None | e ∷ events ↦ Some (due_of e.action) ]
+unfoldable pub next_due : World → Option (Option Asked)
+next_due w = elim w.left [ [] ↦ None | e ∷ events ↦ Some (ask_of e.action) ]
 
 -- the lines of the events that came between two worlds
 unfoldable pub lines_between : World → World → List ℕ

@@ -1,7 +1,7 @@
 -- The parts of an attempt of a simulated bus: each event that is due, all of them, and the attempt behind them.
 use Rattle.std.specs.Prelude.{◌≡◌, ◌≢◌, ℕ, ◌+◌, List, Option, None, Some, Result, Ok, Err, OnOk, OnErr, IfOk, IfErr, IsSome}
 use Rattle.usb_world.specs.declared.types.Attempt.{Attempt}
-use Rattle.usb_world.specs.declared.event.Due.{Due}
+use Rattle.usb_world.specs.declared.event.Ask.{Ask}
 use Rattle.usb_world.specs.declared.types.BusFault.{BusFault}
 use Rattle.usb_world.specs.declared.types.BusFault.TheVariants.{LimitReached, Memory, TraceFailed}
 use Rattle.usb_world.specs.declared.types.Outcome.{Outcome}
@@ -14,7 +14,7 @@ use Rattle.usb_bus.specs.Sim.{world_of, tracer_of}
 use Rattle.usb_bus.specs.Watch.{WritesText}
 
 -- the next event came, if one was left; or memory was refused and it did not come, or its line was not written
-pub record OneEventCame (old : World) (before : Option (List ℕ)) (result : Result (Option Due) BusFault) (new : World) (now : Option (List ℕ)) : Type 0 where
+pub record OneEventCame (old : World) (before : Option (List ℕ)) (result : Result (Option (Option Ask)) BusFault) (new : World) (now : Option (List ℕ)) : Type 0 where
   pub spends : Spends 0 old new
   pub told : new.fault ≡ fault_of result
   pub none : result ≡ Ok None → (to_come old ≡ 0) × (new ≡ old)

@@ -2,7 +2,7 @@
 use Rattle.std.specs.Prelude.{◌≡◌, ℕ, List, Option, None, Some, Result, Err, OnOk, IfOk, IsSome}
 use Rattle.usb_port.specs.declared.call.PortCall.{PortCall}
 use Rattle.usb_world.specs.declared.types.Attempt.{Attempt}
-use Rattle.usb_world.specs.declared.event.Due.{Due}
+use Rattle.usb_world.specs.declared.event.Ask.{Ask}
 use Rattle.usb_world.specs.declared.types.BusFault.{BusFault}
 use Rattle.usb_world.specs.declared.types.BusFault.TheVariants.{LimitReached, Memory, TraceFailed}
 use Rattle.usb_world.specs.declared.types.Outcome.{Outcome}
@@ -20,7 +20,7 @@ pub record Attempts (a : Attempt) (old : World) (before : Option (List ℕ)) (re
   pub text : WritesText result before now (step_lines a old new)
 
 -- the next event came at once, or the bus told its fault: what is so of the world then, and what was written
-pub record TakesEvent (old : World) (before : Option (List ℕ)) (result : Result (Option Due) BusFault) (new : World) (now : Option (List ℕ)) : Type 0 where
+pub record TakesEvent (old : World) (before : Option (List ℕ)) (result : Result (Option (Option Ask)) BusFault) (new : World) (now : Option (List ℕ)) : Type 0 where
   pub took : TookEvent old result new
   pub asked : IfOk result (λ due. due ≡ next_due old)
   pub exact : OnOk result (new ≡ after event old)

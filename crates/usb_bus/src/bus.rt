@@ -2,9 +2,8 @@ ghost use Rattle.std.specs.Prelude.{◌≡◌, ◌≤◌, ℕ, List, Option, Non
 ghost use Rattle.usb_port.specs.PortState.{status_of};
 ghost use Rattle.usb_port.specs.Calls.{IsSetFeature, IsClearFeature};
 ghost use Rattle.usb_world.specs.World.{World, IsAttempt, IsRootPort, root_port_at, roots_of};
-ghost use Rattle.usb_world.specs.Steps.{SetsRoot, ClearsRoot};
+ghost use Rattle.usb_world.specs.Steps.{IsBetween, SetsRoot, ClearsRoot};
 ghost use Rattle.usb_world.specs.AttemptPackets.{IsSettled};
-ghost use Rattle.usb_world.specs.SanePorts.{IsSane};
 ghost use Rattle.usb_bus.specs.Traces.{Attempts};
 
 use crate::{Attempt, BusFault, Outcome};
@@ -18,10 +17,6 @@ pub trait Bus {
     ghost modelled: { Bool };
 
     /// The world that the bus stands for.
-    ///
-    /// As long as no fault was told, each port is sane: what is attached is what is plugged there, an enabled port is
-    /// powered and has something attached, and only a powered port tells of a change (11.5); and each device that is
-    /// plugged is as the rules say.
     ghost world: { Self → World };
 
     /// The text that its trace has, where that is known. Each attempt that is made, and each plug and unplug that comes,
@@ -37,10 +32,7 @@ pub trait Bus {
     fn attempt(&mut self, attempt: &Attempt) -> Result<Outcome, BusFault>
         requires { IsAttempt attempt.now }
         ensures attempts { modelled ≡ true → Attempts attempt.now (world self.old) (trace self.old)
-            result (world self.new) (trace self.new) }
-        ensures settled { modelled ≡ true → IsSettled (world self.old).roots }
-        ensures sane { modelled ≡ true → (world self.old).fault ≡ None
-            → IsSane (world self.old).roots };
+            result (world self.new) (trace self.new) };
 
     /// The number of root ports, 1 to 7.
     fn root_ports(&self) -> u8
@@ -58,16 +50,20 @@ pub trait Bus {
         requires port { modelled ≡ true → IsRootPort (world self.old) port }
         requires named { IsSetFeature feature }
         ensures call { modelled ≡ true → SetsRoot port feature (world self.old) (world self.new) }
-        ensures silent { modelled ≡ true → trace self.new ≡ trace self.old }
-        ensures sane { modelled ≡ true → (world self.old).fault ≡ None
-            → IsSane (world self.old).roots };
+        ensures silent { modelled ≡ true → trace self.new ≡ trace self.old };
 
     /// Clears a feature of a root port (11.24.2.2).
     fn root_clear(&mut self, port: u8, feature: u16)
         requires port { modelled ≡ true → IsRootPort (world self.old) port }
         requires named { IsClearFeature feature }
         ensures call { modelled ≡ true → ClearsRoot port feature (world self.old) (world self.new) }
-        ensures silent { modelled ≡ true → trace self.new ≡ trace self.old }
-        ensures sane { modelled ≡ true → (world self.old).fault ≡ None
-            → IsSane (world self.old).roots };
+        ensures silent { modelled ≡ true → trace self.new ≡ trace self.old };
+
+    /// A law: between two calls no device of the world remembers a packet.
+    ghost settled: { modelled ≡ true → (s : Self) → IsSettled (world s).roots };
+
+    /// A law: as long as no fault was told, each port is sane besides: what is attached is what is plugged there, an
+    /// enabled port is powered and has something attached, and only a powered port tells of a change (11.5); and each
+    /// device is as the rules say.
+    ghost between: { modelled ≡ true → (s : Self) → (world s).fault ≡ None → IsBetween (world s) };
 }

@@ -44,7 +44,7 @@ pub use shown::ends_line;
 pub use sim::SimBus;
 pub use tracer::{Trace, Tracer, Untraced};
 pub use usb_world::{
-    Action, Attempt, BusFault, Damage, Damages, Due, Event, Events, Exchange, Harm, Outcome, Plan,
-    SentBytes,
+    Action, Ask, Attempt, BusFault, Change, Damage, Damages, Event, Events, Exchange, Harm,
+    Outcome, Plan, SentBytes,
 };
-pub use watched::{Watched, WriteFailed, put_piece};
+pub use watched::{Watched, WriteFailed, put_piece, put_pieces};

@@ -159,7 +159,7 @@ pub fn put_piece<W: Write>(writer: &mut Watched<W>, piece: &[u8]) -> Result<(), 
 /// # Errors
 ///
 /// A write failed: the writer is marked, and what went out is a front of all of them.
-pub(crate) fn put_pieces<W: Write>(
+pub fn put_pieces<W: Write>(
     writer: &mut Watched<W>,
     pieces: &[&[u8]],
 ) -> Result<(), WriteFailed>

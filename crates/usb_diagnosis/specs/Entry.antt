@@ -1,24 +1,21 @@
 -- The keys of an entry, as the plan's reader takes them.
-use Rattle.std.specs.Prelude.{ℕ, codes, List, [], ◌∷◌, Option, Some, None, if◌then◌else◌}
-use Rattle.std.specs.Str.{bytes_eq}
+use Rattle.std.specs.Prelude.{ℕ, codes, List, [], ◌∷◌, Option, Some, None, Ok, Err}
 use Rattle.toml.specs.Data.{Data, Members, get_member, as_str}
-use Rattle.usb_plan.specs.Action.{event_keys}
+use Rattle.usb_plan.specs.Action.{event_keys, other_names}
 use Rattle.usb_plan.specs.Damage.{damage_keys}
 use Rattle.usb_plan.specs.Device.{device_keys}
 use Rattle.usb_plan.specs.Plan.{top_keys}
+use Rattle.usb_plan.specs.Verb.{other_keys, verb_named}
 use Rattle.usb_plan.specs.declared.fault.Place.{Place}
 use Rattle.usb_plan.specs.declared.fault.Place.TheVariants.{Top, Device, Event, Damage}
 
 -- the keys that go with an event's `do`; of an event with another one nothing else is looked at
 abbrev pub verb_keys : List ℕ → List (List ℕ)
 verb_keys verb =
-    if bytes_eq verb (codes "plug") then event_keys (codes "path" ∷ codes "device" ∷ [])
-    else if bytes_eq verb (codes "unplug") then event_keys (codes "path" ∷ [])
-    else if bytes_eq verb (codes "show") then event_keys []
-    else if bytes_eq verb (codes "send") then event_keys (codes "path" ∷ codes "bytes" ∷ [])
-    else if bytes_eq verb (codes "receive") then event_keys (codes "path" ∷ codes "packets" ∷ [])
-    else if bytes_eq verb (codes "clear") then event_keys (codes "path" ∷ [])
-    else codes "do" ∷ []
+    elim (verb_named verb) [
+      | Ok named ↦ event_keys (other_names (other_keys named))
+      | Err fault ↦ codes "do" ∷ []
+    ]
 
 abbrev pub keys_with : Option (List ℕ) → List (List ℕ)
 keys_with None = codes "do" ∷ []

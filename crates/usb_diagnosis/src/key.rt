@@ -263,6 +263,7 @@ impl PlanKey {
 }
 
 /// The keys that go with an event's `do`.
+#[tactic(auto, unfolding(usb_plan::specs::Verb::verb_named, usb_plan::specs::Verb::other_keys))]
 fn verb_keys(verb: &str) -> &'static [PlanKey]
     ensures { map key_name result.now ≡ verb_keys verb.now }
 {

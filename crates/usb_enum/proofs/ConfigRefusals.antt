@@ -25,9 +25,8 @@ use Rattle.usb_enum.specs.Readings.{AtMaximum, HasTotal, HasConfiguration, HasCo
 use Rattle.usb_enum.specs.Refusals.{Refuses}
 use Rattle.usb_enum.specs.Stop.{answered_or}
 use Rattle.usb_enum.specs.Text.{config_text_of, any_has_value}
-use Rattle.usb_enum.proofs.Hubs.{answered_ok}
 use Rattle.usb_enum.proofs.Readings.{given_allows, learns_on, text_learned}
-use Rattle.usb_enum.proofs.Refusals.{learned_explains, fault_explains, explains_on, request_refused}
+use Rattle.usb_enum.proofs.Refusals.{answered_ok, learned_explains, fault_explains, explains_on, request_refused}
 use Rattle.usb_enum.proofs.VerdictRows.{first_is}
 
 -- One configuration

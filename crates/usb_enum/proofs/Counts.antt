@@ -1,12 +1,12 @@
 -- How what went in the parts of an enumeration joins.
 use Rattle.std.proofs.Common.{subst, arith}
 use Rattle.std.proofs.Math.Nat.{mul-le-mul_right, suc-mul}
-use Rattle.std.specs.Prelude.{ℕ, ◌+◌, ◌*◌, ◌<◌, ◌≤◌, List, Option}
+use Rattle.std.specs.Prelude.{ℕ, ◌+◌, ◌*◌, ◌≤◌, List, Option}
 use Rattle.usb_world.specs.World.{World}
 use Rattle.usb_bus.specs.Traces.{WentOn}
 use Rattle.usb_bus.proofs.Interface.{went_then, went_wider}
 use Rattle.usb_pipe.specs.Control.{control_bound}
-use Rattle.usb_enum.specs.Bounds.{read_bound, configuration_bound}
+use Rattle.usb_enum.specs.Bounds.{read_bound}
 use Rattle.usb_pipe.proofs.Interface.{bound_wide}
 
 pub went_on : (k m n : ℕ) (a b c : World) {t r s : Option (List ℕ)} → WentOn m a t b r → WentOn n b r c s → m + n ≤ k → WentOn k a t c s
@@ -15,10 +15,6 @@ went_on k m n a b c p q le = went_wider (m + n) k (went_then m n p q) le
 -- a transfer that reads, at a maximum packet of 8 or more
 pub read_went : (max bytes : ℕ) (a b : World) {t s : Option (List ℕ)} → 8 ≤ max → WentOn (control_bound max bytes) a t b s → WentOn (read_bound bytes) a t b s
 read_went max bytes a b {t} {s} wide p = subst (λ n. WentOn n a t b s) (bound_wide max bytes wide) p
-
--- the head of a configuration, then its text
-pub text_went : (max total : ℕ) (a b c : World) {t r s : Option (List ℕ)} → 8 ≤ max → total ≤ 65535 → WentOn (read_bound 9) a t b r → WentOn (control_bound max total) b r c s → WentOn configuration_bound a t c s
-text_went max total a b c wide le p q = went_on configuration_bound (read_bound 9) (read_bound total) a b c p (read_went max total b c wide q) (omega arith)
 
 one_more_time : (k n : ℕ) → k * n + n ≤ (k + 1) * n
 one_more_time k n = omega (arith, suc-mul k n)
@@ -30,7 +26,3 @@ went_again k n a b c p q = went_on ((k + 1) * n) (k * n) n a b c p q (one_more_t
 -- and no more of them than there may be
 pub went_times : (k m n : ℕ) (a b : World) {t s : Option (List ℕ)} → WentOn (k * n) a t b s → k ≤ m → WentOn (m * n) a t b s
 went_times k m n a b p le = went_wider (k * n) (m * n) p (mul-le-mul_right n le)
-
--- one more of so many
-pub went_more : (k m n : ℕ) (a b c : World) {t r s : Option (List ℕ)} → WentOn (k * n) a t b r → WentOn n b r c s → k < m → WentOn (m * n) a t c s
-went_more k m n a b c p q less = went_times (k + 1) m n a c (went_again k n a b c p q) (omega (arith, less))

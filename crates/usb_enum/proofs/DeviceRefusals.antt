@@ -38,14 +38,15 @@ use Rattle.usb_enum.specs.declared.stop.Stop.{Stop}
 use Rattle.usb_enum.specs.declared.stop.Stop.TheVariants.{Refused}
 use Rattle.usb_enum.specs.Device.{is_device, device_bytes}
 use Rattle.usb_enum.specs.LearnedFacts.{Explains}
+use Rattle.usb_enum.specs.Parts.{Both, StopsDescriptor}
 use Rattle.usb_enum.specs.PresentDevices.{AnswersSo, HasDescriptor}
 use Rattle.usb_enum.specs.Readings.{AtMaximum}
+use Rattle.usb_enum.specs.Reasons.{DescriptorRead, DescriptorTold, bad_front}
 use Rattle.usb_enum.specs.Refusals.{IsResponsive, IsRefusedFor, Refuses, FindsDescriptor, RefusesDescriptor, head_fault, device_fault}
 use Rattle.usb_enum.specs.Stop.{stop_of, answered_or}
 use Rattle.usb_enum.proofs.Heads.{answered}
-use Rattle.usb_enum.proofs.Hubs.{answered_ok}
 use Rattle.usb_enum.proofs.Stretches.{device_goes}
-use Rattle.usb_enum.proofs.Refusals.{Fails, answered_err, learned_explains, failure_explains, stop_explains, request_refused}
+use Rattle.usb_enum.proofs.Refusals.{answered_ok, Fails, answered_err, learned_explains, failure_explains, stop_explains, request_refused}
 
 device_stalls : {X : Type 0} (refused : Bool) (given : X) → unless_refused refused (Some given) ≡ None → refused ≡ true
 device_stalls true given none = refl
@@ -178,11 +179,15 @@ short_device low bytes short =
     ap (is_device low) (take_all 18 bytes (omega (arith, short))) ∙ ap (λ b. is_ok (if b then Err Short else device_after (device_head_of low bytes) bytes)) less
 
 -- by the bytes that were read
-pub descriptor_found : (t : Target) (front : List ℕ) (old new : World) → AnswersSo (AtMaximum t (HasDescriptor front)) t old new → (is_device t.low front ≡ false → RefusesDescriptor t (Refused BadDevice) old new)
-    → MatchResult (device_bytes t.low front) (FindsDescriptor t old new) (λ stop. RefusesDescriptor t stop old new)
-descriptor_found t front old new found bad = split (is_device t.low front) refl
+pub device_read : (t : Target) (front : List ℕ) (old new : World) → DescriptorRead t front old new
+    → AnswersSo (AtMaximum t (HasDescriptor front)) t old new
+    → (is_device t.low front ≡ false → RefusesDescriptor t (Refused BadDevice) old new)
+    → MatchResult (device_bytes t.low front) (Both (DescriptorTold t) (FindsDescriptor t) old new)
+    (StopsDescriptor t old new)
+device_read t front old new read found bad = split (is_device t.low front) refl
   where
     split : (is : Bool) → is_device t.low front ≡ is
-        → MatchResult (if is then Ok (Some front) else Err (Refused BadDevice)) (FindsDescriptor t old new) (λ stop. RefusesDescriptor t stop old new)
-    split true e = found
-    split false e = bad e
+        → MatchResult (if is then Ok (Some front) else Err (Refused BadDevice))
+        (Both (DescriptorTold t) (FindsDescriptor t) old new) (StopsDescriptor t old new)
+    split true e = record { told = read; so = found }
+    split false e = record { told = bad_front front read e; so = bad e }

@@ -166,8 +166,8 @@ sets_told address old new a = record {
 pub sets_asked : (address : ℕ) (old new : World) → OnlyAsks old new → OnlySets address old new
 sets_asked address old new a = sets_told address old new (tells_asked address old new a)
 
-pub sets_at : (m n : ℕ) (old new : World) → m ≡ n → OnlySets m old new → OnlySets n old new
-sets_at m n old new same sets = subst (λ a. OnlySets a old new) same sets
+pub sets_at : {m n : ℕ} → m ≡ n → (old new : World) → OnlySets m old new → OnlySets n old new
+sets_at same old new sets = subst (λ a. OnlySets a old new) same sets
 
 but_then : (address : ℕ) (j : Spot) (s u v : State) → StaysBut address j s u → StaysBut address j u v → StaysBut address j s v
 but_then address j s u v x y = record {

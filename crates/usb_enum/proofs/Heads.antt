@@ -25,7 +25,7 @@ use Rattle.usb_enum.specs.LearnedFacts.{Learned}
 use Rattle.usb_enum.specs.PresentDevices.{AnswersSo, HasHead, HasDescriptor}
 use Rattle.usb_enum.specs.Readings.{AtMaximum}
 use Rattle.usb_enum.specs.Stop.{answered_or}
-use Rattle.usb_enum.proofs.Hubs.{answered_ok}
+use Rattle.usb_enum.proofs.Refusals.{answered_ok}
 use Rattle.usb_enum.proofs.Readings.{given_allows}
 use Rattle.usb_enum.proofs.Targets.{head_maximum}
 

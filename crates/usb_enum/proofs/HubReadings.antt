@@ -25,7 +25,7 @@ use Rattle.usb_enum.specs.Device.{is_hub_device}
 use Rattle.usb_enum.specs.LearnedFacts.{Learns}
 use Rattle.usb_enum.specs.Readings.{AtMaximum, Ruled, HasPorts, HasSupply, IsGoodHub}
 use Rattle.usb_enum.specs.Stop.{answered_or}
-use Rattle.usb_enum.proofs.Hubs.{answered_ok}
+use Rattle.usb_enum.proofs.Refusals.{answered_ok}
 use Rattle.usb_enum.proofs.Readings.{given_allows, answer_learned, text_learned, learns_on, learns_kept}
 
 pub ports_learned : (t : Target) (stalled : Cause) (outcome : Result (Vec ℕ) PipeFault) (bytes : Vec ℕ) (hub : List ℕ) (old new : World) → answered_or stalled outcome ≡ Ok bytes → Ok hub ≡ hub_spelled bytes.items → hub ≡ bytes.items

@@ -21,9 +21,8 @@ use Rattle.usb_enum.specs.LearnedFacts.{Explains}
 use Rattle.usb_enum.specs.Readings.{AtMaximum}
 use Rattle.usb_enum.specs.Refusals.{Refuses, hub_fault}
 use Rattle.usb_enum.specs.Stop.{answered_or}
-use Rattle.usb_enum.proofs.Hubs.{answered_ok}
 use Rattle.usb_enum.proofs.Readings.{given_allows, text_learned}
-use Rattle.usb_enum.proofs.Refusals.{learned_explains, request_refused}
+use Rattle.usb_enum.proofs.Refusals.{answered_ok, learned_explains, request_refused}
 
 not_all : (a b c : Bool) → a ≡ false → (a && b && c) ≡ false
 not_all true b c h = absurd cc

@@ -19,6 +19,7 @@ use Rattle.usb_enum.specs.Hub.{CountTold, IsPowered, Powered}
 use Rattle.usb_enum.specs.Reasons.{ToldAtStart}
 use Rattle.usb_enum.specs.Stop.{ToldOfDevice, answered_or}
 use Rattle.usb_enum.proofs.Reasons.{because_plain}
+use Rattle.usb_enum.proofs.Refusals.{answered_ok}
 use Rattle.usb_enum.proofs.ToldFailures.{plain_fits}
 
 -- what a port of a hub gives
@@ -39,11 +40,6 @@ pub told_of_hub : (tier : ℕ) (bytes : List ℕ) (stop : Stop) (t : Target) (te
 told_of_hub tier bytes (Refused why) t text old new fits is (inl bad) = rw bad.0 (not_last tier bytes is fits)
 told_of_hub tier bytes (Refused why) t text old new fits is (inr b) = plain_fits tier why (because_plain why t old new b)
 told_of_hub tier bytes (Fault fault) t text old new fits is told = told
-
--- what was answered
-pub answered_ok : {X : Type 0} (stalled : Cause) (outcome : Result X PipeFault) (answer : X) → answered_or stalled outcome ≡ Ok answer → outcome ≡ Ok answer
-answered_ok stalled (Ok given) answer is = cc
-answered_ok stalled (Err fault) answer is = absurd cc
 
 -- the descriptor that a hub told
 pub count_told : (hub : Target) (stalled : Cause) (outcome : Result (Vec ℕ) PipeFault) (bytes : Vec ℕ) (view : List ℕ) (old new : World) → answered_or stalled outcome ≡ Ok bytes → AskedData hub get_hub_descriptor old outcome new → Ok view ≡ hub_spelled bytes.items → view ≡ bytes.items → CountTold hub old new (port_count view)

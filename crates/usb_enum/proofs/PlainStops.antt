@@ -1,6 +1,6 @@
 -- What a stop is, whatever the bus does.
 use Rattle.std.proofs.Common.{◌≡◌, inl, inr, ℕ, ◌==◌, ◌&&◌, Bool, true, false, if◌then◌else◌, List, Some, Result, Ok, Err, refl, subst, sym, ◌∙◌}
-use Rattle.std.specs.Prelude.{IfErr, IfOk, IfSome, IsErrAnd, MatchResult, unwrap_or}
+use Rattle.std.specs.Prelude.{IfOk, IfSome, IsErrAnd, MatchResult, unwrap_or}
 use Rattle.usb_resources.specs.Pool.{Addresses, IsFull}
 use Rattle.usb_pipe.specs.declared.fault.PipeFault.{PipeFault}
 use Rattle.usb_pipe.specs.declared.fault.PipeFault.TheVariants as pipe
@@ -89,17 +89,6 @@ device_good low bytes = split (is_device low bytes) refl
     split : (is : Bool) → is_device low bytes ≡ is → MatchResult (if is then Ok (Some bytes) else Err (Refused cause.BadDevice)) (λ found. IfSome found (λ good. is_device low good ≡ true)) IsPlainStop
     split true e = e
     split false e = tt
-
--- Where the premise holds
-
-pub known_stops : {modelled : Bool} {A : Type 0} → modelled ≡ true → (result : Result A Stop) (P : A → Type 0) (Fits Told : Stop → Type 0) → MatchResult result P (λ stop. Fits stop × (modelled ≡ true → Told stop)) → MatchResult result P Told
-known_stops known (Ok x) P Fits Told ends = ends
-known_stops known (Err stop) P Fits Told ends = ends.1 known
-
-pub stops_known : {modelled : Bool} {A : Type 0} (result : Result A Stop) (P : A → Type 0) (Fits Told Then : Stop → Type 0) → MatchResult result P (λ stop. Fits stop × (modelled ≡ true → Told stop)) → (modelled ≡ true → MatchResult result P Told → IfErr result Then)
-    → MatchResult result P (λ stop. Fits stop × (modelled ≡ true → Then stop))
-stops_known (Ok x) P Fits Told Then ends next = ends
-stops_known (Err stop) P Fits Told Then ends next = (ends.0, λ known. next known (ends.1 known))
 
 -- the second of two
 pub whole_only : {A E : Type 0} (result : Result A E) (P Q : A → Type 0) → IfOk result (λ x. P x × Q x) → IfOk result Q

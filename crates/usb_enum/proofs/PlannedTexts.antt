@@ -12,7 +12,8 @@ use Rattle.usb_device.specs.Rows.{State}
 use Rattle.usb_device.specs.SaidLengths.{said_lengths}
 use Rattle.usb_device.specs.View.{state_there}
 use Rattle.usb_world.specs.declared.event.Action.{Action}
-use Rattle.usb_world.specs.declared.event.Action.TheVariants.{Plug, Unplug, Show, Send, Receive, Clear}
+use Rattle.usb_world.specs.declared.event.Action.TheVariants.{Change, Ask}
+use Rattle.usb_world.specs.declared.event.Change.TheVariants.{Plug, Unplug}
 use Rattle.usb_world.specs.declared.event.Event.{Event}
 use Rattle.usb_world.specs.PlanCourses.{spec_of}
 use Rattle.usb_world.specs.PluggedDevices.{PluggedMap, index_at, device_indexed, plugged_after, plugged_by, plugged_without}
@@ -59,12 +60,9 @@ PluggedWithin most devices index = IfSome (slice_get devices index) (λ spec. sa
 module _ (most : ℕ) (devices : List Spec) where
   indexed_after : (action : Action) (tree : PluggedMap) → PlugsWithin most devices action → EachPlugged (PluggedWithin most devices) tree → EachPlugged (PluggedWithin most devices) (plugged_after action tree)
   unfolding plugged_without
-  indexed_after (Plug path device) tree so each = inserted (PluggedWithin most devices) tree path device so each
-  indexed_after (Unplug path) tree so each = filtered (PluggedWithin most devices) (λ place. not (starts_with nat_eq place.0 path)) tree each
-  indexed_after Show tree so each = each
-  indexed_after (Send path bytes) tree so each = each
-  indexed_after (Receive path packets) tree so each = each
-  indexed_after (Clear path) tree so each = each
+  indexed_after (Change (Plug path device)) tree so each = inserted (PluggedWithin most devices) tree path device so each
+  indexed_after (Change (Unplug path)) tree so each = filtered (PluggedWithin most devices) (λ place. not (starts_with nat_eq place.0 path)) tree each
+  indexed_after (Ask ask) tree so each = each
 
   indexed_by : (n : ℕ) (events : List Event) (tree : PluggedMap) → All (λ e. PlugsWithin most devices e.action) events → EachPlugged (PluggedWithin most devices) tree → EachPlugged (PluggedWithin most devices) (plugged_by tree (take n events))
   unfolding plugged_by

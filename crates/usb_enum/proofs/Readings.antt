@@ -22,7 +22,7 @@ use Rattle.usb_enum.specs.LearnedFacts.{Learned, Learns}
 use Rattle.usb_enum.specs.Readings.{AtMaximum, HasTotal, HasConfiguration, HasConfigurations}
 use Rattle.usb_enum.specs.Stop.{answered_or}
 use Rattle.usb_enum.specs.Text.{config_text_of, any_has_value}
-use Rattle.usb_enum.proofs.Hubs.{answered_ok}
+use Rattle.usb_enum.proofs.Refusals.{answered_ok}
 use Rattle.usb_enum.proofs.LearnedFacts.{learns_then, learns_wider}
 use Rattle.usb_enum.proofs.SharedAddresses.{went_unshared}
 use Rattle.usb_enum.proofs.VerdictRows.{first_none}

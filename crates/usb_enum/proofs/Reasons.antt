@@ -1,6 +1,6 @@
 -- How the reasons of a stop come from answers, and how they join.
 use Rattle.std.proofs.Common.{◌≡◌, ◌≢◌, ◌⊎◌, inl, inr, ℕ, ◌==◌, Bool, true, false, if◌then◌else◌, List, length, Some, Result, Ok, Err, refl, sym, subst, ◌∙◌}
-use Rattle.std.specs.Prelude.{unwrap_or, IfErr, MatchResult}
+use Rattle.std.specs.Prelude.{unwrap_or, IfErr, MatchResult, ⊤}
 use Rattle.std.specs.Global.{Vec}
 use Rattle.usb_request.specs.declared.setup.Setup.{Setup}
 use Rattle.usb_request.specs.Requests.{get_status}
@@ -15,7 +15,7 @@ use Rattle.usb_pipe.specs.Stages.{Reads, WasRead, Writes}
 use Rattle.usb_hub.specs.declared.port.HubPort.{HubPort}
 use Rattle.usb_hub.specs.declared.status.DeviceStatus.{DeviceStatus}
 use Rattle.usb_hub.specs.Port.{PortCleared, PortRead, PortSet}
-use Rattle.usb_hub.specs.Requests.{EndsAfter, Told, device_status, said_in}
+use Rattle.usb_hub.specs.Requests.{AskedData, EndsAfter, Ordered, Told, device_status, said_in}
 use Rattle.usb_enum.specs.declared.cause.Cause.{Cause}
 use Rattle.usb_enum.specs.declared.cause.Cause.TheVariants as cause
 use Rattle.usb_enum.specs.declared.cause.Request.{Request}
@@ -23,13 +23,12 @@ use Rattle.usb_enum.specs.declared.fault.EnumFault.{EnumFault}
 use Rattle.usb_enum.specs.declared.fault.EnumFault.TheVariants as fault
 use Rattle.usb_enum.specs.declared.stop.Stop.{Stop}
 use Rattle.usb_enum.specs.declared.stop.Stop.TheVariants.{Refused, Fault}
-use Rattle.usb_enum.specs.Device.{device_bytes, is_device}
 use Rattle.usb_enum.specs.LastRequests.{Leads}
-use Rattle.usb_enum.specs.Reasons.{FailsAs, EndsFailing, EndsReading, IsAny, IsNamed, DescriptorRead, DescriptorTold, TextRead, BadDescriptor, bad_head, bad_front, BadText, bad_total, bad_text, repeated, Because, StopTold}
+use Rattle.usb_enum.specs.Reasons.{FailsAs, EndsFailing, EndsReading, IsAny, IsNamed, DescriptorRead, TextRead, BadDescriptor, bad_head, bad_front, BadText, bad_total, bad_text, repeated, Because, StopTold}
 use Rattle.usb_enum.specs.Reasons.{HubFails, no_descriptor, bad_descriptor, no_status, no_power, ToldOfHub, ToldAtStart, PortFails, FaultBy, IsSpokenTo, RefusedEarly, answered, not_enabled, StopToldAt, NoAnswerTold}
 use Rattle.usb_enum.specs.Stop.{CanFail, FaultAt, FaultTold, IsPlain, StopFaults, StopToldIn, StopToldWithout, answered_or, at_port, stop_of}
 use Rattle.usb_enum.proofs.LastRequests.{leads_none, leads_then}
-use Rattle.usb_enum.proofs.Refusals.{answered_err}
+use Rattle.usb_enum.proofs.Refusals.{answered_err, answered_ok}
 use Rattle.usb_enum.proofs.ToldFailures.{clear_fails, plain_fits, read_fails, set_fails}
 
 -- Requests
@@ -53,12 +52,12 @@ pub text_after : {t : Target} {index : ℕ} {text : List ℕ} {old mid new : Wor
 text_after led got = record { size = got.size; read = reading_after led got.read }
 
 -- a request that was answered
-pub was_read : (t : Target) (setup : Setup) (stalled : Cause) (outcome : Result (Vec ℕ) PipeFault) (bytes : Vec ℕ) (old new : World) → answered_or stalled outcome ≡ Ok bytes → Reads t setup old outcome new → EndsReading t setup bytes.items old new
-was_read t setup stalled (Ok given) bytes old new is stages = subst (λ (b : Vec ℕ). EndsReading t setup b.items old new) (same given bytes is) (reading stages)
-  where
-    same : (a b : Vec ℕ) → (let r : Result (Vec ℕ) Stop = Ok a in r ≡ Ok b) → a ≡ b
-    same a b e = cc
-was_read t setup stalled (Err why) bytes old new is stages = absurd cc
+pub was_read : {t : Target} {setup : Setup} {outcome : Result (Vec ℕ) PipeFault} {old new : World}
+    (stalled : Cause) (bytes : Vec ℕ) → answered_or stalled outcome ≡ Ok bytes
+    → AskedData t setup old outcome new → EndsReading t setup bytes.items old new
+was_read {t} {setup} {outcome} {old} {new} stalled bytes is asked =
+    reading (subst (λ r. Reads t setup old r new) (answered_ok stalled outcome bytes is)
+    asked.stages)
 
 -- What an answer is told as
 
@@ -79,7 +78,7 @@ stop_by {A} P Failed_as stalled outcome stop m n old new is failed ends by_stall
     by pipe.Memory failed_so after = by_fault fault.Memory tt
 
 -- of a request that a refusal names
-pub stop_told : {A : Type 0} (t : Target) (setup : Setup) (named : Request) (outcome : Result A PipeFault) (stop : Stop) (m n : ℕ) (old new : World) → answered_or (cause.Stalled named) outcome ≡ Err stop → IsNamed named setup
+stop_told : {A : Type 0} (t : Target) (setup : Setup) (named : Request) (outcome : Result A PipeFault) (stop : Stop) (m n : ℕ) (old new : World) → answered_or (cause.Stalled named) outcome ≡ Err stop → IsNamed named setup
     → ((why : PipeFault) → outcome ≡ Err why → FailsAs t setup why old new) → MatchResult outcome (λ _. Worked m old new) (λ why. FaultAfter n old why new) → StopTold t stop old new
 stop_told t setup named outcome stop m n old new is names failed ends =
     stop_by (λ s. StopTold t s old new) (λ why. FailsAs t setup why old new) (cause.Stalled named) outcome stop m n old new is failed ends
@@ -98,6 +97,23 @@ reads_failed t setup outcome old new stages why is = inl (subst (λ r. Reads t s
 
 pub writes_failed : (t : Target) (setup : Setup) (outcome : Result (Unit {0}) PipeFault) (old new : World) → Writes t setup old outcome new → (why : PipeFault) → outcome ≡ Err why → FailsAs t setup why old new
 writes_failed t setup outcome old new stages why is = inr (subst (λ r. Writes t setup old r new) is stages)
+
+-- so it is of one for data, and of one without
+pub read_told : {t : Target} {setup : Setup} {outcome : Result (Vec ℕ) PipeFault} {old new : World}
+    (named : Request) (stop : Stop) → IsNamed named setup
+    → answered_or (cause.Stalled named) outcome ≡ Err stop → AskedData t setup old outcome new
+    → StopTold t stop old new
+read_told {t} {setup} {outcome} {old} {new} named stop names is asked =
+    stop_told t setup named outcome stop 3 1 old new is names
+    (reads_failed t setup outcome old new asked.stages) asked.ends
+
+pub write_told : {t : Target} {setup : Setup} {outcome : Result (Unit {0}) PipeFault}
+    {old new : World} (named : Request) (stop : Stop) → IsNamed named setup
+    → answered_or (cause.Stalled named) outcome ≡ Err stop → Ordered t setup old outcome new
+    → StopTold t stop old new
+write_told {t} {setup} {outcome} {old} {new} named stop names is ordered =
+    stop_told t setup named outcome stop 2 1 old new is names
+    (writes_failed t setup outcome old new ordered.stages) ordered.ends
 
 -- of the status, which may have another length
 
@@ -260,6 +276,20 @@ pub cleared_by : (port : HubPort) (feature : ℕ) (outcome : Result (Unit {0}) P
     → IfErr (at_port outcome) (λ why. FaultBy port why old new)
 cleared_by port feature outcome old new ends cleared = called_by port outcome old new ends (λ why is. inr (feature, inr (subst (λ r. PortCleared port feature old r new) is cleared)))
 
+-- how a call at the port ends
+pub call_ends : {A : Type 0} (port : HubPort) (result : Result A EnumFault)
+    (outcome : Result A PipeFault) (old new : World) → result ≡ at_port outcome
+    → IfErr (at_port outcome) (λ why. FaultBy port why old new)
+    → MatchResult result (λ done. ⊤) (λ why. FaultBy port why old new)
+call_ends {A} port result outcome old new is by = told result (subst Told (sym is) by)
+  where
+    Told : Result A EnumFault → Type 0
+    Told r = IfErr r (λ why. FaultBy port why old new)
+
+    told : (r : Result A EnumFault) → Told r → MatchResult r (λ done. ⊤) (λ why. FaultBy port why old new)
+    told (Ok done) by = tt
+    told (Err why) by = by
+
 early_after : {port : HubPort} {address : ℕ} {why : Cause} {old mid new : World} → Leads old mid → RefusedEarly port address mid new why → RefusedEarly port address old new why
 early_after {why = why} {old = old} {mid = mid} {new = new} led (answered t is b) = answered t is (because_after why t old mid new led b)
 early_after led (not_enabled n) = not_enabled (record { before = n.before; led = leads_then led n.led; status = n.status; read = n.read; off = n.off })
@@ -287,11 +317,3 @@ told_in tier (Fault why) port address old new told = fault_by port why old new t
 pub told_without : (stop : Stop) (port : HubPort) (address : ℕ) (old new : World) → StopToldAt port address stop old new → StopToldWithout port stop new
 told_without (Refused why) port address old new told = inr (early_plain why told)
 told_without (Fault why) port address old new told = fault_by port why old new told
-
--- What the bytes of a device descriptor tell
-pub device_told : (t : Target) (bytes : List ℕ) (old new : World) → DescriptorRead t bytes old new → MatchResult (device_bytes t.low bytes) (DescriptorTold t old new) (λ stop. StopTold t stop old new)
-device_told t bytes old new read = split (is_device t.low bytes) refl
-  where
-    split : (is : Bool) → is_device t.low bytes ≡ is → MatchResult (if is then Ok (Some bytes) else Err (Refused cause.BadDevice)) (DescriptorTold t old new) (λ stop. StopTold t stop old new)
-    split true e = read
-    split false e = bad_front bytes read e

@@ -142,6 +142,10 @@ pub answered_err : {A : Type 0} (stalled : Cause) (outcome : Result A PipeFault)
 answered_err stalled (Ok given) stop is = absurd cc
 answered_err stalled (Err fault) stop is = (fault, refl, cc)
 
+pub answered_ok : {A : Type 0} (stalled : Cause) (outcome : Result A PipeFault) (answer : A) → answered_or stalled outcome ≡ Ok answer → outcome ≡ Ok answer
+answered_ok stalled (Ok given) answer is = cc
+answered_ok stalled (Err fault) answer is = absurd cc
+
 module _ {A X : Type 0} (given : Spec → Option X) (Has : State → A → Type 0) (t : Target) (wanted : ℕ) where
   read_fails : (fault : PipeFault) (j : Spot) (s v : State) → ReadAsked given Has t (Err fault) j s v → WhyAsked {A = A} t wanted (Err fault) j s v → Hears t j s → IsSpec s.spec → IsMaximum t wanted s
       → Fails given fault s.spec

@@ -1,6 +1,6 @@
 -- Why the parts of an enumeration behind the device descriptor stop, and the whole.
 use Rattle.std.proofs.Common.{◌≡◌, inl, inr, ℕ, ◌==◌, ◌&&◌, Bool, true, false, if◌then◌else◌, List, [], slice_index_or, Some, Result, Ok, Err, refl, sym, subst}
-use Rattle.std.specs.Prelude.{IfErr, MatchResult}
+use Rattle.std.specs.Prelude.{IfErr}
 use Rattle.usb_resources.specs.Pool.{Addresses, IsFree, IsFull}
 use Rattle.usb_world.specs.World.{World}
 use Rattle.usb_world.proofs.Interface.{both, equal_same}
@@ -18,11 +18,11 @@ use Rattle.usb_enum.specs.Findings.{GivesUp}
 use Rattle.usb_enum.specs.LastRequests.{Leads}
 use Rattle.usb_enum.specs.Reasons.{DescriptorRead, StopTold, ToldAtStart, AllTexts, RefusedAs, by_answer, too_deep, bad_hub, StoppedAs, StopsDevice, FaultBy, IsSpokenTo, StopToldAt, early, late, StopsAtPort, StoppedFor}
 use Rattle.usb_enum.specs.Reasons.{StoppedWithout, HasReason, refused_for, refused_early, none_free, EndsFor}
-use Rattle.usb_enum.specs.Stop.{FaultAt, ToldOfDevice, StopToldIn}
+use Rattle.usb_enum.specs.Stop.{FaultAt, StopToldIn, StopToldWithout, ToldOfDevice}
 use Rattle.usb_enum.specs.Text.{choice_of}
 use Rattle.usb_enum.proofs.Hubs.{told_of_hub}
 use Rattle.usb_enum.proofs.LastRequests.{leads_then}
-use Rattle.usb_enum.proofs.Reasons.{because_after, because_plain, fault_after, fault_by, fault_told_by, told_in}
+use Rattle.usb_enum.proofs.Reasons.{because_after, because_plain, fault_after, fault_by, fault_told_by, told_in, told_without}
 use Rattle.usb_enum.proofs.ToldFailures.{fault_at, plain_fits}
 
 -- By an answer
@@ -70,11 +70,6 @@ module _ (t : Target) (bytes : List ℕ) (tier supply : ℕ) where
     because = hub_as stop old read set new hub texts all chosen choice first led told;
   }
 
--- that a stop fits the tier
-pub stops_fit : {A : Type 0} (t : Target) (bytes : List ℕ) (tier supply : ℕ) (old new : World) (result : Result A Stop) (P : A → Type 0) → MatchResult result P (StopsDevice t bytes tier supply old new) → IfErr result (λ stop. ToldOfDevice tier stop new)
-stops_fit t bytes tier supply old new (Ok x) P ends = tt
-stops_fit t bytes tier supply old new (Err stop) P ends = ends.fits
-
 -- At the port
 
 device_in : (port : HubPort) (tier : ℕ) (stop : Stop) (w : World) → ToldOfDevice tier stop w → StopToldIn port tier stop w
@@ -86,12 +81,13 @@ device_for : (port : HubPort) (address tier supply : ℕ) (t : Target) (bytes : 
 device_for port address tier supply t bytes (Refused why) old mid new is read told = late t bytes mid is read told
 device_for port address tier supply t bytes (Fault why) old mid new is read told = fault_told_by port why old new told
 
-pub device_stops : {A : Type 0} (port : HubPort) (address tier supply : ℕ) (t : Target) (bytes : List ℕ) (result : Result A Stop) (P : A → Type 0) (old mid new : World) → IsSpokenTo port address t → DescriptorRead t bytes old mid
-    → MatchResult result P (StopsDevice t bytes tier supply mid new) → IfErr result (StopsAtPort port address tier supply old new)
-device_stops port address tier supply t bytes (Ok x) P old mid new is read ends = tt
-device_stops port address tier supply t bytes (Err stop) P old mid new is read ends = record {
-  fits = device_in port tier stop new ends.fits;
-  because = device_for port address tier supply t bytes stop old mid new is read ends.because;
+pub device_stops : (port : HubPort) (address tier supply : ℕ) (t : Target) (bytes : List ℕ)
+    (stop : Stop) (old mid new : World) → IsSpokenTo port address t → DescriptorRead t bytes old mid
+    → StopsDevice t bytes tier supply mid new stop
+    → StopsAtPort port address tier supply old new stop
+device_stops port address tier supply t bytes stop old mid new is read told = record {
+  fits = device_in port tier stop new told.fits;
+  because = device_for port address tier supply t bytes stop old mid new is read told.because;
 }
 
 early_for : (port : HubPort) (address tier supply : ℕ) (stop : Stop) (old new : World) → StopToldAt port address stop old new → StoppedFor port address tier supply stop old new
@@ -133,6 +129,13 @@ module _ (port : HubPort) (addresses : Addresses) (tier supply : ℕ) where
   gives_reason (Refused why) old mid new (Err fault) first led reason gives = fault_after port fault old mid new first gives
   gives_reason (Fault why) old mid new result first led reason gives =
       subst (λ r. EndsFor port addresses tier supply old r new) (sym gives.0) (subst (λ w. FaultBy port why old w) (sym gives.1) reason)
+
+-- where no address was free
+pub stopped_without : (port : HubPort) (stop : Stop) (old new : World)
+    → StoppedWithout port stop old new → StopToldWithout port stop new
+stopped_without port stop old new (inl none) = subst (λ s. StopToldWithout port s new) (sym none)
+    (inl refl)
+stopped_without port stop old new (inr told) = told_without stop port 0 old new told
 
 -- what is told of its end
 pub given_told : (port : HubPort) (stop : Stop) (mid new : World) (result : Result Finding EnumFault) → ((why : EnumFault) → stop ≡ Fault why → FaultAt port why mid) → GivesUp port stop mid result new → IfErr result (λ fault. FaultAt port fault new)

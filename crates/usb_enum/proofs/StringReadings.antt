@@ -12,9 +12,13 @@ use Rattle.usb_hub.specs.GivenAnswers.{unless_refused, string_given, HasText, St
 use Rattle.usb_enum.specs.declared.strings.StringIndexes.{StringIndexes}
 use Rattle.usb_enum.specs.declared.strings.Strings.{Strings}
 use Rattle.usb_enum.specs.Verdicts.{string_read, string_at, strings_by}
+use Rattle.usb_enum.specs.Frames.{OnlyAsks}
 use Rattle.usb_enum.specs.LearnedFacts.{Learns}
+use Rattle.usb_enum.specs.Parts.{Answered, Ending, StopsRead}
 use Rattle.usb_enum.specs.Readings.{AtMaximum, HasString, bytes_given, language_of, string_in, no_strings}
+use Rattle.usb_enum.specs.Refusals.{no_fault}
 use Rattle.usb_enum.specs.Stop.{stop_of}
+use Rattle.usb_enum.specs.StringRequests.{AsksLanguage, AsksString, ReadsString, named}
 use Rattle.usb_enum.specs.Text.{string_units, first_language_of}
 use Rattle.usb_enum.proofs.LearnedFacts.{learns_wider}
 use Rattle.usb_enum.proofs.Readings.{learns_none, learns_on, refusal_learned, text_learned}
@@ -52,22 +56,46 @@ no_string_learned t index outcome fault old new is none =
     (λ spec given max. sym (read_given spec index ∙ ap (option_map (take 255)) given))
 
 nonzero : (index : ℕ) → (index ≡ 0 → ⊥) → (index == 0) ≡ false
-nonzero index named = grind (arith, named)
+nonzero index given = grind (arith, given)
 
 -- what is read of its bytes
-pub units_learned : (t : Target) (index : ℕ) (bytes : Option (Vec ℕ)) (string : Option (List ℕ)) (old new : World) → (index ≡ 0 → ⊥) → string ≡ option_and_then string_units (bytes_given bytes)
-    → Learns (AtMaximum t (HasString index bytes)) t old new → Learns (AtMaximum t (λ spec. string ≡ string_in spec index)) t old new
-units_learned t index bytes string old new named is =
-    learns_wider (AtMaximum t (HasString index bytes)) (AtMaximum t (λ spec. string ≡ string_in spec index)) t old new
-    (λ spec has max. is ∙ ap (option_and_then string_units) (has max) ∙ sym (ap (λ b. if b then None else option_and_then string_units (string_read spec index)) (nonzero index named)))
+pub string_named : (t : Target) (index language : ℕ) (bytes : Option (Vec ℕ))
+    (string : Option (List ℕ)) {n : ℕ} {old new : World} {a b : Option (List ℕ)} → (index ≡ 0 → ⊥)
+    → string ≡ option_and_then string_units (bytes_given bytes) → Ending OnlyAsks n
+    (Answered t (AsksString t index language) (HasString index)) (StopsRead t no_fault) old a
+    (Ok bytes) new b → Ending OnlyAsks n
+    (Answered t (ReadsString t index language) (λ x spec. x ≡ string_in spec index))
+    (StopsRead t no_fault) old a (Ok string) new b
+string_named t index language bytes string {old = old} {new = new} is_named is read = record {
+  steps = read.steps;
+  ends = record {
+    told = named is_named bytes read.ends.told is;
+    so = learns_wider (AtMaximum t (HasString index bytes))
+        (AtMaximum t (λ spec. string ≡ string_in spec index)) t old new (λ spec has max. is ∙ ap
+        (option_and_then string_units) (has max) ∙ sym (ap
+        (λ b. if b then None else option_and_then string_units (string_read spec index))
+        (nonzero index is_named))) read.ends.so;
+  };
+}
 
 pub unnamed_learned : (t : Target) (index : ℕ) (w : World) → index ≡ 0 → Learns (AtMaximum t (λ spec. None ≡ string_in spec index)) t w w
 unnamed_learned t index w unnamed = learns_none (AtMaximum t (λ spec. None ≡ string_in spec index)) t w (λ spec max. rw unnamed refl)
 
-pub language_learned : (t : Target) (bytes : Option (Vec ℕ)) (language : Option ℕ) (old new : World) → language ≡ option_and_then first_language_of (bytes_given bytes)
-    → Learns (AtMaximum t (HasString 0 bytes)) t old new → Learns (AtMaximum t (λ spec. language ≡ language_of spec)) t old new
-language_learned t bytes language old new is =
-    learns_wider (AtMaximum t (HasString 0 bytes)) (AtMaximum t (λ spec. language ≡ language_of spec)) t old new (λ spec has max. is ∙ ap (option_and_then first_language_of) (has max))
+pub language_asked : (t : Target) (bytes : Option (Vec ℕ)) (language : Option ℕ) {n : ℕ}
+    {old new : World} {a b : Option (List ℕ)}
+    → language ≡ option_and_then first_language_of (bytes_given bytes) → Ending OnlyAsks n
+    (Answered t (AsksString t 0 0) (HasString 0)) (StopsRead t no_fault) old a (Ok bytes) new b
+    → Ending OnlyAsks n (Answered t (AsksLanguage t) (λ x spec. x ≡ language_of spec))
+    (StopsRead t no_fault) old a (Ok language) new b
+language_asked t bytes language {old = old} {new = new} is read = record {
+  steps = read.steps;
+  ends = record {
+    told = record { bytes = bytes; asked = read.ends.told; said = is };
+    so = learns_wider (AtMaximum t (HasString 0 bytes))
+        (AtMaximum t (λ spec. language ≡ language_of spec)) t old new
+        (λ spec has max. is ∙ ap (option_and_then first_language_of) (has max)) read.ends.so;
+  };
+}
 
 -- The strings that a descriptor names
 

@@ -1,6 +1,6 @@
 -- A device is never refused for a string.
-use Rattle.std.proofs.Common.{◌≡◌, ◌≤◌, ℕ, inl, false, List, Option, Some, Result, Err, sym, subst, ◌∙◌}
-use Rattle.std.specs.Prelude.{⊤}
+use Rattle.std.proofs.Common.{◌≡◌, ◌+◌, ◌≤◌, ℕ, inl, false, List, Option, Some, Result, Err, sym, subst, ◌∙◌}
+use Rattle.std.specs.Prelude.{IsErrAnd, ⊤}
 use Rattle.std.proofs.lemmas.Option.{same_Some}
 use Rattle.std.specs.Global.{Vec}
 use Rattle.usb_device.specs.Spec.{Spec}
@@ -9,15 +9,19 @@ use Rattle.usb_world.specs.World.{World}
 use Rattle.usb_world.proofs.Interface.{no}
 use Rattle.usb_transaction.specs.declared.target.Target.{Target}
 use Rattle.usb_transaction.specs.Failures.{NoThreeDamaged}
-use Rattle.usb_bus.specs.Traces.{WentOn}
 use Rattle.usb_pipe.specs.declared.fault.PipeFault.{PipeFault}
 use Rattle.usb_pipe.specs.declared.fault.PipeFault.TheVariants as pipe
 use Rattle.usb_hub.specs.GivenAnswers.{string_given, HasText, StringAsked, WhyAsked}
 use Rattle.usb_enum.specs.declared.stop.Stop.{Stop}
+use Rattle.usb_enum.specs.Frames.{OnlyAsks}
 use Rattle.usb_enum.specs.LearnedFacts.{Learns, Explains}
+use Rattle.usb_enum.specs.Parts.{Ending, Steps, StopsRead}
 use Rattle.usb_enum.specs.Refusals.{IsResponsive, IsRefusedFor, Refuses, no_fault}
 use Rattle.usb_enum.specs.Stop.{stop_of}
+use Rattle.usb_enum.proofs.LastRequests.{leads_went}
+use Rattle.usb_enum.proofs.Parts.{asking, part_fails, steps_then}
 use Rattle.usb_enum.proofs.Readings.{learns_on}
+use Rattle.usb_enum.proofs.Reasons.{told_after}
 use Rattle.usb_enum.proofs.Refusals.{Fails, explains_on, failure_explains}
 
 never_stop : (t : Target) (index : ℕ) (spec : Spec) → IsResponsive t spec → (fault : PipeFault) (stop : Stop) → stop_of fault ≡ Some stop → Fails (string_given index) fault spec → IsRefusedFor no_fault stop spec
@@ -35,11 +39,23 @@ string_unrefused t index outcome fault stop old new is told least what why =
     failure_explains (string_given index) (λ s bytes. HasText (string_given index s.spec) t 255 s bytes.items) t 255 outcome old new what least why
     (Refuses t no_fault stop) fault is (λ spec fails r. never_stop t index spec r fault stop told (fails (inl r.max)))
 
--- after other strings
-pub string_after : (A : Spec → Type 0) (t : Target) (m n : ℕ) (stop : Stop) (old mid new : World) {q r s u : Option (List ℕ)} → Learns A t old mid → WentOn m old q mid r → WentOn n mid s new u → Explains (Refuses t no_fault stop) t mid new
-    → Explains (Refuses t no_fault stop) t old new
-string_after A t m n stop old mid new = explains_on A (Refuses t no_fault stop) (Refuses t no_fault stop) t m n old mid new (λ spec a b. b)
+-- a read that stops behind others
+pub string_stops : {A B : Type 0} (So : Spec → Type 0) {t : Target} {m n k : ℕ}
+    {Gives : World → World → A → Type 0} {Gave : World → World → B → Type 0} {old mid new : World}
+    {a b c : Option (List ℕ)} (result : Result A Stop) (stop : Stop)
+    → IsErrAnd result (λ e. e ≡ stop) → Steps OnlyAsks m old a mid b → Learns So t old mid
+    → Ending OnlyAsks n Gave (StopsRead t no_fault) mid b (Err stop) new c → m + n ≤ k
+    → Ending OnlyAsks k Gives (StopsRead t no_fault) old a result new c
+string_stops So {t} {m} {n} {old = old} {mid = mid} {new = new} r stop same steps fact read le =
+    part_fails r stop same (steps_then asking steps read.steps le) (record {
+      told = told_after stop t old mid new (leads_went steps.went) read.ends.told;
+      so = explains_on So (Refuses t no_fault stop) (Refuses t no_fault stop) t m n old mid new
+          (λ spec a b. b) fact steps.went read.steps.went read.ends.so;
+    })
 
 -- that each was read
-pub strings_read : (A B : Spec → Type 0) (t : Target) (n : ℕ) (old mid new : World) {r s : Option (List ℕ)} → Learns A t old mid → WentOn n mid r new s → Learns B t mid new → Learns (λ spec. ⊤) t old new
-strings_read A B t n old mid new = learns_on A B (λ spec. ⊤) t n old mid new (λ spec a b. tt)
+pub strings_read : {A B : Spec → Type 0} (t : Target) {n : ℕ} {old mid new : World}
+    {a b : Option (List ℕ)} → Learns A t old mid → Steps OnlyAsks n mid a new b → Learns B t mid new
+    → Learns (λ spec. ⊤) t old new
+strings_read {A} {B} t {n} {old} {mid} {new} first steps =
+    learns_on A B (λ spec. ⊤) t n old mid new (λ spec a b. tt) first steps.went

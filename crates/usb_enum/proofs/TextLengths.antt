@@ -49,7 +49,7 @@ use Rattle.usb_enum.proofs.Counts.{read_went}
 use Rattle.usb_enum.proofs.Courses.{went_regular, went_sound}
 use Rattle.usb_enum.proofs.Frames.{held_there}
 use Rattle.usb_enum.proofs.Heads.{head_packet}
-use Rattle.usb_enum.proofs.Hubs.{answered_ok}
+use Rattle.usb_enum.proofs.Refusals.{answered_ok}
 use Rattle.usb_enum.proofs.PlannedTexts.{plan_within, plugged_within}
 use Rattle.usb_enum.proofs.Readings.{given_allows, learns_kept, learns_none, learns_on}
 use Rattle.usb_enum.proofs.SharedAddresses.{went_unshared}

@@ -159,11 +159,6 @@ module _ (port : HubPort) (address tier supply m n : ℕ) (device : Addressed) {
   configured_stops (Fault why) told explains = record { why = λ f p fair. none_lost p why new told }
   configured_stops (Refused cause) told explains = record { why = λ f p fair held. configured_refused cause explains f p fair }
 
-  pub configured_err : {A : Type 0} (result : Result A Stop) (P : A → Type 0) → IfErr result (λ stop. ToldOfDevice tier stop new) → MatchResult result P (λ stop. Explains (Refuses device.target wrong stop) device.target mid new)
-      → IfErr result (λ stop. StopsFairly (whole_fault tier supply) port address stop old new)
-  configured_err (Ok x) P told why = tt
-  configured_err (Err stop) P told why = configured_stops stop told why
-
 pub matched : {A E : Type 0} (r : Result A E) (P : A → Type 0) (Q : E → Type 0) → IfOk r P → IfErr r Q → MatchResult r P Q
 matched (Ok x) P Q ok err = ok
 matched (Err e) P Q ok err = err

@@ -14,6 +14,10 @@ read_bound bytes = write_bound + 100 * bytes
 abbrev pub reset_bound : HubPort → ℕ
 reset_bound port = 2 * order_bound port + status_bound port
 
+-- how often a device is given its address at most
+abbrev pub PASSES : ℕ
+PASSES = 3
+
 -- the reset, and eight bytes of the device descriptor
 abbrev pub unaddressed_bound : HubPort → ℕ
 unaddressed_bound port = reset_bound port + read_bound DEVICE_HEAD_LENGTH
@@ -44,7 +48,7 @@ configured_bound = 255 * configuration_bound + write_bound + hub_bound + strings
 
 -- three passes, and all that follows
 abbrev pub examination_bound : HubPort → ℕ
-examination_bound port = 3 * pass_bound port + configured_bound
+examination_bound port = PASSES * pass_bound port + configured_bound
 
 -- the port is disabled where the device is refused
 abbrev pub enumeration_bound : HubPort → ℕ
@@ -62,7 +66,7 @@ configured_by most = texts_bound most + write_bound + hub_bound + strings_bound
 
 -- three passes, and all that follows
 abbrev pub examined_by : HubPort → ℕ → ℕ
-examined_by port most = 3 * pass_bound port + configured_by most
+examined_by port most = PASSES * pass_bound port + configured_by most
 
 -- Where each request to the port is a transfer to a hub
 
@@ -76,4 +80,4 @@ abbrev pub widest_pass : ℕ
 widest_pass = 2 * write_bound + read_bound 4 + read_bound DEVICE_HEAD_LENGTH + write_bound + read_bound DEVICE_LENGTH
 
 abbrev pub widest_enumeration : ℕ
-widest_enumeration = 3 * widest_pass + configured_bound + write_bound
+widest_enumeration = PASSES * widest_pass + configured_bound + write_bound

@@ -114,6 +114,12 @@ pub record Closes (port : HubPort) (address : ℕ) (stop : Stop) (old : World) (
   pub there : Disables port address old result new
   pub lost : (cause : Cause) (why : EnumFault) → stop ≡ stops.Refused cause → result ≡ Err why → Faulted port address why old new
 
+-- what is left, with all that is so in the end, whichever address was set aside
+pub record GivenUp (port : HubPort) (stop : Stop) (old : World) (result : Result Finding EnumFault)
+    (new : World) : Type 0 where
+  pub left : GivesUp port stop old result new
+  pub closes : (address : ℕ) → Closes port address stop old result new
+
 -- why a device is refused: for want of an address only where each is taken
 abbrev pub IsCause : Addresses → ℕ → Cause → Type 0
 IsCause addresses tier cause = (cause ≡ NoAddress × IsFull addresses) ⊎ FitsTier tier cause

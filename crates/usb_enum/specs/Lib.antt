@@ -9,6 +9,7 @@ pub mod Hub
 pub mod LastRequests
 pub mod LearnedFacts
 pub mod Losses
+pub mod Parts
 pub mod Places
 pub mod PresentDevices
 pub mod Readings

@@ -6,7 +6,8 @@ use Rattle.usb_device.specs.SaidLengths.{said_lengths}
 use Rattle.usb_device.specs.Transfer.{max_packet}
 use Rattle.usb_device.specs.Tree.{Spot, reach_on, state_on}
 use Rattle.usb_world.specs.declared.event.Action.{Action}
-use Rattle.usb_world.specs.declared.event.Action.TheVariants.{Plug, Unplug, Show, Send, Receive, Clear}
+use Rattle.usb_world.specs.declared.event.Action.TheVariants.{Change, Ask}
+use Rattle.usb_world.specs.declared.event.Change.TheVariants.{Plug, Unplug}
 use Rattle.usb_world.specs.PlanData.{PlanData, IsPlan}
 use Rattle.usb_world.specs.PlanCourses.{AtPorts}
 use Rattle.usb_world.specs.Steps.{AnyStep, Course, opening}
@@ -36,12 +37,9 @@ pub record SaysWithin (t : Target) (most : ℕ) (spec : Spec) : Type 0 where
 
 -- no device is plugged whose texts say more
 abbrev pub PlugsWithin : ℕ → List Spec → Action → Type 0
-PlugsWithin most devices (Plug path device) = IfSome (slice_get devices device) (λ spec. said_lengths spec ≤ most)
-PlugsWithin most devices (Unplug path) = ⊤
-PlugsWithin most devices Show = ⊤
-PlugsWithin most devices (Send path bytes) = ⊤
-PlugsWithin most devices (Receive path packets) = ⊤
-PlugsWithin most devices (Clear path) = ⊤
+PlugsWithin most devices (Change (Plug path device)) = IfSome (slice_get devices device) (λ spec. said_lengths spec ≤ most)
+PlugsWithin most devices (Change (Unplug path)) = ⊤
+PlugsWithin most devices (Ask ask) = ⊤
 
 -- the steps of a plan, whose events are at ports, led to the world
 pub record IsPlanned (w : World) : Type 0 where

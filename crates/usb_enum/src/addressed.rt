@@ -5,6 +5,7 @@ ghost use Rattle.usb_descriptor.specs.Device.{device_class, configuration_count}
 ghost use Rattle.usb_enum.specs.Device.{is_device, string_indexes};
 
 use crate::strings::StringIndexes;
+use usb_descriptor::DeviceView;
 use usb_request::class_code::HUB_CLASS;
 use usb_transaction::Target;
 
@@ -19,28 +20,37 @@ pub(crate) struct Addressed {
 }
 
 impl Addressed {
+    /// The device descriptor (9.6.1).
+    #[tactic(auto, using(usb_descriptor::proofs::Interface::whole_of))]
+    fn descriptor(&self) -> DeviceView<'_>
+        ensures { result ≡ self.now.bytes }
+    {
+        DeviceView::known(self.bytes.as_slice())
+    }
+
     /// Whether its class is that of hubs (11.23.1).
     pub fn is_hub(&self) -> bool
         ensures { result ≡ (device_class self.now.bytes == HUB_CLASS) }
     {
-        self.bytes[4] == HUB_CLASS
+        self.descriptor().class() == HUB_CLASS
     }
 
     /// How many configurations the device has.
     pub fn configurations(&self) -> u8
         ensures { result ≡ configuration_count self.now.bytes }
     {
-        self.bytes[17]
+        self.descriptor().configurations()
     }
 
     /// The indexes of the device's strings.
     pub fn string_indexes(&self) -> StringIndexes
         ensures { result ≡ string_indexes self.now.bytes }
     {
+        let device = self.descriptor();
         StringIndexes {
-            manufacturer: self.bytes[14],
-            product: self.bytes[15],
-            serial_number: self.bytes[16],
+            manufacturer: device.manufacturer_index(),
+            product: device.product_index(),
+            serial_number: device.serial_index(),
         }
     }
 }

@@ -1,17 +1,14 @@
 //! The configurations of a device: each is read, and one is chosen.
-ghost use Rattle.std.specs.Prelude.{◌≡◌, ◌≤◌, ◌<◌, ◌*◌, length, true, Some, IfOk, IfErr, IfSome, MatchResult};
+ghost use Rattle.std.specs.Prelude.{◌≡◌, ◌≤◌, ◌<◌, ◌*◌, length, true, IfOk, IfErr, IfSome, MatchResult};
 ghost use Rattle.usb_request.specs.Codes.{CONFIGURATION_LENGTH};
-ghost use Rattle.usb_bus.specs.Traces.{Went};
 ghost use Rattle.usb_transaction.specs.Transactions.{IsTarget};
 ghost use Rattle.usb_enum.specs.Bounds.{read_bound, configuration_bound, texts_bound};
+ghost use Rattle.usb_enum.specs.Parts.{Answered, Read, StopsRead};
 ghost use Rattle.usb_enum.specs.Verdicts.{config_fault, first_fault};
-ghost use Rattle.usb_enum.specs.LearnedFacts.{Learns, Explains};
-ghost use Rattle.usb_enum.specs.Readings.{AtMaximum, HasTotal, HasConfiguration, HasConfigurations};
-ghost use Rattle.usb_enum.specs.Refusals.{Refuses};
-ghost use Rattle.usb_enum.specs.Reasons.{StopTold, TextRead, TextsAsked};
+ghost use Rattle.usb_enum.specs.Readings.{HasTotal, HasConfiguration, HasConfigurations};
+ghost use Rattle.usb_enum.specs.Reasons.{TextRead, TextsAsked};
 ghost use Rattle.usb_enum.specs.Text.{ValuesDiffer, choice_of};
 ghost use Rattle.usb_enum.specs.TextLengths.{IsAnswered, ReadsText, FewFor};
-ghost use Rattle.usb_enum.specs.Frames.{OnlyAsks};
 ghost use Rattle.usb_enum.specs.Stop.{IsPlainStop};
 
 use crate::stop::{Stop, answered_or};
@@ -20,27 +17,25 @@ use std::alloc::{AllocError, Global};
 use usb_bus::Bus;
 use usb_descriptor::config_head;
 use usb_hub::get_config;
+use usb_request::descriptor_length::CONFIGURATION_LENGTH;
 use usb_resources::choose;
 use usb_transaction::Target;
+
+/// How many bytes of a configuration are asked for before all of it.
+const HEAD: u16 = CONFIGURATION_LENGTH as u16;
 
 /// wTotalLength of the configuration of an index, from its first nine bytes.
 fn total_length<B: Bus>(alloc: Global, bus: &mut B, target: Target, index: u8) -> Result<u16, Stop>
     requires target { IsTarget target }
     requires max { 8 ≤ target.max }
-    ensures went { B.modelled ≡ true
-        → Went B.world B.trace (read_bound CONFIGURATION_LENGTH) bus.old bus.new }
-    ensures ends { B.modelled ≡ true → MatchResult result (λ _. IsAnswered target (B.world bus.new))
-        (λ stop. StopTold target stop (B.world bus.old) (B.world bus.new)) }
-    ensures fits { MatchResult result (λ total. (9 ≤ total) × (total ≤ 65535)) IsPlainStop }
-    ensures learned { B.modelled ≡ true → MatchResult result
-        (λ total. Learns (AtMaximum target (HasTotal index total)) target
-        (B.world bus.old) (B.world bus.new))
-        (λ stop. Explains (Refuses target (λ spec. config_fault spec index) stop) target
-        (B.world bus.old) (B.world bus.new)) }
-    ensures keeps { B.modelled ≡ true → OnlyAsks (B.world bus.old) (B.world bus.new) }
+    ensures fits { MatchResult result
+        (λ total. (CONFIGURATION_LENGTH ≤ total) × (total ≤ 65535)) IsPlainStop }
+    ensures read { B.modelled ≡ true → Read B.world B.trace (read_bound CONFIGURATION_LENGTH)
+        (Answered target (λ old new _. IsAnswered target new) (HasTotal index))
+        (StopsRead target (λ spec. config_fault spec index)) bus.old result bus.new }
 {
     let stalled = Cause::Stalled(Request::Config);
-    let head = answered_or(stalled, get_config(alloc, bus, target, index, 9))?;
+    let head = answered_or(stalled, get_config(alloc, bus, target, index, HEAD))?;
     match config_head(head.as_slice()) {
         Ok(total) => Ok(total),
         Err(_) => Err(Stop::Refused(Cause::BadConfiguration(index))),
@@ -56,20 +51,13 @@ fn read_text<B: Bus>(
 ) -> Result<ConfigText, Stop>
     requires target { IsTarget target }
     requires max { 8 ≤ target.max }
-    ensures went { B.modelled ≡ true → Went B.world B.trace configuration_bound bus.old bus.new }
+    ensures plain { IfErr result IsPlainStop }
+    ensures read { B.modelled ≡ true → Read B.world B.trace configuration_bound
+        (Answered target (λ old new text. TextRead target index text old new)
+        (HasConfiguration index))
+        (StopsRead target (λ spec. config_fault spec index)) bus.old result bus.new }
     ensures count { B.modelled ≡ true
         → ReadsText target index (B.world bus.old) result (B.world bus.new) }
-    ensures told { MatchResult result
-        (λ text. B.modelled ≡ true
-        → TextRead target index text (B.world bus.old) (B.world bus.new))
-        (λ stop. IsPlainStop stop × (B.modelled ≡ true
-        → StopTold target stop (B.world bus.old) (B.world bus.new))) }
-    ensures learned { B.modelled ≡ true → MatchResult result
-        (λ text. Learns (AtMaximum target (HasConfiguration index text)) target
-        (B.world bus.old) (B.world bus.new))
-        (λ stop. Explains (Refuses target (λ spec. config_fault spec index) stop) target
-        (B.world bus.old) (B.world bus.new)) }
-    ensures keeps { B.modelled ≡ true → OnlyAsks (B.world bus.old) (B.world bus.new) }
 {
     let total = total_length(alloc, bus, target, index)?;
     let stalled = Cause::Stalled(Request::Config);
@@ -89,21 +77,14 @@ pub(crate) fn read_configurations<B: Bus>(
 ) -> Result<ConfigTexts, Stop>
     requires target { IsTarget target }
     requires max { 8 ≤ target.max }
-    ensures went { B.modelled ≡ true
-        → Went B.world B.trace (255 * configuration_bound) bus.old bus.new }
+    ensures all { MatchResult result
+        (λ texts. (length texts ≡ count) × ValuesDiffer texts) IsPlainStop }
+    ensures read { B.modelled ≡ true → Read B.world B.trace (255 * configuration_bound)
+        (Answered target (λ old new texts. TextsAsked target old texts new)
+        (HasConfigurations count))
+        (StopsRead target (λ spec. first_fault spec count)) bus.old result bus.new }
     ensures few { B.modelled ≡ true
         → FewFor texts_bound target (B.world bus.old) (B.world bus.new) }
-    ensures ends { MatchResult result
-        (λ texts. (length texts ≡ count) × ValuesDiffer texts × (B.modelled ≡ true
-        → TextsAsked target (B.world bus.old) texts (B.world bus.new)))
-        (λ stop. IsPlainStop stop × (B.modelled ≡ true
-        → StopTold target stop (B.world bus.old) (B.world bus.new))) }
-    ensures learned { B.modelled ≡ true → MatchResult result
-        (λ texts. Learns (AtMaximum target (HasConfigurations count texts)) target
-        (B.world bus.old) (B.world bus.new))
-        (λ stop. Explains (Refuses target (λ spec. first_fault spec count) stop) target
-        (B.world bus.old) (B.world bus.new)) }
-    ensures keeps { B.modelled ≡ true → OnlyAsks (B.world bus.old) (B.world bus.new) }
 {
     let mut texts = ConfigTexts::new(alloc);
     for index in 0..count {

@@ -3,6 +3,7 @@ ghost use Rattle.std.specs.Prelude.{◌≡◌};
 ghost use Rattle.usb_enum.specs.Device.{configuration_of, target_of};
 
 use crate::{Accepted, ConfigText};
+use usb_descriptor::max_packet_0;
 use usb_transaction::Target;
 
 impl Accepted {
@@ -20,7 +21,7 @@ impl Accepted {
     {
         Target {
             addr: self.address.number(),
-            max: self.bytes[7],
+            max: max_packet_0(self.bytes.as_slice()),
             low: self.low,
             pre: self.low && below_hub,
         }

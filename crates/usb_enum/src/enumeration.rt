@@ -1,18 +1,15 @@
 //! The whole enumeration.
-ghost use Rattle.std.specs.Prelude.{◌≡◌, ℕ, IfOk, IfErr, MatchResult, true};
+ghost use Rattle.std.specs.Prelude.{◌≡◌, IfOk, IfErr, MatchResult, true};
 ghost use Rattle.usb_bus.specs.Traces.{Went};
 ghost use Rattle.usb_hub.specs.Port.{IsAsked, order_bound};
-ghost use Rattle.usb_enum.specs.Bounds.{unaddressed_bound, examination_bound, enumeration_bound, configured_bound, configured_by, hub_bound};
-ghost use Rattle.usb_enum.specs.Reasons.{StoppedWithout, StopsAtPort, StopsDevice, ToldAtStart};
-ghost use Rattle.usb_enum.specs.Stop.{FaultAt, FitsStop, IsHubStop, IsStopWithout, StopToldWithout};
-ghost use Rattle.usb_enum.specs.Findings.{Closes, Enumerates, GivesUp, HandsOn, IsAccepted, IsFound, IsListed, IsWhole, TakesFor};
-ghost use Rattle.usb_enum.specs.Device.{HasFacts, fits_tier, is_hub_device};
 ghost use Rattle.usb_enum.specs.Addresses.{AtPort};
-ghost use Rattle.usb_enum.specs.FairEnumerations.{StopsFairly};
-ghost use Rattle.usb_enum.specs.LearnedFacts.{Explains, ExplainsSet};
-ghost use Rattle.usb_enum.specs.PresentDevices.{LearnsPorts};
-ghost use Rattle.usb_enum.specs.Refusals.{Refuses, start_fault, configured_fault, unaddressed_fault, whole_fault};
+ghost use Rattle.usb_enum.specs.Bounds.{unaddressed_bound, examination_bound, enumeration_bound, configured_bound, configured_by, hub_bound};
+ghost use Rattle.usb_enum.specs.Device.{HasFacts, fits_tier, is_hub_device};
+ghost use Rattle.usb_enum.specs.Findings.{Enumerates, GivenUp, HandsOn, IsAccepted, IsFound, IsListed, IsWhole, TakesFor};
 ghost use Rattle.usb_enum.specs.Frames.{OnlySets, OnlyTells};
+ghost use Rattle.usb_enum.specs.Parts.{Part, Steps, StopsConfiguring, StopsExamining, StopsStart, StopsWithout};
+ghost use Rattle.usb_enum.specs.PresentDevices.{LearnsPorts};
+ghost use Rattle.usb_enum.specs.Stop.{FaultAt, FitsStop, IsHubStop, IsStopWithout};
 ghost use Rattle.usb_enum.specs.TextLengths.{FewFor, FewFrom};
 
 use crate::addressed::Addressed;
@@ -82,15 +79,11 @@ pub fn enumerate<B: Bus>(
 /// Goes on as far as a device is given its address, where none is free.
 fn without_address<B: Bus>(alloc: Global, bus: &mut B, port: HubPort) -> Stop
     requires { IsAsked B.modelled (B.world bus.old) port }
-    ensures went { B.modelled ≡ true
-        → Went B.world B.trace (unaddressed_bound port) bus.old bus.new }
-    ensures told { IsStopWithout result × (B.modelled ≡ true
-        → StopToldWithout port result (B.world bus.new)) }
-    ensures within { B.modelled ≡ true → AtPort port 0 (B.world bus.old) (B.world bus.new) }
-    ensures because { B.modelled ≡ true
-        → StoppedWithout port result (B.world bus.old) (B.world bus.new) }
-    ensures why { B.modelled ≡ true
-        → StopsFairly unaddressed_fault port 0 result (B.world bus.old) (B.world bus.new) }
+    ensures without { IsStopWithout result }
+    ensures steps { B.modelled ≡ true → Steps (AtPort port 0) (unaddressed_bound port)
+        (B.world bus.old) (B.trace bus.old) (B.world bus.new) (B.trace bus.new) }
+    ensures stops { B.modelled ≡ true
+        → StopsWithout port (B.world bus.old) (B.world bus.new) result }
 {
     match unaddressed(alloc, bus, port) {
         Ok(_) => Stop::Refused(Cause::NoAddress),
@@ -104,9 +97,7 @@ fn give_up<B: Bus>(bus: &mut B, port: HubPort, stop: Stop) -> Result<Finding, En
     ensures hands { HandsOn stop result }
     ensures went { B.modelled ≡ true → Went B.world B.trace (order_bound port) bus.old bus.new }
     ensures left { B.modelled ≡ true
-        → GivesUp port stop (B.world bus.old) result (B.world bus.new) }
-    ensures closes { B.modelled ≡ true
-        → (a : ℕ) → Closes port a stop (B.world bus.old) result (B.world bus.new) }
+        → GivenUp port stop (B.world bus.old) result (B.world bus.new) }
 {
     match stop {
         Stop::Refused(cause) => {
@@ -127,18 +118,12 @@ fn examine<B: Bus>(
     supply: u16,
 ) -> Result<Accepted, Stop>
     requires port { IsAsked B.modelled (B.world bus.old) port }
-    ensures went { B.modelled ≡ true
-        → Went B.world B.trace (examination_bound port) bus.old bus.new }
+    ensures whole { MatchResult result
+        (λ device. (device.address ≡ address) × IsWhole supply device) (FitsStop tier) }
+    ensures part { B.modelled ≡ true → Part B.world B.trace (AtPort port address)
+        (examination_bound port) (IsAccepted port address tier supply)
+        (StopsExamining port address tier supply) bus.old result bus.new }
     ensures few { B.modelled ≡ true → FewFrom port address (B.world bus.old) (B.world bus.new) }
-    ensures told { MatchResult result
-        (λ device. (device.address ≡ address) × IsWhole supply device)
-        (λ stop. FitsStop tier stop × (B.modelled ≡ true
-        → StopsAtPort port address tier supply (B.world bus.old) (B.world bus.new) stop)) }
-    ensures within { B.modelled ≡ true → AtPort port address (B.world bus.old) (B.world bus.new) }
-    ensures ok { B.modelled ≡ true → MatchResult result
-        (IsAccepted port address tier supply (B.world bus.old) (B.world bus.new))
-        (λ stop. StopsFairly (whole_fault tier supply) port address stop
-        (B.world bus.old) (B.world bus.new)) }
 {
     let device = passes(alloc, bus, port, address.number())?;
     configure(alloc, bus, address, device, tier, supply)
@@ -154,18 +139,13 @@ fn configure<B: Bus>(
     supply: u16,
 ) -> Result<Accepted, Stop>
     requires { device.target.addr ≡ address }
-    ensures went { B.modelled ≡ true → Went B.world B.trace configured_bound bus.old bus.new }
+    ensures whole { MatchResult result
+        (λ device. (device.address ≡ address) × IsWhole supply device) (FitsStop tier) }
+    ensures part { B.modelled ≡ true → Part B.world B.trace (OnlySets address)
+        configured_bound (IsListed device tier)
+        (StopsConfiguring device.target device.bytes tier supply) bus.old result bus.new }
     ensures few { B.modelled ≡ true
         → FewFor configured_by device.target (B.world bus.old) (B.world bus.new) }
-    ensures ends { MatchResult result
-        (λ device. (device.address ≡ address) × IsWhole supply device)
-        (λ stop. FitsStop tier stop × (B.modelled ≡ true → StopsDevice device.target device.bytes
-        tier supply (B.world bus.old) (B.world bus.new) stop)) }
-    ensures learned { B.modelled ≡ true → MatchResult result
-        (IsListed device tier (B.world bus.old) (B.world bus.new))
-        (λ stop. Explains (Refuses device.target (configured_fault tier supply device.bytes) stop)
-        device.target (B.world bus.old) (B.world bus.new)) }
-    ensures keeps { B.modelled ≡ true → OnlySets address (B.world bus.old) (B.world bus.new) }
 {
     let target = device.target;
     fits_tier(&device, tier)?;
@@ -206,18 +186,12 @@ fn hub_facts<B: Bus>(
     device: &Addressed,
     text: &ConfigText,
 ) -> Result<Option<HubFacts>, Stop>
-    ensures went { B.modelled ≡ true → Went B.world B.trace hub_bound bus.old bus.new }
-    ensures told { B.modelled ≡ true
-        → IfErr result (λ stop. ToldAtStart device.now.target text.now stop
-        (B.world bus.old) (B.world bus.new)) }
     ensures hub { MatchResult result (HasFacts device.now.bytes text.now)
         (λ stop. (is_hub_device device.now.bytes ≡ true) × IsHubStop stop) }
-    ensures ports { B.modelled ≡ true → MatchResult result
-        (LearnsPorts device.now text.now (B.world bus.old) (B.world bus.new))
-        (λ stop. ExplainsSet (Refuses device.now.target (start_fault text.now) stop)
-        device.now.target (B.world bus.old) (B.world bus.new)) }
-    ensures keeps { B.modelled ≡ true
-        → OnlyTells device.now.target.addr (B.world bus.old) (B.world bus.new) }
+    ensures part { B.modelled ≡ true
+        → Part B.world B.trace (OnlyTells device.now.target.addr) hub_bound
+        (LearnsPorts device.now text.now) (StopsStart device.now.target text.now)
+        bus.old result bus.new }
 {
     if !device.is_hub() {
         return Ok(None);

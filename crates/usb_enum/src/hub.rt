@@ -1,18 +1,16 @@
 //! What the host asks of a hub once it is configured, and the power of its ports (11.23, 11.24).
 ghost use Rattle.std.specs.Prelude.{◌≡◌, ◌⊎◌, ◌≤◌, ◌*◌, true, IfErr, MatchResult};
-ghost use Rattle.usb_bus.specs.Traces.{Went};
 ghost use Rattle.usb_request.specs.Codes.{HUB_LENGTH};
 ghost use Rattle.usb_port.specs.Path.{IsPortNumber};
 ghost use Rattle.usb_transaction.specs.Transactions.{IsTarget};
 ghost use Rattle.usb_pipe.specs.Control.{write_bound};
 ghost use Rattle.usb_enum.specs.Bounds.{read_bound, hub_bound};
-ghost use Rattle.usb_enum.specs.LearnedFacts.{Learns, Explains, ExplainsSet};
-ghost use Rattle.usb_enum.specs.Readings.{AtMaximum, Ruled, HasPorts, HasSupply, IsGoodHub};
-ghost use Rattle.usb_enum.specs.Refusals.{Refuses, RefusesNoPort, hub_fault, start_fault};
-ghost use Rattle.usb_enum.specs.Reasons.{ToldAtStart, ToldOfHub};
+ghost use Rattle.usb_enum.specs.LearnedFacts.{Learns};
+ghost use Rattle.usb_enum.specs.Parts.{Answered, Both, Part, Read, StopsHub, StopsPower, StopsStart};
+ghost use Rattle.usb_enum.specs.Readings.{Ruled, HasPorts, HasSupply, IsGoodHub};
 ghost use Rattle.usb_enum.specs.Device.{CanServe};
 ghost use Rattle.usb_enum.specs.Hub.{CountTold, SupplyTold, IsPowered, Powered, Started};
-ghost use Rattle.usb_enum.specs.Frames.{OnlyAsks, OnlyTells};
+ghost use Rattle.usb_enum.specs.Frames.{OnlyTells};
 ghost use Rattle.usb_enum.specs.Stop.{IsHubStop};
 
 use crate::stop::{Stop, answered_or};
@@ -43,17 +41,10 @@ pub(crate) fn start_hub<B: Bus>(
 ) -> Result<HubFacts, Stop>
     requires target { IsTarget target }
     requires max { 8 ≤ target.max }
-    ensures went { B.modelled ≡ true → Went B.world B.trace hub_bound bus.old bus.new }
-    ensures told { B.modelled ≡ true
-        → MatchResult result (Started target (B.world bus.old) (B.world bus.new))
-        (λ stop. ToldAtStart target text.now stop (B.world bus.old) (B.world bus.new)) }
     ensures facts { MatchResult result (CanServe text.now) IsHubStop }
-    ensures learned { B.modelled ≡ true → MatchResult result
-        (λ facts. Learns (AtMaximum target (Ruled (IsGoodHub text.now facts))) target
-        (B.world bus.old) (B.world bus.new))
-        (λ stop. ExplainsSet (Refuses target (start_fault text.now) stop) target
-        (B.world bus.old) (B.world bus.new)) }
-    ensures keeps { B.modelled ≡ true → OnlyTells target.addr (B.world bus.old) (B.world bus.new) }
+    ensures part { B.modelled ≡ true → Part B.world B.trace (OnlyTells target.addr) hub_bound
+        (Answered target (Started target) (λ facts. Ruled (IsGoodHub text.now facts)))
+        (StopsStart target text.now) bus.old result bus.new }
 {
     if text.status_endpoint().is_none() {
         return Err(Stop::Refused(Cause::BadHub));
@@ -68,18 +59,9 @@ pub(crate) fn start_hub<B: Bus>(
 fn port_count<B: Bus>(alloc: Global, bus: &mut B, target: Target) -> Result<u8, Stop>
     requires target { IsTarget target }
     requires max { 8 ≤ target.max }
-    ensures went { B.modelled ≡ true
-        → Went B.world B.trace (read_bound HUB_LENGTH) bus.old bus.new }
-    ensures told { B.modelled ≡ true
-        → MatchResult result (CountTold target (B.world bus.old) (B.world bus.new))
-        (λ stop. ToldOfHub target stop (B.world bus.old) (B.world bus.new)) }
     ensures count { MatchResult result IsPortNumber IsHubStop }
-    ensures learned { B.modelled ≡ true → MatchResult result
-        (λ ports. Learns (AtMaximum target (HasPorts ports)) target
-        (B.world bus.old) (B.world bus.new))
-        (λ stop. Explains (Refuses target hub_fault stop) target
-        (B.world bus.old) (B.world bus.new)) }
-    ensures keeps { B.modelled ≡ true → OnlyAsks (B.world bus.old) (B.world bus.new) }
+    ensures read { B.modelled ≡ true → Read B.world B.trace (read_bound HUB_LENGTH)
+        (Answered target (CountTold target) HasPorts) (StopsHub target) bus.old result bus.new }
 {
     let bytes = answered_or(Cause::BadHub, hub_descriptor(alloc, bus, target))?;
     match read_hub(bytes.as_slice()) {
@@ -93,17 +75,10 @@ fn port_count<B: Bus>(alloc: Global, bus: &mut B, target: Target) -> Result<u8, 
 fn port_supply<B: Bus>(alloc: Global, bus: &mut B, target: Target) -> Result<u16, Stop>
     requires target { IsTarget target }
     requires max { 8 ≤ target.max }
-    ensures went { B.modelled ≡ true → Went B.world B.trace (read_bound 2) bus.old bus.new }
-    ensures told { B.modelled ≡ true
-        → MatchResult result (SupplyTold target (B.world bus.old) (B.world bus.new))
-        (λ stop. ToldOfHub target stop (B.world bus.old) (B.world bus.new)) }
     ensures said { MatchResult result (λ supply. (supply ≡ 500) ⊎ (supply ≡ 100)) IsHubStop }
-    ensures learned { B.modelled ≡ true → MatchResult result
-        (λ supply. Learns (HasSupply supply) target
-        (B.world bus.old) (B.world bus.new))
-        (λ stop. Explains (Refuses target hub_fault stop) target
-        (B.world bus.old) (B.world bus.new)) }
-    ensures keeps { B.modelled ≡ true → OnlyAsks (B.world bus.old) (B.world bus.new) }
+    ensures read { B.modelled ≡ true → Read B.world B.trace (read_bound 2)
+        (Both (SupplyTold target) (λ old new supply. Learns (HasSupply supply) target old new))
+        (StopsHub target) bus.old result bus.new }
 {
     let status = answered_or(Cause::BadHub, get_status(alloc, bus, target))?;
     Ok(supply(false, status.self_powered))
@@ -112,15 +87,10 @@ fn port_supply<B: Bus>(alloc: Global, bus: &mut B, target: Target) -> Result<u16
 /// Gives power to the first so many ports of a hub.
 fn power_ports<B: Bus>(bus: &mut B, target: Target, ports: u8) -> Result<(), Stop>
     requires { IsTarget target }
-    ensures went { B.modelled ≡ true → Went B.world B.trace (ports * write_bound) bus.old bus.new }
-    ensures told { B.modelled ≡ true → MatchResult result
-        (λ _. Powered target ports (B.world bus.old) (B.world bus.new))
-        (λ stop. ToldOfHub target stop (B.world bus.old) (B.world bus.new)) }
     ensures stops { IfErr result IsHubStop }
-    ensures why { B.modelled ≡ true
-        → IfErr result (λ stop. ExplainsSet (RefusesNoPort target ports stop) target
-        (B.world bus.old) (B.world bus.new)) }
-    ensures keeps { B.modelled ≡ true → OnlyTells target.addr (B.world bus.old) (B.world bus.new) }
+    ensures part { B.modelled ≡ true → Part B.world B.trace (OnlyTells target.addr)
+        (ports * write_bound) (λ old new _. Powered target ports old new)
+        (StopsPower target ports) bus.old result bus.new }
 {
     'ports: for before in 0..ports {
         power_port(bus, target, before + 1)?;
@@ -131,15 +101,10 @@ fn power_ports<B: Bus>(bus: &mut B, target: Target, ports: u8) -> Result<(), Sto
 /// Gives power to a port of a hub.
 fn power_port<B: Bus>(bus: &mut B, target: Target, port: u8) -> Result<(), Stop>
     requires { IsTarget target }
-    ensures went { B.modelled ≡ true → Went B.world B.trace write_bound bus.old bus.new }
-    ensures told { B.modelled ≡ true → MatchResult result
-        (λ _. IsPowered target port (B.world bus.old) (B.world bus.new))
-        (λ stop. ToldOfHub target stop (B.world bus.old) (B.world bus.new)) }
     ensures stops { IfErr result IsHubStop }
-    ensures why { B.modelled ≡ true
-        → IfErr result (λ stop. ExplainsSet (RefusesNoPort target port stop) target
-        (B.world bus.old) (B.world bus.new)) }
-    ensures keeps { B.modelled ≡ true → OnlyTells target.addr (B.world bus.old) (B.world bus.new) }
+    ensures part { B.modelled ≡ true → Part B.world B.trace (OnlyTells target.addr) write_bound
+        (λ old new _. IsPowered target port old new) (StopsPower target port)
+        bus.old result bus.new }
 {
     answered_or(Cause::BadHub, set_hub_port(bus, target, port, PORT_POWER))
 }

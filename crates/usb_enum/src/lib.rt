@@ -13,6 +13,8 @@
 //! attempts; the finding of an accepted device is the device's own, whatever is damaged, what is found is there in the
 //! end, and a refusal has its cause. *Only tested*: PRE on the bus.
 //!
+//! - Each part says in one record how many attempts it makes at most, what it keeps of all other devices and ports, and
+//!   what it gives or why it stops (`Part`, and `Read` of one that reads a device, `specs/Parts.antt`).
 //! - Each call that reads says of the device that answered what its description has: the head of its device descriptor,
 //!   all of it, the total length and the text of each configuration, that no configuration before is bad, each string
 //!   or that there is none, the ports and the supply of a hub (`Learns`, `usb_enum/specs/LearnedFacts.antt`,

@@ -1,23 +1,21 @@
 //! The steps up to a device that has its address and has given its device descriptor.
-ghost use Rattle.std.specs.Prelude.{◌≡◌, ◌≤◌, ◌<◌, ◌*◌, IfOk, IfErr, IfSome, true, ℕ, OnOk, Ok, None, MatchResult};
+ghost use Rattle.std.specs.Prelude.{◌≡◌, ◌≤◌, ◌<◌, ◌*◌, IfErr, IfSome, true, ℕ, ⊤, MatchResult};
 ghost use Rattle.usb_request.specs.Codes.{DEVICE_HEAD_LENGTH, DEVICE_LENGTH};
 ghost use Rattle.usb_request.specs.declared.feature.TheConstants.{PORT_RESET};
 ghost use Rattle.usb_port.specs.Calls.{set_call};
-ghost use Rattle.usb_bus.specs.Traces.{Went};
+ghost use Rattle.usb_hub.specs.Addresses.{KeepsDevices, Resets};
 ghost use Rattle.usb_hub.specs.Port.{IsAsked, status_bound, order_bound};
 ghost use Rattle.usb_transaction.specs.Transactions.{IsTarget};
-ghost use Rattle.usb_enum.specs.Bounds.{read_bound, reset_bound, unaddressed_bound, pass_bound};
-ghost use Rattle.usb_enum.specs.Reasons.{DescriptorRead, DescriptorTold, FaultBy, PassTold, StopTold, StopToldAt};
-ghost use Rattle.usb_enum.specs.Device.{IsUnaddressed, device_bytes, is_device, needs_pre};
-ghost use Rattle.usb_hub.specs.Addresses.{KeepsDevices, Resets};
-ghost use Rattle.usb_enum.specs.Addresses.{AtPort, OnlyCalls};
+ghost use Rattle.usb_enum.specs.Addresses.{AtPort};
+ghost use Rattle.usb_enum.specs.Bounds.{PASSES, read_bound, reset_bound, unaddressed_bound, pass_bound};
 ghost use Rattle.usb_enum.specs.Calls.{CalledAt, SettlesReset, StatusAt};
-ghost use Rattle.usb_enum.specs.FairEnumerations.{PassEnds, StopsFairly};
-ghost use Rattle.usb_enum.specs.Frames.{OnlyAsks};
+ghost use Rattle.usb_enum.specs.Device.{IsUnaddressed, device_bytes, is_device, needs_pre};
+ghost use Rattle.usb_enum.specs.FairEnumerations.{PassEnds};
+ghost use Rattle.usb_enum.specs.Parts.{Both, FailsAt, IsDone, Part, Read, StopsAt, StopsDescriptor, StopsHead, TakesAddressed};
+ghost use Rattle.usb_enum.specs.PresentDevices.{Awaits, WasReset};
+ghost use Rattle.usb_enum.specs.Reasons.{DescriptorTold, PassTold};
+ghost use Rattle.usb_enum.specs.Refusals.{FindsHead, FindsDescriptor, no_fault, early_fault, addressed_fault};
 ghost use Rattle.usb_enum.specs.Stop.{IsPlainStop};
-ghost use Rattle.usb_enum.specs.LearnedFacts.{Explains};
-ghost use Rattle.usb_enum.specs.PresentDevices.{Awaits, HasTaken, WasReset};
-ghost use Rattle.usb_enum.specs.Refusals.{IsRefusedFor, FindsHead, FindsDescriptor, RefusesDescriptor, no_fault, head_fault, early_fault, addressed_fault};
 
 use crate::addressed::Addressed;
 use crate::stop::{Stop, answered_or, at_port};
@@ -27,18 +25,28 @@ use usb_bus::Bus;
 use usb_descriptor::{device_head, read_device};
 use usb_hub::{HubPort, PortStatus, clear_port, get_device, port_status, set_address, set_port};
 use usb_pipe::PipeFault;
+use usb_request::descriptor_length::{DEVICE_HEAD_LENGTH, DEVICE_LENGTH};
 use usb_request::feature::{C_PORT_RESET, PORT_RESET};
 use usb_transaction::Target;
+
+/// How often a device is given its address at most.
+const PASSES: u8 = 3;
+
+/// The maximum packet of endpoint 0 that every device has at least (5.5.3).
+const LEAST_PACKET: u8 = 8;
+
+/// How many bytes of the device descriptor are asked for at address 0.
+const HEAD: u16 = DEVICE_HEAD_LENGTH as u16;
+
+/// How many are asked for once the device has its address.
+const WHOLE: u16 = DEVICE_LENGTH as u16;
 
 /// Sets PORT_RESET.
 fn begin_reset<B: Bus>(bus: &mut B, port: HubPort) -> Result<(), EnumFault>
     requires { IsAsked B.modelled (B.world bus.old) port }
-    ensures went { B.modelled ≡ true → Went B.world B.trace (order_bound port) bus.old bus.new }
-    ensures told { B.modelled ≡ true → IfErr result (λ fault. FaultBy port fault
-        (B.world bus.old) (B.world bus.new)) }
+    ensures part { B.modelled ≡ true → (a : ℕ) → Part B.world B.trace (AtPort port a)
+        (order_bound port) IsDone (FailsAt port) bus.old result bus.new }
     ensures resets { B.modelled ≡ true → Resets port (B.world bus.old) (B.world bus.new) }
-    ensures only { B.modelled ≡ true
-        → (a : ℕ) → OnlyCalls port a (B.world bus.old) (B.world bus.new) }
     ensures calls { B.modelled ≡ true
         → CalledAt port (set_call PORT_RESET) (B.world bus.old) result (B.world bus.new) }
 {
@@ -48,11 +56,9 @@ fn begin_reset<B: Bus>(bus: &mut B, port: HubPort) -> Result<(), EnumFault>
 /// The status of the port.
 fn read_status<B: Bus>(alloc: Global, bus: &mut B, port: HubPort) -> Result<PortStatus, EnumFault>
     requires { IsAsked B.modelled (B.world bus.old) port }
-    ensures went { B.modelled ≡ true → Went B.world B.trace (status_bound port) bus.old bus.new }
-    ensures told { B.modelled ≡ true → IfErr result (λ fault. FaultBy port fault
-        (B.world bus.old) (B.world bus.new)) }
+    ensures read { B.modelled ≡ true → Read B.world B.trace (status_bound port)
+        (λ _ _ _. ⊤) (FailsAt port) bus.old result bus.new }
     ensures status { B.modelled ≡ true → StatusAt port (B.world bus.old) result (B.world bus.new) }
-    ensures keeps { B.modelled ≡ true → OnlyAsks (B.world bus.old) (B.world bus.new) }
 {
     at_port(port_status(alloc, bus, port))
 }
@@ -60,15 +66,10 @@ fn read_status<B: Bus>(alloc: Global, bus: &mut B, port: HubPort) -> Result<Port
 /// Resets the port (11.5.1.5), and tells whether a low-speed device is there.
 fn reset<B: Bus>(alloc: Global, bus: &mut B, port: HubPort) -> Result<bool, Stop>
     requires port { IsAsked B.modelled (B.world bus.old) port }
-    ensures went { B.modelled ≡ true → Went B.world B.trace (reset_bound port) bus.old bus.new }
-    ensures told { B.modelled ≡ true → IfErr result (λ stop. (a : ℕ) → StopToldAt port a stop
-        (B.world bus.old) (B.world bus.new)) }
-    ensures within { B.modelled ≡ true
-        → (a : ℕ) → AtPort port a (B.world bus.old) (B.world bus.new) }
     ensures plain { IfErr result IsPlainStop }
-    ensures found { B.modelled ≡ true → MatchResult result
-        (λ low. (a : ℕ) → WasReset low port a (B.world bus.old) (B.world bus.new))
-        (λ stop. (a : ℕ) → StopsFairly no_fault port a stop (B.world bus.old) (B.world bus.new)) }
+    ensures part { B.modelled ≡ true → (a : ℕ) → Part B.world B.trace (AtPort port a)
+        (reset_bound port) (λ old new low. WasReset low port a old new)
+        (StopsAt port a no_fault) bus.old result bus.new }
 {
     begin_reset(bus, port)?;
     let status = read_status(alloc, bus, port)?;
@@ -82,11 +83,8 @@ fn reset<B: Bus>(alloc: Global, bus: &mut B, port: HubPort) -> Result<bool, Stop
 /// Clears C_PORT_RESET where it is set.
 fn settle<B: Bus>(bus: &mut B, port: HubPort, changed: bool) -> Result<(), EnumFault>
     requires { IsAsked B.modelled (B.world bus.old) port }
-    ensures went { B.modelled ≡ true → Went B.world B.trace (order_bound port) bus.old bus.new }
-    ensures told { B.modelled ≡ true → IfErr result (λ fault. FaultBy port fault
-        (B.world bus.old) (B.world bus.new)) }
-    ensures within { B.modelled ≡ true
-        → (a : ℕ) → AtPort port a (B.world bus.old) (B.world bus.new) }
+    ensures part { B.modelled ≡ true → (a : ℕ) → Part B.world B.trace (AtPort port a)
+        (order_bound port) IsDone (FailsAt port) bus.old result bus.new }
     ensures devices { B.modelled ≡ true → KeepsDevices (B.world bus.old) (B.world bus.new) }
     ensures calls { B.modelled ≡ true
         → SettlesReset port changed (B.world bus.old) result (B.world bus.new) }
@@ -112,19 +110,12 @@ fn needs_pre(port: HubPort) -> bool
 fn first_maximum<B: Bus>(alloc: Global, bus: &mut B, unaddressed: Target) -> Result<u8, Stop>
     requires target { IsTarget unaddressed }
     requires max { unaddressed.max ≡ 8 }
-    ensures went { B.modelled ≡ true
-        → Went B.world B.trace (read_bound DEVICE_HEAD_LENGTH) bus.old bus.new }
-    ensures told { B.modelled ≡ true → IfErr result (λ stop. StopTold unaddressed stop
-        (B.world bus.old) (B.world bus.new)) }
     ensures fits { MatchResult result (λ max. (8 ≤ max) × (max ≤ 64)) IsPlainStop }
-    ensures head { B.modelled ≡ true → MatchResult result
-        (FindsHead unaddressed (B.world bus.old) (B.world bus.new))
-        (λ stop. Explains (IsRefusedFor (head_fault unaddressed.low) stop) unaddressed
-        (B.world bus.old) (B.world bus.new)) }
-    ensures keeps { B.modelled ≡ true → OnlyAsks (B.world bus.old) (B.world bus.new) }
+    ensures read { B.modelled ≡ true → Read B.world B.trace (read_bound DEVICE_HEAD_LENGTH)
+        (FindsHead unaddressed) (StopsHead unaddressed) bus.old result bus.new }
 {
     let stalled = Cause::Stalled(Request::Device);
-    let bytes = answered_or(stalled, get_device(alloc, bus, unaddressed, 8))?;
+    let bytes = answered_or(stalled, get_device(alloc, bus, unaddressed, HEAD))?;
     match device_head(bytes.as_slice(), unaddressed.low) {
         Ok(max) => Ok(max),
         Err(_) => Err(Stop::Refused(Cause::BadDevice)),
@@ -135,24 +126,18 @@ fn first_maximum<B: Bus>(alloc: Global, bus: &mut B, unaddressed: Target) -> Res
 fn descriptor<B: Bus>(alloc: Global, bus: &mut B, target: Target) -> Result<Option<[u8; 18]>, Stop>
     requires target { IsTarget target }
     requires max { 8 ≤ target.max }
-    ensures went { B.modelled ≡ true
-        → Went B.world B.trace (read_bound DEVICE_LENGTH) bus.old bus.new }
-    ensures told { B.modelled ≡ true → MatchResult result
-        (DescriptorTold target (B.world bus.old) (B.world bus.new))
-        (λ stop. StopTold target stop (B.world bus.old) (B.world bus.new)) }
     ensures device { MatchResult result
         (λ found. IfSome found (λ bytes. is_device target.low bytes ≡ true)) IsPlainStop }
-    ensures bytes { B.modelled ≡ true → MatchResult result
-        (FindsDescriptor target (B.world bus.old) (B.world bus.new))
-        (λ stop. RefusesDescriptor target stop (B.world bus.old) (B.world bus.new)) }
-    ensures keeps { B.modelled ≡ true → OnlyAsks (B.world bus.old) (B.world bus.new) }
+    ensures read { B.modelled ≡ true → Read B.world B.trace (read_bound DEVICE_LENGTH)
+        (Both (DescriptorTold target) (FindsDescriptor target)) (StopsDescriptor target)
+        bus.old result bus.new }
 {
-    let outcome = get_device(alloc, bus, target, 18);
+    let outcome = get_device(alloc, bus, target, WHOLE);
     if outcome == Err(PipeFault::NoAnswer) {
         return Ok(None);
     }
     let bytes = answered_or(Cause::Stalled(Request::Device), outcome)?;
-    match bytes.as_slice().first_chunk::<18>() {
+    match bytes.as_slice().first_chunk::<DEVICE_LENGTH>() {
         Some(bytes) => device_bytes(bytes, target.low),
         None => Err(Stop::Refused(Cause::BadDevice)),
     }
@@ -172,17 +157,10 @@ fn device_bytes(bytes: &[u8; 18], low: bool) -> Result<Option<[u8; 18]>, Stop>
 /// The device at address 0, once its port is reset and its maximum packet is known.
 pub(crate) fn unaddressed<B: Bus>(alloc: Global, bus: &mut B, port: HubPort) -> Result<Target, Stop>
     requires port { IsAsked B.modelled (B.world bus.old) port }
-    ensures went { B.modelled ≡ true
-        → Went B.world B.trace (unaddressed_bound port) bus.old bus.new }
-    ensures told { B.modelled ≡ true → IfErr result (λ stop. (a : ℕ) → StopToldAt port a stop
-        (B.world bus.old) (B.world bus.new)) }
     ensures target { MatchResult result (IsUnaddressed port) IsPlainStop }
-    ensures within { B.modelled ≡ true
-        → (a : ℕ) → AtPort port a (B.world bus.old) (B.world bus.new) }
-    ensures device { B.modelled ≡ true → MatchResult result
-        (λ target. (a : ℕ) → Awaits target port a (B.world bus.old) (B.world bus.new))
-        (λ stop. (a : ℕ) → StopsFairly early_fault port a stop
-        (B.world bus.old) (B.world bus.new)) }
+    ensures part { B.modelled ≡ true → (a : ℕ) → Part B.world B.trace (AtPort port a)
+        (unaddressed_bound port) (λ old new target. Awaits target port a old new)
+        (StopsAt port a early_fault) bus.old result bus.new }
 {
     let low = reset(alloc, bus, port)?;
     let pre = low && needs_pre(port);
@@ -192,7 +170,7 @@ pub(crate) fn unaddressed<B: Bus>(alloc: Global, bus: &mut B, port: HubPort) -> 
         bus,
         Target {
             addr,
-            max: 8,
+            max: LEAST_PACKET,
             low,
             pre,
         },
@@ -216,17 +194,11 @@ fn pass<B: Bus>(
     requires port { IsAsked B.modelled (B.world bus.old) port }
     requires least { 1 ≤ address }
     requires most { address < 128 }
-    ensures went { B.modelled ≡ true → Went B.world B.trace (pass_bound port) bus.old bus.new }
-    ensures told { B.modelled ≡ true → MatchResult result
-        (PassTold port address (B.world bus.old) (B.world bus.new))
-        (λ stop. StopToldAt port address stop (B.world bus.old) (B.world bus.new)) }
     ensures addressed { MatchResult result
         (λ found. IfSome found (λ device. device.target.addr ≡ address)) IsPlainStop }
-    ensures within { B.modelled ≡ true → AtPort port address (B.world bus.old) (B.world bus.new) }
-    ensures taken { B.modelled ≡ true → MatchResult result
-        (PassEnds port address (B.world bus.old) (B.world bus.new))
-        (λ stop. StopsFairly addressed_fault port address stop
-        (B.world bus.old) (B.world bus.new)) }
+    ensures part { B.modelled ≡ true → Part B.world B.trace (AtPort port address)
+        (pass_bound port) (Both (PassTold port address) (PassEnds port address))
+        (StopsAt port address addressed_fault) bus.old result bus.new }
 {
     let target = unaddressed(alloc, bus, port)?;
     let stalled = Cause::Stalled(Request::Address);
@@ -252,18 +224,12 @@ pub(crate) fn passes<B: Bus>(
     requires port { IsAsked B.modelled (B.world bus.old) port }
     requires least { 1 ≤ address }
     requires most { address < 128 }
-    ensures went { B.modelled ≡ true → Went B.world B.trace (3 * pass_bound port) bus.old bus.new }
-    ensures told { B.modelled ≡ true → MatchResult result
-        (λ device. DescriptorRead device.target device.bytes (B.world bus.old) (B.world bus.new))
-        (λ stop. StopToldAt port address stop (B.world bus.old) (B.world bus.new)) }
     ensures addressed { MatchResult result (λ device. device.target.addr ≡ address) IsPlainStop }
-    ensures within { B.modelled ≡ true → AtPort port address (B.world bus.old) (B.world bus.new) }
-    ensures taken { B.modelled ≡ true → MatchResult result
-        (HasTaken port address (B.world bus.old) (B.world bus.new))
-        (λ stop. StopsFairly addressed_fault port address stop
-        (B.world bus.old) (B.world bus.new)) }
+    ensures part { B.modelled ≡ true → Part B.world B.trace (AtPort port address)
+        (PASSES * pass_bound port) (TakesAddressed port address)
+        (StopsAt port address addressed_fault) bus.old result bus.new }
 {
-    for _pass in 0..3u8 {
+    for _pass in 0..PASSES {
         if let Some(device) = pass(alloc, bus, port, address)? {
             return Ok(device);
         }

@@ -1,16 +1,13 @@
 //! The strings of a device (9.6.7).
-ghost use Rattle.std.specs.Prelude.{◌≡◌, ◌≤◌, true, IfOk, IfErr, MatchResult};
-ghost use Rattle.usb_bus.specs.Traces.{Went};
+ghost use Rattle.std.specs.Prelude.{◌≡◌, ◌≤◌, true, IfOk, IfErr};
 ghost use Rattle.usb_transaction.specs.Transactions.{IsTarget};
 ghost use Rattle.usb_enum.specs.Bounds.{read_bound, strings_bound};
 ghost use Rattle.usb_enum.specs.Verdicts.{strings_by};
-ghost use Rattle.usb_enum.specs.LearnedFacts.{Learns, Explains};
-ghost use Rattle.usb_enum.specs.Readings.{AtMaximum, HasString, language_of, string_in, no_strings};
-ghost use Rattle.usb_enum.specs.Refusals.{Refuses, no_fault};
-ghost use Rattle.usb_enum.specs.Reasons.{StopTold};
+ghost use Rattle.usb_enum.specs.Parts.{Answered, Read, StopsRead};
+ghost use Rattle.usb_enum.specs.Readings.{HasString, language_of, string_in, no_strings};
+ghost use Rattle.usb_enum.specs.Refusals.{no_fault};
 ghost use Rattle.usb_enum.specs.StringRequests.{AsksString, AsksLanguage, ReadsString, ReadsStrings};
 ghost use Rattle.usb_enum.specs.Text.{first_language_of, string_units};
-ghost use Rattle.usb_enum.specs.Frames.{OnlyAsks};
 ghost use Rattle.usb_enum.specs.Stop.{IsPlainStop};
 
 use crate::StringUnits;
@@ -93,17 +90,10 @@ fn string_bytes<B: Bus>(
 ) -> Result<Option<Vec<u8>>, Stop>
     requires target { IsTarget target }
     requires max { 8 ≤ target.max }
-    ensures went { B.modelled ≡ true → Went B.world B.trace (read_bound 255) bus.old bus.new }
-    ensures told { B.modelled ≡ true → MatchResult result (AsksString target index language
-        (B.world bus.old) (B.world bus.new))
-        (λ stop. StopTold target stop (B.world bus.old) (B.world bus.new)) }
     ensures plain { IfErr result IsPlainStop }
-    ensures learned { B.modelled ≡ true → MatchResult result
-        (λ bytes. Learns (AtMaximum target (HasString index bytes)) target
-        (B.world bus.old) (B.world bus.new))
-        (λ stop. Explains (Refuses target no_fault stop) target
-        (B.world bus.old) (B.world bus.new)) }
-    ensures keeps { B.modelled ≡ true → OnlyAsks (B.world bus.old) (B.world bus.new) }
+    ensures read { B.modelled ≡ true → Read B.world B.trace (read_bound 255)
+        (Answered target (AsksString target index language) (HasString index))
+        (StopsRead target no_fault) bus.old result bus.new }
 {
     match get_string(alloc, bus, target, index, language) {
         Ok(bytes) => Ok(Some(bytes)),
@@ -124,17 +114,11 @@ fn read_one<B: Bus>(
 ) -> Result<Option<StringUnits>, Stop>
     requires target { IsTarget target }
     requires max { 8 ≤ target.max }
-    ensures went { B.modelled ≡ true → Went B.world B.trace (read_bound 255) bus.old bus.new }
-    ensures told { B.modelled ≡ true → MatchResult result (ReadsString target index language
-        (B.world bus.old) (B.world bus.new))
-        (λ stop. StopTold target stop (B.world bus.old) (B.world bus.new)) }
     ensures plain { IfErr result IsPlainStop }
-    ensures learned { B.modelled ≡ true → MatchResult result
-        (λ string. Learns (AtMaximum target (λ spec. string ≡ string_in spec index)) target
-        (B.world bus.old) (B.world bus.new))
-        (λ stop. Explains (Refuses target no_fault stop) target
-        (B.world bus.old) (B.world bus.new)) }
-    ensures keeps { B.modelled ≡ true → OnlyAsks (B.world bus.old) (B.world bus.new) }
+    ensures read { B.modelled ≡ true → Read B.world B.trace (read_bound 255)
+        (Answered target (ReadsString target index language)
+        (λ string spec. string ≡ string_in spec index))
+        (StopsRead target no_fault) bus.old result bus.new }
 {
     if index == 0 {
         return Ok(None);
@@ -149,17 +133,10 @@ fn read_one<B: Bus>(
 fn language<B: Bus>(alloc: Global, bus: &mut B, target: Target) -> Result<Option<u16>, Stop>
     requires target { IsTarget target }
     requires max { 8 ≤ target.max }
-    ensures went { B.modelled ≡ true → Went B.world B.trace (read_bound 255) bus.old bus.new }
-    ensures told { B.modelled ≡ true
-        → MatchResult result (AsksLanguage target (B.world bus.old) (B.world bus.new))
-        (λ stop. StopTold target stop (B.world bus.old) (B.world bus.new)) }
     ensures plain { IfErr result IsPlainStop }
-    ensures learned { B.modelled ≡ true → MatchResult result
-        (λ language. Learns (AtMaximum target (λ spec. language ≡ language_of spec)) target
-        (B.world bus.old) (B.world bus.new))
-        (λ stop. Explains (Refuses target no_fault stop) target
-        (B.world bus.old) (B.world bus.new)) }
-    ensures keeps { B.modelled ≡ true → OnlyAsks (B.world bus.old) (B.world bus.new) }
+    ensures read { B.modelled ≡ true → Read B.world B.trace (read_bound 255)
+        (Answered target (AsksLanguage target) (λ language spec. language ≡ language_of spec))
+        (StopsRead target no_fault) bus.old result bus.new }
 {
     match string_bytes(alloc, bus, target, 0, 0)? {
         Some(bytes) => Ok(first_language(bytes.as_slice())),
@@ -176,17 +153,11 @@ pub(crate) fn read_strings<B: Bus>(
 ) -> Result<Strings, Stop>
     requires target { IsTarget target }
     requires max { 8 ≤ target.max }
-    ensures went { B.modelled ≡ true → Went B.world B.trace strings_bound bus.old bus.new }
-    ensures told { B.modelled ≡ true → MatchResult result (ReadsStrings target indexes
-        (B.world bus.old) (B.world bus.new))
-        (λ stop. StopTold target stop (B.world bus.old) (B.world bus.new)) }
     ensures plain { IfErr result IsPlainStop }
-    ensures learned { B.modelled ≡ true → MatchResult result
-        (λ strings. Learns (AtMaximum target (λ spec. strings ≡ strings_by spec indexes)) target
-        (B.world bus.old) (B.world bus.new))
-        (λ stop. Explains (Refuses target no_fault stop) target
-        (B.world bus.old) (B.world bus.new)) }
-    ensures keeps { B.modelled ≡ true → OnlyAsks (B.world bus.old) (B.world bus.new) }
+    ensures read { B.modelled ≡ true → Read B.world B.trace strings_bound
+        (Answered target (ReadsStrings target indexes)
+        (λ strings spec. strings ≡ strings_by spec indexes))
+        (StopsRead target no_fault) bus.old result bus.new }
 {
     if indexes.manufacturer == 0 && indexes.product == 0 && indexes.serial_number == 0 {
         return Ok(no_strings());

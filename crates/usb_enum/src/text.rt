@@ -6,7 +6,7 @@ ghost use Rattle.usb_enum.specs.Text.{config_text_of, any_has_value, need_of, ne
 
 use std::alloc::{AllocError, Global};
 use std::marker::Model;
-use usb_descriptor::read_config;
+use usb_descriptor::{ConfigView, read_config};
 
 /// A configuration text: nine bytes of the configuration descriptor, then whole items (9.6.3).
 #[derive(Debug, Drop)]
@@ -44,56 +44,49 @@ impl ConfigText {
         self.bytes.as_slice()
     }
 
+    /// The configuration that the bytes are.
+    fn view(&self) -> ConfigView<'_>
+        ensures { result ≡ self.now }
+    {
+        ConfigView::known(self.bytes.as_slice())
+    }
+
     /// bConfigurationValue, by which SET_CONFIGURATION names the configuration.
-    #[tactic(auto, using(usb_descriptor::proofs::Interface::header_of))]
     pub fn value(&self) -> u8
         ensures { result ≡ configuration_value self.now }
     {
-        self.bytes[5]
+        self.view().value()
     }
 
     /// What the configuration needs, in mA: twice bMaxPower.
-    #[tactic(auto, using(usb_descriptor::proofs::Interface::header_of))]
     pub fn need(&self) -> u16
         ensures { result ≡ need_of self.now }
     {
-        2 * u16::from(self.bytes[8])
+        2 * u16::from(self.view().max_power())
     }
 
     /// The number and the maximum packet of the status endpoint of a hub (11.12.1).
-    #[tactic(auto, unfolding(usb_descriptor::specs::Choice::status_endpoint_of))]
     pub fn status_endpoint(&self) -> Option<(u8, u8)>
         ensures value { result ≡ status_endpoint_of self.now }
         ensures usable { IfSome result IsUsable }
     {
-        match read_config(self.bytes.as_slice()) {
-            Ok(text) => text.status_endpoint(),
-            Err(_) => None,
-        }
+        self.view().status_endpoint()
     }
 
     /// The number and the maximum packet of the first bulk OUT endpoint (5.8).
-    #[tactic(auto, unfolding(usb_descriptor::specs::Choice::bulk_out_of))]
     pub fn bulk_out(&self) -> Option<(u8, u8)>
         ensures value { result ≡ bulk_out_of self.now }
         ensures usable { IfSome result IsUsable }
     {
-        match read_config(self.bytes.as_slice()) {
-            Ok(text) => text.bulk_out(),
-            Err(_) => None,
-        }
+        self.view().bulk_out()
     }
 
     /// The number and the maximum packet of the first bulk IN endpoint (5.8).
-    #[tactic(auto, unfolding(usb_descriptor::specs::Choice::bulk_in_of))]
     pub fn bulk_in(&self) -> Option<(u8, u8)>
         ensures value { result ≡ bulk_in_of self.now }
         ensures usable { IfSome result IsUsable }
     {
-        match read_config(self.bytes.as_slice()) {
-            Ok(text) => text.bulk_in(),
-            Err(_) => None,
-        }
+        self.view().bulk_in()
     }
 
     /// A second text of the same bytes.

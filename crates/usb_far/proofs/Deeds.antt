@@ -7,7 +7,7 @@ use Rattle.std.proofs.lemmas.List.{map-append, take_more}
 use Rattle.std.specs.Io.KnownBytes.{Appends}
 use Rattle.usb_port.specs.PortState.{PortState, off, status_of}
 use Rattle.usb_port.specs.declared.call.PortCall.{PortCall}
-use Rattle.usb_world.specs.declared.event.Due.{Due}
+use Rattle.usb_world.specs.declared.event.Ask.{Ask}
 use Rattle.usb_world.specs.declared.types.Attempt.{Attempt}
 use Rattle.usb_world.specs.declared.types.Outcome.{Outcome}
 use Rattle.usb_world.specs.World.{World, roots_of}
@@ -60,11 +60,11 @@ event_due : (f : Far) → f.came ≡ false
 unfolding wait_done
 event_due f came = rw came refl
 
-still_sound : (w v : World) (due : Option Due) → EventEnds w (Ok due) v → v.fault ≡ None
+still_sound : (w v : World) (due : Option (Option Ask)) → EventEnds w (Ok due) v → v.fault ≡ None
 still_sound w v None ends = ap (λ u. u.fault) ends.same ∙ ends.sound
 still_sound w v (Some due) ends = ends.still
 
-pub event_wanted : (old new : Played) (due : Option Due) (answer : Answer) → old.far.came ≡ false
+pub event_wanted : (old new : Played) (due : Option (Option Ask)) (answer : Answer) → old.far.came ≡ false
     → TakesEvent old.far.world old.trace.bytes (Ok due) new.far.world new.trace.bytes
     → due_answer due ≡ Some answer → new.far ≡ record old.far { world = new.far.world } → IsDone (wait_done old.far) old answer new
 event_wanted old new due answer came takes told far = subst (λ d. IsDone d old answer new) (sym (event_due old.far came)) (record {
@@ -74,7 +74,7 @@ event_wanted old new due answer came takes told far = subst (λ d. IsDone d old 
   traced = subst (λ v. Appends old.trace.bytes new.trace.bytes (lines_between old.far.world v)) takes.exact takes.text;
 })
 
-pub too_much_wanted : (old new : Played) (due : Option Due) → old.far.came ≡ false
+pub too_much_wanted : (old new : Played) (due : Option (Option Ask)) → old.far.came ≡ false
     → TakesEvent old.far.world old.trace.bytes (Ok due) new.far.world new.trace.bytes
     → due_answer due ≡ None → new.far ≡ record old.far { world = new.far.world } → SendsTooMuch old LongSend new
 too_much_wanted old new due came takes told far =

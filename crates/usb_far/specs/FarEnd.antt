@@ -9,8 +9,8 @@ use Rattle.usb_port.specs.declared.call.PortCall.{PortCall}
 use Rattle.usb_port.specs.PortState.{status_of}
 use Rattle.usb_request.specs.Layout.{bytes_of}
 use Rattle.usb_request.specs.declared.setup.Setup.{Setup as SetupData}
-use Rattle.usb_world.specs.declared.event.Due.{Due}
-use Rattle.usb_world.specs.declared.event.Due.TheVariants as due
+use Rattle.usb_world.specs.declared.event.Ask.{Ask}
+use Rattle.usb_world.specs.declared.event.Ask.TheVariants as ask
 use Rattle.usb_world.specs.declared.types.Attempt.{Attempt}
 use Rattle.usb_world.specs.declared.types.BusFault.{BusFault}
 use Rattle.usb_world.specs.declared.types.BusFault.TheVariants.{TraceFailed}
@@ -25,7 +25,7 @@ use Rattle.usb_bus.specs.Traces.{Attempts, TakesEvent}
 use Rattle.usb_lines.specs.Pipes.{Pipe}
 use Rattle.usb_lines.specs.declared.line.LineFault.{LineFault}
 use Rattle.usb_lines.specs.declared.line.LineFault.TheVariants as line
-use Rattle.usb_wire.specs.Answers.{said_line}
+use Rattle.usb_wire.specs.Answers.{said_line, send_limit}
 use Rattle.usb_wire.specs.Questions.{kind_asked}
 use Rattle.usb_wire.specs.declared.answer.Answer.{Answer}
 use Rattle.usb_wire.specs.declared.answer.Answer.TheVariants.{Roots, Ack, Nak, Stall, Nothing, Data, Done, Show, End, Send, Receive, Clear}
@@ -180,18 +180,21 @@ call_done number call f = record {
   by_bus = false;
 }
 
--- at most 64 bytes
+-- as many bytes as a line has room for
 unfoldable pub send_wanted : List ℕ → List ℕ → Option Answer
-send_wanted path bytes = if nat_lt 64 (length bytes) then None else Some (Send path (record { items = bytes }))
+send_wanted path bytes = if nat_lt send_limit (length bytes) then None else Some (Send path (record { items = bytes }))
+
+abbrev pub asked_answer : Ask → Option Answer
+asked_answer ask.Show = Some Show
+asked_answer (ask.Send path bytes) = send_wanted path bytes
+asked_answer (ask.Receive path packets) = Some (Receive path packets)
+asked_answer (ask.Clear path) = Some (Clear path)
 
 -- what an event asks, and the end where none is left
-abbrev pub due_answer : Option Due → Option Answer
+abbrev pub due_answer : Option (Option Ask) → Option Answer
 due_answer None = Some End
-due_answer (Some due.Changed) = Some Done
-due_answer (Some due.Show) = Some Show
-due_answer (Some (due.Send path bytes)) = send_wanted path bytes
-due_answer (Some (due.Receive path packets)) = Some (Receive path packets)
-due_answer (Some (due.Clear path)) = Some (Clear path)
+due_answer (Some None) = Some Done
+due_answer (Some (Some asked)) = asked_answer asked
 
 unfoldable pub wait_done : Far → Deed
 wait_done f =

@@ -6,19 +6,19 @@ ghost use Rattle.usb_bus.specs.Watch.{has_failed};
 ghost use Rattle.usb_bus.specs.Sim.{trace_of, world_of};
 ghost use Rattle.usb_lines.specs.Pipes.{pipe_of};
 ghost use Rattle.usb_wire.specs.Questions.{IsQuestion};
-ghost use Rattle.usb_far.specs.FarEnd.{IsEventGivenUp, IsGivenUp, HasNoPort, IsDone, IsUnanswered, SendsTooMuch, attempt_done, call_done, came_in, done, due_answer, send_wanted, statuses, wait_done};
+ghost use Rattle.usb_far.specs.FarEnd.{IsEventGivenUp, IsGivenUp, HasNoPort, IsDone, IsUnanswered, SendsTooMuch, attempt_done, call_done, asked_answer, came_in, done, due_answer, send_wanted, statuses, wait_done};
 
 use crate::attempt::{answer_of, in_attempt, is_poll, out_attempt, setup_attempt};
 use crate::fault::FarFault;
 use arrayvec::ArrayVec;
 use std::alloc::{AllocError, Global};
 use std::io::Write;
-use usb_bus::{Attempt, Bus, Due, Plan, SentBytes, SimBus, Trace, Tracer, Watched};
+use usb_bus::{Ask, Attempt, Bus, Plan, SentBytes, SimBus, Trace, Tracer, Watched};
 use usb_port::{PortCall, PortPath};
 use usb_request::feature::{
     C_PORT_CONNECTION, C_PORT_ENABLE, C_PORT_RESET, PORT_ENABLE, PORT_POWER, PORT_RESET,
 };
-use usb_wire::{Answer, Question};
+use usb_wire::{Answer, Question, SEND_LIMIT};
 
 /// The statuses of root ports, port 1 first.
 pub(crate) type Statuses = ArrayVec<[u8; 4], 7>;
@@ -201,16 +201,24 @@ fn call_root<T: Trace>(bus: &mut SimBus<T>, port: u8, call: PortCall)
 }
 
 /// What an event asks, as it is told; None where it sends more than a line has room for.
-fn answer_of_due(due: Option<Due>) -> Option<Answer>
+fn answer_of_due(due: Option<Option<Ask>>) -> Option<Answer>
     ensures { result ≡ due_answer due }
 {
     match due {
         None => Some(Answer::End),
-        Some(Due::Changed) => Some(Answer::Done),
-        Some(Due::Show) => Some(Answer::Show),
-        Some(Due::Send(path, bytes)) => send_answer(path, &bytes),
-        Some(Due::Receive(path, packets)) => Some(Answer::Receive { path, packets }),
-        Some(Due::Clear(path)) => Some(Answer::Clear(path)),
+        Some(None) => Some(Answer::Done),
+        Some(Some(ask)) => asked_answer(ask),
+    }
+}
+
+fn asked_answer(ask: Ask) -> Option<Answer>
+    ensures { result ≡ asked_answer ask }
+{
+    match ask {
+        Ask::Show => Some(Answer::Show),
+        Ask::Send(path, bytes) => send_answer(path, &bytes),
+        Ask::Receive(path, packets) => Some(Answer::Receive { path, packets }),
+        Ask::Clear(path) => Some(Answer::Clear(path)),
     }
 }
 
@@ -219,7 +227,7 @@ fn answer_of_due(due: Option<Due>) -> Option<Answer>
 fn send_answer(path: PortPath, bytes: &SentBytes) -> Option<Answer>
     ensures { result ≡ send_wanted path bytes.now }
 {
-    if bytes.as_slice().len() > 64 {
+    if bytes.as_slice().len() > SEND_LIMIT {
         return None;
     }
     let mut sent = ArrayVec::new();

@@ -27,7 +27,7 @@ pub enum FarFault {
     /// The input ended in mid-line.
     #[error("host gone")]
     HostGone,
-    /// An event sends more than 64 bytes, for which no line has room.
+    /// An event sends more than 500 bytes, for which not every line has room.
     #[error("too much to send")]
     LongSend,
     /// The simulated bus makes no more steps.

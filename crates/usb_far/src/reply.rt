@@ -9,8 +9,8 @@ use arrayvec::ArrayVec;
 use usb_bus::Trace;
 use usb_wire::{Asked, Question, Said, said_line};
 
-/// Room for the status of each root port and an answer: eight lines of 700 bytes.
-const ROOM: usize = 5608;
+/// Room for the status of each root port and an answer: eight lines of 1,024 bytes.
+const ROOM: usize = 8200;
 
 /// The lines that go out behind a question.
 pub(crate) type Reply = ArrayVec<u8, ROOM>;
@@ -23,7 +23,7 @@ impl<T: Trace> FarEnd<T> {
     ///
     /// # Errors
     /// NoQuestion where it is the hello and not the first question, or the first one and not the hello; BadNumber where
-    /// there is no such root port; LongSend where an event sends more than 64 bytes; the fault of the bus.
+    /// there is no such root port; LongSend where an event sends more than 500 bytes; the fault of the bus.
     pub(crate) fn reply(&mut self, question: Question) -> Result<Reply, FarFault>
         requires { IsQuestion question }
         ensures replied { IfOk result (λ reply.
@@ -48,7 +48,7 @@ impl<T: Trace> FarEnd<T> {
     fn changes(&mut self, asked: Asked) -> Reply
         ensures told { ChangesTold asked (far_of self.old) (far_of self.new) result.items }
         ensures bus { self.new.bus ≡ self.old.bus }
-        ensures few { length result.items ≤ 4907 }
+        ensures few { length result.items ≤ 7175 }
     {
         self.phase = Phase::Asks;
         let mut lines = Reply::new();
@@ -76,10 +76,10 @@ fn may_ask(phase: Phase, question: &Question) -> bool
 /// The lines of statuses that are not what was told, of the ports from a number on.
 #[tactic(auto, unfolding(crate::specs::FarEnd::pushes))]
 fn push_changes(lines: &mut Reply, number: u8, told: &[[u8; 4]], now: &[[u8; 4]])
-    requires room { length lines.old.items + 701 * length now.now ≤ 4907 }
+    requires room { length lines.old.items + 1025 * length now.now ≤ 7175 }
     requires few { number + length now.now ≤ 100 }
     ensures lines { lines.new.items ≡ lines.old.items ++ pushes number told.now now.now }
-    ensures left { length lines.new.items ≤ length lines.old.items + 701 * length now.now }
+    ensures left { length lines.new.items ≤ length lines.old.items + 1025 * length now.now }
 {
     let Some((status, rest)) = now.split_first() else {
         return;
@@ -117,9 +117,9 @@ fn behind_first(all: &[[u8; 4]]) -> &[[u8; 4]]
 
 /// The line of what is said, with its newline.
 fn push_said(lines: &mut Reply, said: &Said)
-    requires { length lines.old.items ≤ 4907 }
+    requires { length lines.old.items ≤ 7175 }
     ensures line { lines.new.items ≡ lines.old.items ++ line_of said.now }
-    ensures left { length lines.new.items ≤ length lines.old.items + 701 }
+    ensures left { length lines.new.items ≤ length lines.old.items + 1025 }
 {
     let line = said_line(said);
     lines

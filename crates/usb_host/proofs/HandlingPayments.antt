@@ -1,6 +1,6 @@
 -- What was left to do pays for the handling of a port.
 use Rattle.std.proofs.Common.{◌≡◌, ◌≤◌, ◌⊎◌, ◌∙◌, inl, inr, refl, sym, ap, subst, arith, ℕ, ◌+◌, ◌*◌, false, List, [], ◌∷◌, ◌++◌, Option, None, Some, Result, Ok, Err}
-use Rattle.std.specs.Prelude.{IsSome, IsSomeAnd, OnOk, IfErr, IfOk, is_some, length}
+use Rattle.std.specs.Prelude.{IsErr, IsSome, IsSomeAnd, OnOk, IfErr, IfOk, is_some, length}
 use Rattle.std.proofs.Math.Nat.{mul-le-mul_left}
 use Rattle.usb_port.specs.Order.{parent_of, port_on_hub}
 use Rattle.usb_port.specs.Path.{IsPath}
@@ -22,17 +22,19 @@ use Rattle.usb_table.specs.Listing.{finding_at, hub_facts_at, hub_facts_in}
 use Rattle.usb_table.proofs.Interface.{FoundPort, port_found-some}
 use Rattle.usb_enum.specs.declared.finding.Finding.{Finding}
 use Rattle.usb_host.specs.Backlog.{FindsNone, ServePaid, hubs, found, bare, tidied, calm}
-use Rattle.usb_host.specs.Bounds.{deciding_bound, drop_bound, serving_bound}
+use Rattle.usb_host.specs.Bounds.{deciding_bound, drop_bound, handling_bound, serving_bound}
 use Rattle.usb_host.specs.Budget.{NumberPaid, Pays, PaysPart, PortPaid, Weights, WorksOn, handling_most, hub_weight, paid, idle}
 use Rattle.usb_host.specs.Hosting.{Hosting}
 use Rattle.usb_host.specs.PortHandling.{ServesSound}
 use Rattle.usb_host.specs.Ports.{EndsAs, StandsAt}
 use Rattle.usb_host.specs.Progress.{HostWent}
-use Rattle.usb_host.specs.Service.{FinishesAt, HasHub, ServesPort, StaysOrForgets}
+use Rattle.usb_host.specs.Service.{FinishesAt, HandlesBelow, HandlesNumber, HandlesPort, HasHub, ServedAt, ServesPort, StaysOrForgets, port_known, port_unknown}
 use Rattle.usb_host.specs.declared.fault.HostFault.{HostFault}
+use Rattle.usb_host.specs.declared.host.Round.{Round}
 use Rattle.usb_host.specs.declared.host.Round.TheVariants.{Worked, Quiet}
 use Rattle.usb_host.proofs.Climbs.{parent_length}
-use Rattle.usb_host.proofs.Payments.{few_stop, looks_pay, plain_costs, plain_pays, plan_within, ports_after, ports_left}
+use Rattle.usb_host.proofs.Parts.{part-fails, part-none, part-wider}
+use Rattle.usb_host.proofs.Payments.{few_stop, looks_pay, on_err, part_failed, plain_costs, plain_pays, plan_within, ports_after, ports_left}
 use Rattle.usb_host.proofs.Places.{finding-kept}
 use Rattle.usb_host.proofs.Stations.{lost_above}
 
@@ -105,9 +107,9 @@ module _ (c : Weights) (path : List ℕ) (a b : Hosting) (few : b.world.attempts
 
 -- A port was handled
 
-module _ (path : List ℕ) (port : KnownPort) (a b d : Hosting) (s : StandsAt path port a) (due : Type 0) (first : HostWent serving_bound a b)
+module _ (path : List ℕ) (port : KnownPort) (a b d : Hosting) (s : StandsAt path port a) (first : HostWent serving_bound a b)
     (second : HostWent drop_bound b d) where
-  few_served : (c : Weights) (plan : PlanData) (served : Result (Unit {0}) EnumFault) → ServesPort path due a served b → WorksOn c plan a
+  few_served : (c : Weights) (plan : PlanData) (served : Result (Unit {0}) EnumFault) → ServesPort path port a served b → WorksOn c plan a
       → b.world.attempts ≤ a.world.attempts + (257200 + 100 * c.most)
   few_served c plan served x w = omega (arith, x.pays.few w.sound c.most (λ still. plan_within c plan a w))
 
@@ -116,7 +118,7 @@ module _ (path : List ℕ) (port : KnownPort) (a b d : Hosting) (s : StandsAt pa
     here = went_sound drop_bound b.world d.world second still
 
     done_pays : (served : Result (Unit {0}) EnumFault) (result : Result (Unit {0}) HostFault) → EndsAs served result
-        → IfErr served (λ fault. FaultAt port.port fault b.world) → ServesSound path a served b → ServesPort path due a served b
+        → IfErr served (λ fault. FaultAt port.port fault b.world) → ServesSound path a served b → ServesPort path port a served b
         → FinishesAt path served b result d → AtPorts b.world.left
         → IfOk result (λ done. PortPaid c path a d)
     done_pays (Ok done) (Ok x) ends told sound serves finishes ports =
@@ -135,7 +137,7 @@ module _ (path : List ℕ) (port : KnownPort) (a b d : Hosting) (s : StandsAt pa
     done_pays (Err fault) (Err other) ends told sound serves finishes ports = tt
 
   pub handling_pays : (served : Result (Unit {0}) EnumFault) (result : Result (Unit {0}) HostFault) → EndsAs served result
-      → IfErr served (λ fault. FaultAt port.port fault b.world) → ServesSound path a served b → ServesPort path due a served b
+      → IfErr served (λ fault. FaultAt port.port fault b.world) → ServesSound path a served b → ServesPort path port a served b
       → FinishesAt path served b result d
       → PaysPart handling_most (λ c done. PortPaid c path) a result d
   handling_pays served result ends told sound serves finishes = record {
@@ -145,18 +147,43 @@ module _ (path : List ℕ) (port : KnownPort) (a b d : Hosting) (s : StandsAt pa
 
 -- A port of a hub
 
-pub number_pays : (hub : List ℕ) (number : ℕ) (p : List ℕ) (done : Unit {0}) (a b : Hosting) → p ≡ hub ++ number ∷ []
-    → PaysPart handling_most (λ c done. PortPaid c p) a (Ok done) b → PaysPart handling_most (λ c. NumberPaid c hub number) a (Ok Worked) b
-number_pays hub number p done a b is x = record {
-  stops = x.stops;
-  pays = λ c plan w still. subst (λ (q : List ℕ). PortPaid c q a b) is (x.pays c plan w still);
+pub number_handled : (hub : List ℕ) (number : ℕ) (p : List ℕ) (due : Type 0) (a b : Hosting)
+    → p ≡ hub ++ number ∷ [] → due → HandlesPort p due a (Ok tt) b
+    → HandlesNumber hub number a (Ok Worked) b
+number_handled hub number p due a b is on x = record {
+  part = part-wider Round handling_bound handling_bound a b tt Worked x.part (omega arith);
+  handled = record {
+    did = x.handled.advances on;
+    served = λ s. port_known (subst (λ q. ServedAt q a b) is (x.handled.served s));
+  };
+  pays = record {
+    stops = x.pays.stops;
+    pays = λ c plan w still.
+        subst (λ (q : List ℕ). PortPaid c q a b) is (x.pays.pays c plan w still);
+  };
 }
 
-pub unknown_pays : (hub : List ℕ) (number : ℕ) (h : Hosting) → (IsPath (hub ++ number ∷ []) → known_port (hub ++ number ∷ []) h.entries ≡ None)
-    → PaysPart handling_most (λ c. NumberPaid c hub number) h (Ok Quiet) h
-unknown_pays hub number h unknown = record {
-  stops = λ c plan w. few_stop c (handling_most c) h h (omega arith) (omega arith);
-  pays = λ c plan w still. (refl, unknown);
+pub number_stops : (hub : List ℕ) (number : ℕ) (p : List ℕ) (due : Type 0) (a b : Hosting)
+    (fault : HostFault) (other : Result Round HostFault) → IsErr other
+    → HandlesPort p due a (Err fault) b → HandlesNumber hub number a other b
+number_stops hub number p due a b fault other e x = record {
+  part = part-fails handling_bound handling_bound a b fault other x.part e (omega arith);
+  handled = on_err other (λ round. HandlesBelow hub number round a b) e;
+  pays = part_failed other (Err fault) handling_most (λ (c : Weights). NumberPaid c hub number) _ a
+      b e x.pays;
+}
+
+-- none is known there
+pub number_unknown : (hub : List ℕ) (number : ℕ) (h : Hosting)
+    → (IsPath (hub ++ number ∷ []) → known_port (hub ++ number ∷ []) h.entries ≡ None)
+    → HandlesNumber hub number h (Ok Quiet) h
+number_unknown hub number h unknown = record {
+  part = part-none handling_bound Quiet h;
+  handled = record { did = refl; served = λ s. port_unknown unknown refl };
+  pays = record {
+    stops = λ c plan w. few_stop c (handling_most c) h h (omega arith) (omega arith);
+    pays = λ c plan w still. (refl, unknown);
+  };
 }
 
 -- A hub was dropped

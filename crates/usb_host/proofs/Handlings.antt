@@ -29,7 +29,7 @@ use Rattle.usb_table.specs.KnownPorts.{root_port, port_below}
 use Rattle.usb_table.specs.Listing.{finding_at}
 use Rattle.usb_host.specs.Accounts.{Accounts}
 use Rattle.usb_host.specs.Hosting.{Hosting}
-use Rattle.usb_host.specs.Ownership.{claims, IsOwned, IsOwnedBut, IsBare, IsRooted, root_of, StaysOwned, StaysSingle, KeepsOwned, PortOwned, KeepsPort, LeavesOwned, FinishesPort, HasLost, DropsHub, BaresAbove, KeepsDisabled}
+use Rattle.usb_host.specs.Ownership.{claims, IsOwned, IsOwnedBut, IsBare, IsRooted, root_of, StaysOwned, KeepsOwned, PortOwned, KeepsPort, LeavesOwned, FinishesPort, HasLost, DropsHub, BaresAbove, KeepsDisabled}
 use Rattle.usb_host.specs.Ports.{StandsAt, StandsNowhere}
 use Rattle.usb_host.specs.Progress.{Rests}
 use Rattle.usb_host.specs.declared.fault.HostFault.{HostFault}
@@ -233,9 +233,3 @@ drop_ends hub lost a b c d path r roots x others rest away same is = record {
 pub hub_lost : (hub : List ℕ) (a b : Hosting) (result : Result (Unit {0}) HostFault) (c : Hosting) → IsSome (finding_at hub b.entries) → StaysOwned a b → DropsHub hub b result c → KeepsOwned a result c
 hub_lost hub a b result c listed s d =
     keeps_owned result a c (λ o. d.ends (but_all hub (claims b.entries) b.world (s.stays o))) (λ r. d.rooted (s.rooted r) (s.rooted r hub listed))
-
-pub lost_single : (fault : HostFault) (result : Result (Unit {0}) HostFault) (a c : Hosting) → result ≡ Err fault → KeepsOwned a result c → StaysSingle a c
-lost_single fault result a c e k = subst (λ (r : Result (Unit {0}) HostFault). KeepsOwned a r c) e k
-
-pub lost_stays : (result : Result (Unit {0}) HostFault) (a c : Hosting) → result ≡ Ok tt → KeepsOwned a result c → StaysOwned a c
-lost_stays result a c e k = subst (λ (r : Result (Unit {0}) HostFault). KeepsOwned a r c) e k

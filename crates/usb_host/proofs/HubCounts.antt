@@ -103,6 +103,12 @@ hubs-gone path a b c r rest =
     let left : hubs c.entries ≡ hubs (without path b.entries) = ap hubs rest in
     omega (arith, hubs-rest a b r, left, hubs-without path b.entries)
 
+pub hubs-forgot : (path : List ℕ) (a b : Hosting) → b.entries ≡ without path a.entries
+    → hubs b.entries ≤ hubs a.entries
+hubs-forgot path a b rest =
+    let left : hubs b.entries ≡ hubs (without path a.entries) = ap hubs rest in
+    omega (arith, left, hubs-without path a.entries)
+
 pub hubs-found : (path : List ℕ) (c d : Hosting) → EntersOne path c d → hubs d.entries ≤ hubs c.entries + 1
 hubs-found path c d e =
     let is : hubs d.entries ≡ hubs (insert_entry path_cmp c.entries path e.finding) = ap hubs e.entries in

@@ -8,7 +8,8 @@ use Rattle.arrayvec.specs.ArrayVec.{ArrayVec}
 use Rattle.usb_port.specs.Path.{IsPath}
 use Rattle.usb_port.specs.Order.{rank_of}
 use Rattle.usb_world.specs.declared.event.Action.{Action}
-use Rattle.usb_world.specs.declared.event.Action.TheVariants.{Plug, Unplug, Show, Send, Receive, Clear}
+use Rattle.usb_world.specs.declared.event.Action.TheVariants.{Change, Ask}
+use Rattle.usb_world.specs.declared.event.Change.TheVariants.{Plug, Unplug}
 use Rattle.usb_world.specs.declared.event.Event.{Event}
 use Rattle.usb_world.specs.PlanData.{PlanData}
 use Rattle.usb_world.specs.World.{World}
@@ -239,30 +240,21 @@ module _ {X : Type 0} (p : X → Bool) where
 
 -- a device is plugged at a path of a lower rank
 abbrev pub plugs_below : ℕ → Action → Bool
-plugs_below r (Plug path device) = ltb (rank_of path) r
-plugs_below r (Unplug path) = false
-plugs_below r Show = false
-plugs_below r (Send path bytes) = false
-plugs_below r (Receive path packets) = false
-plugs_below r (Clear path) = false
+plugs_below r (Change (Plug path device)) = ltb (rank_of path) r
+plugs_below r (Change (Unplug path)) = false
+plugs_below r (Ask ask) = false
 
 below_later : (r s : ℕ) (a : Action) → r ≤ s → plugs_below r a ≡ true → plugs_below s a ≡ true
-below_later r s (Plug path device) le is = let less : rank_of path < r = ltb-true (rank_of path) r is in lt-ltb (rank_of path) s (omega (arith, less, le))
-below_later r s (Unplug path) le is = absurd (cc is)
-below_later r s Show le is = absurd (cc is)
-below_later r s (Send path bytes) le is = absurd (cc is)
-below_later r s (Receive path packets) le is = absurd (cc is)
-below_later r s (Clear path) le is = absurd (cc is)
+below_later r s (Change (Plug path device)) le is = let less : rank_of path < r = ltb-true (rank_of path) r is in lt-ltb (rank_of path) s (omega (arith, less, le))
+below_later r s (Change (Unplug path)) le is = absurd (cc is)
+below_later r s (Ask ask) le is = absurd (cc is)
 
 below_new : (r s : ℕ) (path : List ℕ) (a : Action) → r ≤ rank_of path → rank_of path < s → PlugsAt path a → (plugs_below r a ≡ false) × (plugs_below s a ≡ true)
-below_new r s path (Plug at device) least less is =
+below_new r s path (Change (Plug at device)) least less is =
     let same : rank_of at ≡ rank_of path = ap rank_of is in
     (le-ltb (rank_of at) r (omega (arith, same, least)), lt-ltb (rank_of at) s (omega (arith, same, less)))
-below_new r s path (Unplug at) least less is = absurd is
-below_new r s path Show least less is = absurd is
-below_new r s path (Send at bytes) least less is = absurd is
-below_new r s path (Receive at packets) least less is = absurd is
-below_new r s path (Clear at) least less is = absurd is
+below_new r s path (Change (Unplug at)) least less is = absurd is
+below_new r s path (Ask ask) least less is = absurd is
 
 -- how many plugs that came are at a path of a lower rank
 abbrev pub plugged_below : List Event → ℕ → ℕ → ℕ

@@ -1,11 +1,8 @@
 -- How the parts of a round join.
-use Rattle.std.proofs.Common.{◌≡◌, ◌∙◌, refl, sym, ap, subst, arith, ℕ, ◌+◌, ◌≤◌, List, Option}
-use Rattle.usb_world.specs.World.{World}
+use Rattle.std.proofs.Common.{◌≡◌, ◌∙◌, refl, sym, ap, subst, arith, ℕ, ◌+◌, ◌≤◌}
 use Rattle.usb_bus.proofs.Interface.{went_none, went_then, went_wider}
-use Rattle.usb_table.specs.Entries.{Entries, without}
 use Rattle.usb_host.specs.Hosting.{Hosting}
 use Rattle.usb_host.specs.Progress.{HostWent, HostGoes, Advances, AddsNoWork, Rests, Remains, Did, either, waiting}
-use Rattle.usb_host.proofs.WaitingDevices.{waiting-without}
 use Rattle.usb_host.specs.declared.host.Round.{Round}
 use Rattle.usb_host.specs.declared.host.Round.TheVariants.{Worked, Quiet}
 
@@ -61,16 +58,3 @@ did_then m n Quiet Quiet a b c p q ab bc = remains_then a b c ab bc
 -- a call on the bus alone
 pub goes_by : (n k : ℕ) (a b : Hosting) → HostWent n a b → n ≤ k → b.stopped ≡ a.stopped → HostGoes k a b
 goes_by n k a b w le e = record { went = went_wider n k w le; going = e }
-
--- a call on the bus, and then a part
-pub goes_after : (k m n : ℕ) (a b c : Hosting) → HostWent m a b → b.stopped ≡ a.stopped → HostGoes n b c → m + n ≤ k → HostGoes k a c
-goes_after k m n a b c w e q le = goes_then k m n a b c (record { went = w; going = e }) q le
-
--- a hub whose port was disabled is forgotten, with what stood below it
-pub dropped : (n : ℕ) (path : List ℕ) (a b c : Hosting) (world : World) (trace : Option (List ℕ)) (entries : Entries) → HostGoes n a b → Rests a b → c ≡ record b { entries = c.entries; pipes = c.pipes; addresses = c.addresses } → c.entries ≡ without path b.entries
-    → world ≡ c.world → waiting entries ≤ waiting c.entries → AddsNoWork a (record c { world = world; trace = trace; entries = entries })
-dropped n path a b c world trace entries g r others rest same fewer =
-    let there : world ≡ b.world = same ∙ ap (λ (h : Hosting). h.world) others in
-    let before : waiting b.entries ≡ waiting a.entries = ap (λ (h : Hosting). waiting h.entries) r in
-    let left : waiting c.entries ≡ waiting (without path b.entries) = ap waiting rest in
-    rw there (omega (arith, before, left, fewer, waiting-without path b.entries, g.went.spends.served, g.went.spends.later))

@@ -54,6 +54,12 @@ pub mod ServedPorts
 pub mod FoundDevices
 pub mod DroppedHubs
 pub mod Requests
+pub mod PortRequests
+pub mod PortLooks
+pub mod PortServes
+pub mod PortDrops
+pub mod RoundLoops
+pub mod HubPolls
 pub mod FinishedPorts
 pub mod LevelPipes
 pub mod Servers

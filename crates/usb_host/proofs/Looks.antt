@@ -5,22 +5,16 @@ use Rattle.std.specs.Prelude.{OnOk}
 use Rattle.std.specs.Map.{lookup}
 use Rattle.usb_port.specs.Order.{path_cmp}
 use Rattle.usb_resources.specs.Pool.{IsFull}
-use Rattle.usb_hub.specs.Port.{IsAsked}
-use Rattle.usb_hub.proofs.Interface.{asked_stays}
 use Rattle.usb_enum.specs.declared.cause.Cause.TheVariants as cause
 use Rattle.usb_enum.specs.declared.fault.EnumFault.{EnumFault}
 use Rattle.usb_enum.specs.declared.fault.EnumFault.TheVariants.{ParentLost, Bus, Memory}
 use Rattle.usb_enum.specs.declared.finding.Finding.{Finding}
 use Rattle.usb_enum.specs.declared.finding.Finding.TheVariants.{Device, Refused}
-use Rattle.usb_table.specs.declared.known.KnownPort.{KnownPort}
 use Rattle.usb_table.specs.Entries.{Entries, Replaced, without}
 use Rattle.usb_table.specs.Findings.{is_waiting}
-use Rattle.usb_table.specs.KnownPorts.{known_port}
-use Rattle.usb_table.proofs.Interface.{known_port-without}
-use Rattle.usb_host.specs.Agreement.{Agrees}
 use Rattle.usb_host.specs.Hosting.{Hosting, work}
 use Rattle.usb_host.specs.declared.fault.HostFault.{HostFault}
-use Rattle.usb_host.specs.Ports.{IsPortAt, Waits, Gained, Served, EndsAs, EntersOne}
+use Rattle.usb_host.specs.Ports.{Waits, Gained, Served, EndsAs, EntersOne}
 use Rattle.usb_host.specs.Progress.{HostGoes, Rests, AddsNoWork, Advances, waiting}
 use Rattle.usb_host.proofs.Joins.{advances_then}
 use Rattle.usb_host.proofs.WaitingDevices.{waiting-without, waiting-without_one, waiting-entered, waiting-entered_other}
@@ -88,23 +82,6 @@ served_any (Ok done) a d on = on
 served_any (Err ParentLost) a d on = on
 served_any (Err (Bus fault)) a d on = tt
 served_any (Err Memory) a d on = tt
-
--- the port stands where it stood, once what was on it is forgotten
-pub stands_kept : (modelled : Bool) (n : ℕ) (path : List ℕ) (port : KnownPort) (a b c : Hosting)
-    → (modelled ≡ true → HostGoes n a b) → Rests a b
-    → c ≡ record b { entries = c.entries; pipes = c.pipes; addresses = c.addresses }
-    → c.entries ≡ without path b.entries
-    → Agrees c.entries c.addresses → IsPortAt modelled path port a → IsPortAt modelled path port c
-stands_kept modelled n path port a b c g r others rest agrees s =
-    let left : c.entries ≡ without path a.entries = rest ∙ ap (λ (x : Hosting). without path x.entries) r in
-    record {
-      is = s.is;
-      known = ap (known_port path) left ∙ known_port-without path a.entries ∙ s.known;
-      asked = subst (λ w. IsAsked modelled w port.port) (sym (ap (λ (x : Hosting). x.world) others))
-          (asked_stays modelled n port.port a.world b.world (λ known. (g known).went.spends) s.asked);
-      askable = s.askable;
-      agrees = agrees;
-    }
 
 pub served_on : (served : Result (Unit {0}) EnumFault) (done : Unit {0}) (a b : Hosting) → EndsAs served (Ok done) → Served served a b → Advances a b
 served_on (Ok _) done a b ends s = s

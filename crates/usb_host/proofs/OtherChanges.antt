@@ -1,5 +1,5 @@
 -- Changes of a hub and of its ports that ask for nothing but their clearing: a port of a world tells none.
-use Rattle.std.proofs.Common.{◌≡◌, ◌&&◌, Bool, true, false, not, ◌+◌, ◌*◌, arith, refl, ap, subst, sym, ℕ, List, Option, is_some, Result, Ok}
+use Rattle.std.proofs.Common.{◌≡◌, ◌&&◌, Bool, true, false, not, ◌+◌, ◌*◌, arith, refl, ap, ℕ, List, Option, is_some, Result, Ok}
 use Rattle.usb_port.specs.declared.status.PortStatus.{PortStatus}
 use Rattle.usb_world.specs.World.{World}
 use Rattle.usb_bus.specs.Traces.{WentOn}
@@ -20,7 +20,7 @@ use Rattle.usb_enum.specs.Stop.{CanFail}
 use Rattle.usb_enum.proofs.Interface.{devices_then, status_most}
 use Rattle.usb_table.specs.KnownPorts.{IsAskable}
 use Rattle.usb_table.specs.declared.known.KnownPort.{KnownPort}
-use Rattle.usb_host.specs.Changes.{IsPlain, KeepsEach, OnlyTidies, has_failed}
+use Rattle.usb_host.specs.Changes.{IsPlain, KeepsEach, has_failed}
 use Rattle.usb_host.specs.Hosting.{Hosting}
 use Rattle.usb_host.specs.Ownership.{claims, IsOwned}
 use Rattle.usb_host.specs.PortHandling.{Watches}
@@ -46,11 +46,6 @@ each_then n old mid new x went y = record {
   addresses = keeps_then old mid new x.addresses y.addresses;
   devices = devices_then n old mid new x.devices went y.devices;
 }
-
--- what was tidied is so where nothing was done behind it
-pub only_then : (port : HubPort) (status : PortStatus) (a b c : Hosting) (result : Result (Unit {0}) EnumFault) → OnlyTidies port status a (Ok tt) b → (result ≡ Ok tt) × (c ≡ b) → OnlyTidies port status a result c
-only_then port status a b c result x e =
-    subst (λ (r : Result (Unit {0}) EnumFault). OnlyTidies port status a r c) (sym e.0) (subst (λ (h : Hosting). OnlyTidies port status a (Ok tt) h) (sym e.1) x)
 
 -- The changes of a hub
 

@@ -1,5 +1,5 @@
 -- What the parts of a round keep.
-use Rattle.std.proofs.Common.{◌≡◌, ◌∙◌, refl, sym, ap, subst, ℕ, Bool, true, false, List, Option, None, Some, is_some, Result, Ok, Err}
+use Rattle.std.proofs.Common.{◌≡◌, ◌∙◌, ◌+◌, ◌≤◌, arith, refl, sym, ap, subst, ℕ, Bool, true, false, List, Option, None, Some, is_some, Result, Ok, Err}
 use Rattle.std.specs.Prelude.{IsErr, IsOk, IsSome}
 use Rattle.arrayvec.specs.ArrayVec.{ArrayVec}
 use Rattle.usb_world.specs.Paths.{pend}
@@ -23,23 +23,61 @@ use Rattle.usb_table.specs.Pipes.{ArePipesIf}
 use Rattle.usb_table.specs.Table.{GoesThrough, pipes_at}
 use Rattle.usb_table.specs.Transfers.{PipesPolled}
 use Rattle.usb_host.specs.Agreement.{Agrees}
+use Rattle.usb_host.specs.Bounds.{drop_bound, hub_poll_bound, hubs_bound, looks_bound, round_bound, roots_bound, told_bound}
 use Rattle.usb_host.specs.BulkPipes.{KeepsBulk}
 use Rattle.usb_host.specs.Hosting.{Hosting}
-use Rattle.usb_host.specs.Ownership.{StaysOwned, StaysSingle, KeepsOwned, DropsHub}
+use Rattle.usb_host.specs.Ownership.{StaysOwned, DropsHub}
 use Rattle.usb_host.specs.Transfers.{table_in}
 use Rattle.usb_host.specs.Progress.{HostWent, HostGoes, either}
-use Rattle.usb_host.specs.Soundness.{IsSound, StaysSound, PartStays, DropsSound, PartKeeps, PartsKeep, RootsRest, HubKeeps, HubsKeep, LooksKeep, NoneWait}
+use Rattle.usb_host.specs.Soundness.{IsSound, StaysSound, PartStays, DropsSound, Part, PartsKeep, RootsRest, HubKeeps, HubsKeep, LooksKeep, NoneWait}
 use Rattle.usb_host.specs.declared.fault.HostFault.{HostFault}
 use Rattle.usb_host.specs.declared.host.Round.{Round}
 use Rattle.usb_host.specs.declared.host.Round.TheVariants.{Worked, Quiet}
 use Rattle.usb_host.proofs.BulkPipes.{bulk_stays, stay_polled}
 use Rattle.usb_host.proofs.Plugs.{plugs_kept}
-use Rattle.usb_host.proofs.Handlings.{match_err, hub_lost}
-use Rattle.usb_host.proofs.Owners.{stays_kept, stays_then, single_then}
+use Rattle.usb_host.proofs.Handlings.{hub_lost}
+use Rattle.usb_host.proofs.Owners.{single_then, stays_kept, stays_none, stays_then}
 use Rattle.usb_host.proofs.Polls.{HubThere, hub_there, reached_at, heard_at, poll_silent}
 use Rattle.usb_host.proofs.RestingRounds.{done, ok_is, quiet_first, quiet_second, at_rest}
+use Rattle.usb_host.proofs.Joins.{goes_none, goes_then, goes_wider}
 use Rattle.usb_host.proofs.Roots.{accounted, on_failed}
-use Rattle.usb_host.proofs.Soundness.{part_then, sound_kept, but_kept, caused_kept, known_kept, truthful_kept, occupied_kept, sound_dropped}
+use Rattle.usb_host.proofs.Soundness.{part_none, part_then, sound_kept, but_kept, caused_kept, known_kept, truthful_kept, occupied_kept, sound_dropped}
+
+-- One part after another
+
+pub part-none : {A : Type 0} (n : ℕ) (x : A) (h : Hosting) → Part n h (Ok x) h
+part-none n x h = record { goes = goes_none n h; owned = stays_none h; sound = part_none h }
+
+pub part-then : {A B : Type 0} (k m n : ℕ) (a b c : Hosting) (x : A) (result : Result B HostFault)
+    → Part m a (Ok x) b → Part n b result c → m + n ≤ k → Part k a result c
+part-then k m n a b c x (Ok y) p q le = record {
+  goes = goes_then k m n a b c p.goes q.goes le;
+  owned = stays_then a b c p.owned q.owned;
+  sound = part_then m n a b c p.goes.went q.goes.went p.sound q.sound;
+}
+part-then k m n a b c x (Err fault) p q le = record {
+  goes = goes_then k m n a b c p.goes q.goes le;
+  owned = single_then a b c p.owned q.owned;
+  sound = tt;
+}
+
+pub part-wider : {A : Type 0} (B : Type 0) (k m : ℕ) (a b : Hosting) (x : A) (y : B)
+    → Part m a (Ok x) b → m ≤ k → Part k a (Ok y) b
+part-wider B k m a b x y p le = record {
+  goes = goes_wider m k a b p.goes le;
+  owned = p.owned;
+  sound = p.sound;
+}
+
+pub part-fails : {A B : Type 0} (k m : ℕ) (a b : Hosting) (fault : HostFault)
+    (other : Result B HostFault) → Part {A = A} m a (Err fault) b → IsErr other → m ≤ k
+    → Part k a other b
+part-fails k m a b fault (Ok y) p e le = absurd (cc e)
+part-fails k m a b fault (Err why) p e le = record {
+  goes = goes_wider m k a b p.goes le;
+  owned = p.owned;
+  sound = tt;
+}
 
 -- Parts that failed
 
@@ -47,31 +85,31 @@ not_done : {A : Type 0} (result : Result A HostFault) (x : A) {P : Type 0} → I
 not_done (Ok y) x e is = absurd (cc e)
 not_done (Err fault) x e is = absurd (cc is)
 
-module _ {A : Type 0} (result : Result A HostFault) (a b c : Hosting) (e : IsErr result) (x : StaysOwned a b) (y : StaysSingle b c) where
-  owned_fails : KeepsOwned a result c
-  owned_fails = match_err result (λ _. StaysOwned a c) (StaysSingle a c) e (single_then a b c x y)
+module _ (result : Result Round HostFault) (a c : Hosting) (e : IsErr result) where
+  pub hub_fails : (hub : List ℕ) → Part hub_poll_bound a result c → HubKeeps hub a result c
+  hub_fails hub x = record {
+    part = x;
+    calm = λ is. not_done result Quiet e is;
+    silent = λ s is. not_done result Quiet e is;
+  }
 
-  pub part_fails : PartKeeps a result c
-  part_fails = record { owned = owned_fails; sound = on_failed result (PartStays a c) e }
-
-module _ (result : Result Round HostFault) (a b c : Hosting) (e : IsErr result) (x : StaysOwned a b) (y : StaysSingle b c) where
-  pub hub_fails : (hub : List ℕ) → HubKeeps hub a result c
-  hub_fails hub = record { owned = owned_fails result a b c e x y; sound = on_failed result (PartStays a c) e; calm = λ is. not_done result Quiet e is; silent = λ s is. not_done result Quiet e is }
-
-  pub hubs_fail : HubsKeep a result c
-  hubs_fail = record {
-    owned = owned_fails result a b c e x y;
-    sound = on_failed result (PartStays a c) e;
+  pub hubs_fail : Part hubs_bound a result c → HubsKeep a result c
+  hubs_fail x = record {
+    part = x;
     calm = λ is. not_done result Quiet e is;
     silent = λ s is. not_done result Quiet e is;
     agrees = on_failed result (Agrees c.entries c.addresses) e;
   }
 
-  pub looks_fail : (NoneWait a.entries → ⊥) → LooksKeep a result c
-  looks_fail waits = record { owned = owned_fails result a b c e x y; sound = on_failed result (PartStays a c) e; rest = λ r is. not_done result Quiet e is; idle = λ none. absurd (waits none) }
+  pub looks_fail : Part looks_bound a result c → (NoneWait a.entries → ⊥) → LooksKeep a result c
+  looks_fail x waits = record {
+    part = x;
+    rest = λ r is. not_done result Quiet e is;
+    idle = λ none. absurd (waits none);
+  }
 
-  pub parts_fail : PartsKeep a result c
-  parts_fail = record { owned = owned_fails result a b c e x y; sound = record { keeps = on_failed result (PartStays a c) e; rest = λ s is. not_done result Quiet e is } }
+  pub parts_fail : Part round_bound a result c → PartsKeep a result c
+  parts_fail x = record { part = x; rest = λ s is. not_done result Quiet e is }
 
 -- A hub is polled
 
@@ -125,18 +163,26 @@ module _ (hub : List ℕ) (answer : Result (Option (ArrayVec ℕ)) PipeFault) (a
   -- it has nothing to tell
   pub hub_quiet : (pipes left : Pipes) → IsOk answer → ArePipesIf (accepted_device_at hub a.entries) (is_below_hub hub) pipes → PipesPolled pipes a.world (Ok None) left b.world → HubKeeps hub a (Ok Quiet) b
   hub_quiet pipes left ok are asked = record {
-    owned = polled;
-    sound = part ok;
+    part = record {
+      goes = goes_wider 768 hub_poll_bound a b goes (omega arith);
+      owned = polled;
+      sound = part ok;
+    };
     calm = λ is still. keeps.levels.worlds.rests still;
     silent = λ s is still none.
         poll_silent b agrees_on ((sound ok).sound s) still hub pipes left a.world (subst (λ (es : Entries). ArePipesIf (accepted_device_at hub es) (is_below_hub hub) pipes) (sym same) are) asked none;
   }
 
   -- it told of changes, and its ports were handled
-  pub hub_told : (n : ℕ) (c : Hosting) → IsOk answer → HostGoes n b c → StaysOwned b c → (IsSound a → PartStays b c) → HubKeeps hub a (Ok Worked) c
-  hub_told n c ok q owned told = record {
-    owned = stays_then a b c polled owned;
-    sound = part_where a c (λ s. part_then 768 n a b c goes.went q.went (part ok) (told s));
+  pub hub_told : (c : Hosting) → IsOk answer → HostGoes told_bound b c → StaysOwned b c
+      → (IsSound a → PartStays b c) → HubKeeps hub a (Ok Worked) c
+  hub_told c ok q owned told = record {
+    part = record {
+      goes = goes_then hub_poll_bound 768 told_bound a b c goes q (omega arith);
+      owned = stays_then a b c polled owned;
+      sound = part_where a c
+          (λ s. part_then 768 told_bound a b c goes.went q.went (part ok) (told s));
+    };
     calm = λ is. absurd (cc is);
     silent = λ s is. absurd (cc is);
   }
@@ -164,35 +210,50 @@ module _ (hub : List ℕ) (answer : Result (Option (ArrayVec ℕ)) PipeFault) (a
       pick (Some facts) at some false is = absurd (heard facts (hub_there hub a.entries facts at) is)
 
   -- it did not answer, and was dropped
-  pub hub_gone : (n : ℕ) (c : Hosting) → (b.world.fault ≡ None → NoHubFailed answer → ⊥) → IsSome (hub_facts_at hub a.entries) → HostGoes n b c → DropsHub hub b (Ok tt) c → DropsSound hub b (Ok tt) c → HubKeeps hub a (Ok Worked) c
-  hub_gone n c failed listed q drops dropped =
+  pub hub_gone : (c : Hosting) → (b.world.fault ≡ None → NoHubFailed answer → ⊥)
+      → IsSome (hub_facts_at hub a.entries) → HostGoes drop_bound b c → DropsHub hub b (Ok tt) c
+      → DropsSound hub b (Ok tt) c → HubKeeps hub a (Ok Worked) c
+  hub_gone c failed listed q drops dropped =
       let there : IsSome (finding_at hub b.entries) = subst (λ (es : Entries). IsSome (finding_at hub es)) (sym same) (hub_listed (finding_at hub a.entries) listed) in
       record {
-        owned = hub_lost hub a b (Ok tt) c there polled drops;
-        sound = sound_dropped (Ok tt) hub 768 n a b c goes q
-            (λ s. record { listed = there; but = but_kept 768 hub (IsOk answer) a b agrees same went keeps.levels s; there = λ still. occupied_kept 768 hub (IsOk answer) a b agrees same went keeps.levels s there still agrees_on })
-            (caused_kept 768 hub (IsOk answer) a b agrees same went keeps.levels) bulk (plugs_kept a b went.spends.onward same) dropped (pends failed listed);
+        part = record {
+          goes = goes_then hub_poll_bound 768 drop_bound a b c goes q (omega arith);
+          owned = hub_lost hub a b (Ok tt) c there polled drops;
+          sound = sound_dropped (Ok tt) hub 768 drop_bound a b c goes q
+              (λ s. record {
+                listed = there;
+                but = but_kept 768 hub (IsOk answer) a b agrees same went keeps.levels s;
+                there = λ still.
+                    occupied_kept 768 hub (IsOk answer) a b agrees same went keeps.levels s there
+                    still agrees_on;
+              })
+              (caused_kept 768 hub (IsOk answer) a b agrees same went keeps.levels) bulk
+              (plugs_kept a b went.spends.onward same) dropped (pends failed listed);
+        };
         calm = λ is. absurd (cc is);
         silent = λ s is. absurd (cc is);
       }
 
--- the bus made no more steps
-pub hub_stopped : (hub : List ℕ) (fault : HostFault) (a b : Hosting) → StaysSingle a b → HubKeeps hub a (Err fault) b
-hub_stopped hub fault a b y = record { owned = y; sound = tt; calm = λ is. absurd (cc is); silent = λ s is. absurd (cc is) }
-
 -- All parts
 
-pub parts_keep : (k l m n : ℕ) (roots hubs looks : Round) (a b c d : Hosting) → HostGoes k a b → HostGoes l b c → HostGoes m a c → HostGoes n c d → (done roots ≡ done Quiet → RootsRest a b) → PartKeeps a (Ok roots) b → HubsKeep b (Ok hubs) c → LooksKeep c (Ok looks) d
+pub parts_keep : (roots hubs looks : Round) (a b c d : Hosting)
+    → (done roots ≡ done Quiet → RootsRest a b) → Part roots_bound a (Ok roots) b
+    → HubsKeep b (Ok hubs) c → LooksKeep c (Ok looks) d
     → PartsKeep a (Ok (either (either roots hubs) looks)) d
-parts_keep k l m n roots hubs looks a b c d ab bc ac cd none x y z = record {
-  owned = stays_then a c d (stays_then a b c x.owned y.owned) z.owned;
-  sound = record {
-    keeps = part_then m n a c d ac.went cd.went (part_then k l a b c ab.went bc.went x.sound y.sound) z.sound;
-    rest = λ s is taken still.
-        let all : either (either roots hubs) looks ≡ Quiet = ok_is (either (either roots hubs) looks) Quiet is in
-        let both : either roots hubs ≡ Quiet = quiet_first (either roots hubs) looks all in
-        let first : roots ≡ Quiet = quiet_first roots hubs both in
-        at_rest a b c d (none (ap done first)) y.sound.sound (subst (λ (r : Round). HubsKeep b (Ok r) c) (quiet_second roots hubs both) y)
-        (subst (λ (r : Round). LooksKeep c (Ok r) d) (quiet_second (either roots hubs) looks all) z) s taken still;
-  };
+parts_keep roots hubs looks a b c d none x y z = record {
+  part = part-then round_bound (roots_bound + hubs_bound) looks_bound a c d hubs
+      (Ok (either (either roots hubs) looks))
+      (part-then (roots_bound + hubs_bound) roots_bound hubs_bound a b c roots (Ok hubs) x y.part
+      (omega arith))
+      (part-wider Round looks_bound looks_bound c d looks (either (either roots hubs) looks) z.part
+      (omega arith)) (omega arith);
+  rest = λ s is taken still.
+      let all : either (either roots hubs) looks ≡ Quiet =
+      ok_is (either (either roots hubs) looks) Quiet is in
+      let both : either roots hubs ≡ Quiet = quiet_first (either roots hubs) looks all in
+      let first : roots ≡ Quiet = quiet_first roots hubs both in
+      at_rest a b c d (none (ap done first)) y.part.sound.sound
+      (subst (λ (r : Round). HubsKeep b (Ok r) c) (quiet_second roots hubs both) y)
+      (subst (λ (r : Round). LooksKeep c (Ok r) d) (quiet_second (either roots hubs) looks all) z)
+      s taken still;
 }

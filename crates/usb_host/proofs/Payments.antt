@@ -91,9 +91,6 @@ pub costs_none : (c : Weights) (n : ℕ) (a : Hosting) → Costs c n a a
 costs_none c n a = omega arith
 
 module _ (c : Weights) (a b : Hosting) where
-  pub pays_less : (m n : ℕ) → Pays c m a b → n ≤ m → Pays c n a b
-  pays_less m n x le = omega (arith, x, le)
-
   pub costs_more : (m n : ℕ) → Costs c m a b → m ≤ n → Costs c n a b
   costs_more m n x le = omega (arith, x, le)
 

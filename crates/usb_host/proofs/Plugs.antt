@@ -16,7 +16,8 @@ use Rattle.usb_resources.specs.Pool.{IsFull}
 use Rattle.usb_device.specs.Rows.{State}
 use Rattle.usb_device.specs.View.{state_there}
 use Rattle.usb_world.specs.declared.event.Action.{Action}
-use Rattle.usb_world.specs.declared.event.Action.TheVariants.{Plug, Unplug, Show, Send, Receive, Clear}
+use Rattle.usb_world.specs.declared.event.Action.TheVariants.{Change, Ask}
+use Rattle.usb_world.specs.declared.event.Change.TheVariants.{Plug, Unplug}
 use Rattle.usb_world.specs.declared.event.Event.{Event}
 use Rattle.usb_world.specs.Paths.{is_way}
 use Rattle.usb_world.specs.PlanCourses.{AtPorts, spec_of}
@@ -133,12 +134,9 @@ module _ (P : List ℕ → Type 0) where
   path_after : (action : Action) (tree : PluggedMap) → ((path : List ℕ) → PlugsAt path action → P path) → EachPath P tree
       → EachPath P (plugged_after action tree)
   unfolding plugged_without
-  path_after (Plug path device) tree so each = path_inserted tree path device (so path refl) each
-  path_after (Unplug path) tree so each = path_filtered (λ place. not (starts_with nat_eq place.0 path)) tree each
-  path_after Show tree so each = each
-  path_after (Send path bytes) tree so each = each
-  path_after (Receive path packets) tree so each = each
-  path_after (Clear path) tree so each = each
+  path_after (Change (Plug path device)) tree so each = path_inserted tree path device (so path refl) each
+  path_after (Change (Unplug path)) tree so each = path_filtered (λ place. not (starts_with nat_eq place.0 path)) tree each
+  path_after (Ask ask) tree so each = each
 
   path_by : (events : List Event) (tree : PluggedMap) → ((path : List ℕ) → Any (AtPath path) events → P path) → EachPath P tree
       → EachPath P (plugged_by tree events)
@@ -169,12 +167,9 @@ abbrev address_or : Entries → List ℕ → ℕ
 address_or es path = unwrap_or (entry_address path es) 0
 
 abbrev plug_address : Entries → Action → ℕ
-plug_address es (Plug path device) = address_or es path
-plug_address es (Unplug path) = 0
-plug_address es Show = 0
-plug_address es (Send path bytes) = 0
-plug_address es (Receive path packets) = 0
-plug_address es (Clear path) = 0
+plug_address es (Change (Plug path device)) = address_or es path
+plug_address es (Change (Unplug path)) = 0
+plug_address es (Ask ask) = 0
 
 -- those of the paths at which devices are plugged
 abbrev plug_addresses : Entries → List Event → List ℕ
@@ -197,13 +192,10 @@ length-plug_addresses es (e ∷ events) = plug_step es e events (length-plug_add
 
 plug_here : (es : Entries) (path : List ℕ) (a : Action) (more : List ℕ) → PlugsAt path a
     → list_any (eqb (address_or es path)) (cond (is_plug a) (plug_address es a ∷ more) more) ≡ true
-plug_here es path (Plug at device) more is =
+plug_here es path (Change (Plug at device)) more is =
     or_left _ (list_any (eqb (address_or es path)) more) (eq-eqb (address_or es path) (address_or es at) (ap (address_or es) (sym is)))
-plug_here es path (Unplug at) more is = absurd is
-plug_here es path Show more is = absurd is
-plug_here es path (Send at bytes) more is = absurd is
-plug_here es path (Receive at packets) more is = absurd is
-plug_here es path (Clear at) more is = absurd is
+plug_here es path (Change (Unplug at)) more is = absurd is
+plug_here es path (Ask ask) more is = absurd is
 
 plug_later : (q a : ℕ) (more : List ℕ) (b : Bool) → list_any (eqb q) more ≡ true → list_any (eqb q) (cond b (a ∷ more) more) ≡ true
 plug_later q a more true has = or_right (eqb q a) (list_any (eqb q) more) has

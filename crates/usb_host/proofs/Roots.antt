@@ -114,3 +114,7 @@ accounted h agrees rooted = record {
 pub on_failed : {A E : Type 0} (result : Result A E) (P : Type 0) → IsErr result → OnOk result P
 on_failed (Ok x) P e = absurd (cc e)
 on_failed (Err x) P e = tt
+
+pub on_any : {A E : Type 0} (result : Result A E) (P : Type 0) → P → OnOk result P
+on_any (Ok x) P p = p
+on_any (Err x) P p = tt

@@ -15,21 +15,20 @@ use Rattle.usb_enum.specs.Places.{IsKnownAs}
 use Rattle.usb_enum.specs.Stop.{FaultAt}
 use Rattle.usb_enum.proofs.Interface.{went_in_order, went_sound}
 use Rattle.usb_table.specs.declared.known.KnownPort.{KnownPort}
-use Rattle.usb_table.specs.Entries.{has_at, without}
+use Rattle.usb_table.specs.Entries.{without}
 use Rattle.usb_table.specs.KnownPorts.{known_port, root_port, port_below}
 use Rattle.usb_table.specs.Listing.{finding_at, IsListedPort}
 use Rattle.usb_host.specs.Agreement.{Agrees}
 use Rattle.usb_host.specs.PortHandling.{HasWay, Watches, Tidies, ClearsChange, Decides, IsOpen, PortSound}
 use Rattle.usb_host.specs.Hosting.{Hosting}
 use Rattle.usb_host.specs.Ownership.{claims, StaysOwned}
-use Rattle.usb_host.specs.Ports.{StandsAt}
+use Rattle.usb_host.specs.Ports.{Forgets, StandsAt}
 use Rattle.usb_host.specs.Progress.{HostWent, Rests}
 use Rattle.usb_host.specs.Soundness.{Known, KnownBut, Truthful, IsSound}
 use Rattle.usb_host.proofs.BulkPipes.{AllStay, stay_forgotten, stay_joined, stay_rests}
 use Rattle.usb_host.proofs.Clearings.{known_way}
 use Rattle.usb_host.proofs.Handlings.{stays_bare, owned_rests}
 use Rattle.usb_table.specs.Levels.{AllLevel}
-use Rattle.usb_table.specs.Table.{pipes_at}
 use Rattle.usb_host.specs.Transfers.{table_in}
 use Rattle.usb_host.proofs.LevelPipes.{level_rests, level_forgotten}
 use Rattle.usb_host.proofs.Owners.{but_all}
@@ -140,15 +139,15 @@ module _ (n : ℕ) (path : List ℕ) (port : KnownPort) (a b : Hosting) (s : Sta
 -- Cleared, and forgotten
 
 module _ (n : ℕ) (path : List ℕ) (port : KnownPort) (a b c : Hosting) (status : PortStatus) (s : StandsAt path port a) (r : Rests a b) (went : HostWent n a b) (x : ClearsChange port.port a.world (Ok status) b.world)
-    (others : c ≡ record b { entries = c.entries; pipes = c.pipes; addresses = c.addresses }) (rest : c.entries ≡ without path b.entries) (pipes : (y : List ℕ) → is_way path y ≡ false → pipes_at y (table_in c) ≡ pipes_at y (table_in b)) (gone : has_at path c.entries ≡ false) (i : IsSound a) where
+    (f : Forgets path b c) (i : IsSound a) where
   world_is : c.world ≡ b.world
-  world_is = ap (λ (h : Hosting). h.world) others
+  world_is = ap (λ (h : Hosting). h.world) f.others
 
   left : c.entries ≡ without path a.entries
-  left = rest ∙ ap (λ (h : Hosting). without path h.entries) r
+  left = f.rest ∙ ap (λ (h : Hosting). without path h.entries) r
 
   stays : StaysOwned a c
-  stays = stays_bare path port a b c s r went.spends.roots x.bares others rest
+  stays = stays_bare path port a b c s r went.spends.roots x.bares f.others f.rest
 
   still_before : c.world.fault ≡ None → a.world.fault ≡ None
   still_before still = went_sound n a.world b.world went (ap (λ (w : World). w.fault) (sym world_is) ∙ still)
@@ -168,7 +167,7 @@ module _ (n : ℕ) (path : List ℕ) (port : KnownPort) (a b c : Hosting) (statu
   forgot_level : c.world.fault ≡ None → AllLevel (table_in c) c.world
   forgot_level still =
       let single = ap (λ (w : World). w.shared) (sym world_is) ∙ (stays.stays i.owned).single in
-      level_forgotten path b c world_is rest gone pipes (λ y away. level_rests a b r x.devices single y (i.level (still_before still) y))
+      level_forgotten path b c world_is f.rest f.gone f.pipes (λ y away. level_rests a b r x.devices single y (i.level (still_before still) y))
 
   forgot_order : c.world.fault ≡ None → IsOrderly c.world
   forgot_order still = subst IsOrderly (sym world_is) (went_in_order n a.world b.world went i.order (ap (λ (w : World). w.fault) (sym world_is) ∙ still))
@@ -183,7 +182,7 @@ module _ (n : ℕ) (path : List ℕ) (port : KnownPort) (a b c : Hosting) (statu
   pub forgot_stay : AllStay a c
   forgot_stay =
       let single = ap (λ (w : World). w.shared) (sym world_is) ∙ (stays.stays i.owned).single in
-      stay_joined a b c (stay_rests a b r x.devices single) (stay_forgotten path b c world_is rest gone pipes)
+      stay_joined a b c (stay_rests a b r x.devices single) (stay_forgotten path b c world_is f.rest f.gone f.pipes)
 
   pub forgot_open : status.connected ≡ true → IsOpen path c
   forgot_open on =
@@ -199,7 +198,7 @@ module _ (n : ℕ) (path : List ℕ) (port : KnownPort) (a b c : Hosting) (statu
     owned = stays.stays i.owned;
     rooted = stays.rooted i.rooted;
     order = forgot_order;
-    known = λ still. known_vacant path c.world c.entries s.is.0 gone (forgot_known still) (subst (λ b. Decides b c.world path) off (forgot_decides still));
+    known = λ still. known_vacant path c.world c.entries s.is.0 f.gone (forgot_known still) (subst (λ b. Decides b c.world path) off (forgot_decides still));
     truthful = forgot_truthful;
     level = forgot_level;
   }

@@ -8,7 +8,8 @@ use Rattle.usb_hub.specs.declared.port.HubPort.TheVariants.{Root, External}
 use Rattle.usb_enum.specs.declared.fault.EnumFault.{EnumFault}
 use Rattle.usb_enum.specs.declared.fault.EnumFault.TheVariants.{ParentLost, Bus, Memory}
 use Rattle.usb_host.specs.Hosting.{Hosting}
-use Rattle.usb_host.specs.Ports.{Gained, IsDue, Served, Shown}
+use Rattle.usb_enum.specs.Stop.{FaultAt}
+use Rattle.usb_host.specs.Ports.{Gained, Gains, IsDue, Served, Shown}
 use Rattle.usb_host.specs.Progress.{AddsNoWork, Advances, HostGoes, Rests, waiting}
 use Rattle.usb_host.proofs.Joins.{advances_after, advances_then}
 use Rattle.usb_host.proofs.Looks.{served_any}
@@ -35,6 +36,22 @@ status_lost_on (Root number) a b r fault shown = absurd (cc (shown.0))
 status_lost_on (External hub number) a b r ParentLost shown = gained_on a b r shown
 status_lost_on (External hub number) a b r (Bus fault) shown = tt
 status_lost_on (External hub number) a b r Memory shown = tt
+
+-- a request failed that had gained
+pub failed_on_way : (A : Type 0) (a b : Hosting) (fault : EnumFault) → Rests a b
+    → Gains {A = A} (Err fault) a.world b.world → Served (Err fault) a b
+failed_on_way A a b ParentLost r gains = gained_on a b r gains
+failed_on_way A a b (Bus fault) r gains = tt
+failed_on_way A a b Memory r gains = tt
+
+-- a port whose hub is lost is that hub's
+pub lost_on : (A : Type 0) (port : HubPort) (a b : Hosting) (fault : EnumFault) → Rests a b
+    → (IsDue a.world port → Gains {A = A} (Err fault) a.world b.world)
+    → FaultAt port fault b.world → Served (Err fault) a b
+lost_on A (Root number) a b ParentLost r gains told = absurd told
+lost_on A (External hub number) a b ParentLost r gains told = gained_on a b r (gains tt)
+lost_on A port a b (Bus fault) r gains told = tt
+lost_on A port a b Memory r gains told = tt
 
 due_on : (port : HubPort) (a b : Hosting) (status : PortStatus) → Shown port (Ok status) a.world b.world → IsDue a.world port → IsDue b.world port
 due_on (Root number) a b status shown due = subst (λ (w : World). (root_port_at w number).connection_changed ≡ true) (sym shown.1) due

@@ -1,20 +1,12 @@
 -- Changes of a hub and of its ports that ask for nothing but their clearing.
-use Rattle.std.specs.Prelude.{◌≡◌, ◌*◌, ◌&&◌, ℕ, List, Bool, false, not, Option, is_some, Result}
+use Rattle.std.specs.Prelude.{◌≡◌, ◌&&◌, Bool, false, not, Option, is_some}
 use Rattle.usb_port.specs.declared.status.PortStatus.{PortStatus}
 use Rattle.usb_world.specs.World.{World}
 use Rattle.usb_address.specs.Ownership.{KeepsAddresses}
-use Rattle.usb_pipe.specs.Control.{write_bound}
 use Rattle.usb_hub.specs.declared.port.HubPort.{HubPort}
 use Rattle.usb_hub.specs.declared.port.HubPort.TheVariants.{Root, External}
 use Rattle.usb_hub.specs.Addresses.{KeepsDevices}
-use Rattle.usb_enum.specs.declared.fault.EnumFault.{EnumFault}
 use Rattle.usb_enum.specs.declared.finding.Accepted.{Accepted}
-use Rattle.usb_host.specs.Hosting.{Hosting}
-use Rattle.usb_host.specs.PortHandling.{Tidies}
-use Rattle.usb_host.specs.Progress.{HostGoes}
-use Rattle.usb_host.specs.Service.{ServesTold, TidiesTold}
-use Rattle.usb_host.specs.Soundness.{PartKeeps}
-use Rattle.usb_host.specs.declared.fault.HostFault.{HostFault}
 
 -- a status tells of no change of suspend nor of over-current, as that of a port of a world does
 abbrev pub IsPlain : PortStatus → Type 0
@@ -29,14 +21,3 @@ has_failed (External hub port) status device = status.enable_changed && (status.
 pub record KeepsEach (old new : World) : Type 0 where
   pub addresses : KeepsAddresses old new
   pub devices : KeepsDevices old new
-
--- a port was tidied, and nothing else was done
-pub record OnlyTidies (port : HubPort) (status : PortStatus) (old : Hosting) (result : Result (Unit {0}) EnumFault) (new : Hosting) : Type 0 where
-  pub goes : HostGoes (2 * write_bound) old new
-  pub tidies : Tidies port old.world result new.world
-  pub clears : TidiesTold port status old result new
-
--- the ports of which a hub told were served, and what is known stays so
-pub record ServesPorts (hub : List ℕ) (bits : ℕ) (old : Hosting) (result : Result (Unit {0}) HostFault) (new : Hosting) : Type 0 where
-  pub keeps : PartKeeps old result new
-  pub serves : ServesTold hub bits old result new

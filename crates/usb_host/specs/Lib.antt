@@ -16,3 +16,4 @@ pub mod Soundness
 pub mod ToldFaults
 pub mod Transfers
 pub mod Changes
+pub mod Requests

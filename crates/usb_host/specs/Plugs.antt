@@ -2,7 +2,8 @@
 use Rattle.std.specs.Prelude.{◌≡◌, ◌≢◌, ◌≤◌, ℕ, Bool, true, false, List, take, Any, Some}
 use Rattle.std.specs.List.{count_by}
 use Rattle.usb_world.specs.declared.event.Action.{Action}
-use Rattle.usb_world.specs.declared.event.Action.TheVariants.{Plug, Unplug, Show, Send, Receive, Clear}
+use Rattle.usb_world.specs.declared.event.Action.TheVariants.{Change, Ask}
+use Rattle.usb_world.specs.declared.event.Change.TheVariants.{Plug, Unplug}
 use Rattle.usb_world.specs.declared.event.Event.{Event}
 use Rattle.usb_world.specs.PlanData.{PlanData, IsPlan}
 use Rattle.usb_world.specs.PlanCourses.{AtPorts}
@@ -16,20 +17,14 @@ use Rattle.usb_host.specs.Hosting.{Hosting}
 
 -- a device is plugged at the path
 abbrev pub PlugsAt : List ℕ → Action → Type 0
-PlugsAt path (Plug at device) = at ≡ path
-PlugsAt path (Unplug at) = ⊥
-PlugsAt path Show = ⊥
-PlugsAt path (Send at bytes) = ⊥
-PlugsAt path (Receive at packets) = ⊥
-PlugsAt path (Clear at) = ⊥
+PlugsAt path (Change (Plug at device)) = at ≡ path
+PlugsAt path (Change (Unplug at)) = ⊥
+PlugsAt path (Ask ask) = ⊥
 
 abbrev pub is_plug : Action → Bool
-is_plug (Plug at device) = true
-is_plug (Unplug at) = false
-is_plug Show = false
-is_plug (Send at bytes) = false
-is_plug (Receive at packets) = false
-is_plug (Clear at) = false
+is_plug (Change (Plug at device)) = true
+is_plug (Change (Unplug at)) = false
+is_plug (Ask ask) = false
 
 -- how many events plug a device
 abbrev pub plug_events : List Event → ℕ

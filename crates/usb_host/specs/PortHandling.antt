@@ -27,10 +27,13 @@ use Rattle.usb_enum.specs.Places.{IsKnownAs, IsOccupied}
 use Rattle.usb_enum.specs.PresentDevices.{IsInOrder}
 use Rattle.usb_enum.specs.Stop.{CanFail}
 use Rattle.usb_enum.specs.TextLengths.{HasPlanWithin}
+use Rattle.usb_pipe.specs.Control.{write_bound}
+use Rattle.usb_host.specs.Bounds.{drop_bound}
 use Rattle.usb_host.specs.BulkPipes.{KeepsBulk}
 use Rattle.usb_host.specs.Hosting.{Hosting}
 use Rattle.usb_host.specs.Plugs.{KeepsPlugs}
-use Rattle.usb_host.specs.Ownership.{IsOwned, KeepsPort, FinishesPort, BaresPort, BaresUpward, KeepsDisabled}
+use Rattle.usb_host.specs.Progress.{HostGoes}
+use Rattle.usb_host.specs.Ownership.{IsOwned, FinishesPort, BaresPort, BaresUpward, KeepsDisabled}
 use Rattle.usb_host.specs.Soundness.{IsSound, IsSoundBut, IsDroppable, IsFairTo, Causes, CausesBut}
 use Rattle.usb_host.specs.declared.fault.HostFault.{HostFault}
 
@@ -123,11 +126,6 @@ pub record ServesSound (path : List ℕ) (old : Hosting) (result : Result (Unit 
   pub plugs : IsSound old → new.world.fault ≡ None → KeepsPlugs old new
   pub caused : IsSound old → IsFairTo old.world new.world → Causes old.world old.entries → PortCaused path result new
 
--- a look at a port
-pub record Looks (path : List ℕ) (old : Hosting) (result : Result (Unit {0}) EnumFault) (new : Hosting) : Type 0 where
-  pub owned : KeepsPort path old result new
-  pub sound : ServesSound path old result new
-
 -- a port of which nothing is listed, and where a device stands or a change is pending
 pub record IsOpen (path : List ℕ) (h : Hosting) : Type 0 where
   pub owned : IsOwned h
@@ -168,6 +166,7 @@ Disabled false path new = IsSomeAnd (parent_of path) (λ hub. (pend new.world.ro
 
 -- a port on the way is told to pass nothing on: it does; or, where it could not be told, the hub above it may be dropped
 pub record DisablesOnWay (path : List ℕ) (old : Hosting) (result : Result Bool HostFault) (new : Hosting) : Type 0 where
+  pub goes : HostGoes write_bound old new
   pub owned : KeepsDisabled path old result new
   pub devices : KeepsDevices old.world new.world
   pub done : IsDroppable path old → result ≡ Ok true → IsDroppedAt path new
@@ -179,6 +178,7 @@ pub record DisablesOnWay (path : List ℕ) (old : Hosting) (result : Result Bool
 
 -- the first port on the way up that can be told passes nothing on
 pub record Climbs (first : List ℕ) (old : Hosting) (result : Result (List ℕ) HostFault) (new : Hosting) : Type 0 where
+  pub goes : HostGoes drop_bound old new
   pub bares : BaresUpward first old result new
   pub devices : KeepsDevices old.world new.world
   pub sound : IsDroppable first old → IfOk result (λ path. IsDroppedAt path new)

@@ -1,5 +1,5 @@
 -- What the host does at a port.
-use Rattle.std.specs.Prelude.{◌≡◌, ◌≢◌, ◌+◌, ◌<◌, ⊤, ℕ, Bool, List, true, false, None, Some, IsSome, Result, Ok, Err, MatchResult}
+use Rattle.std.specs.Prelude.{◌≡◌, ◌≢◌, ◌+◌, ◌<◌, ⊤, ℕ, Bool, List, true, false, None, Some, IsSome, Result, Ok, Err, IfErr, MatchResult}
 use Rattle.std.specs.Map.{lookup}
 use Rattle.std.specs.BTreeMap.{is_at, insert_entry}
 use Rattle.usb_port.specs.Order.{path_cmp, parent_of, port_on_hub}
@@ -9,6 +9,7 @@ use Rattle.usb_hub.specs.declared.port.HubPort.{HubPort}
 use Rattle.usb_hub.specs.declared.port.HubPort.TheVariants.{Root, External}
 use Rattle.usb_hub.specs.Port.{IsAsked, IsPort}
 use Rattle.usb_resources.specs.Pool.{IsFull}
+use Rattle.usb_enum.specs.Stop.{FaultAt}
 use Rattle.usb_enum.specs.declared.cause.Cause.TheVariants.{NoAddress}
 use Rattle.usb_enum.specs.declared.fault.EnumFault.{EnumFault}
 use Rattle.usb_enum.specs.declared.fault.EnumFault.TheVariants.{ParentLost, Bus, Memory}
@@ -16,6 +17,7 @@ use Rattle.usb_enum.specs.declared.finding.Finding.{Finding}
 use Rattle.usb_enum.specs.declared.finding.Finding.TheVariants.{Refused}
 use Rattle.usb_table.specs.declared.known.KnownPort.{KnownPort}
 use Rattle.usb_table.specs.KnownPorts.{known_port, IsAskable}
+use Rattle.usb_table.specs.Entries.{has_at, without}
 use Rattle.usb_table.specs.Table.{pipes_at}
 use Rattle.usb_host.specs.Transfers.{table_in}
 use Rattle.usb_world.specs.Paths.{is_way}
@@ -26,7 +28,7 @@ use Rattle.usb_host.specs.Agreement.{Agrees}
 use Rattle.usb_host.specs.declared.fault.HostFault.TheVariants as host
 use Rattle.usb_host.specs.Hosting.{Hosting, work}
 use Rattle.usb_host.specs.Ownership.{IsRooted}
-use Rattle.usb_host.specs.Progress.{Advances, Did}
+use Rattle.usb_host.specs.Progress.{Advances, Did, HostGoes}
 use Rattle.usb_host.specs.declared.host.Round.{Round}
 use Rattle.usb_host.specs.declared.host.Round.TheVariants.{Quiet}
 
@@ -53,10 +55,26 @@ pub record StandsNowhere (path : List ℕ) (h : Hosting) : Type 0 where
   pub unknown : IsSome (parent_of path) → known_port path h.entries ≡ None
   pub agrees : Agrees h.entries h.addresses
 
--- what stood at a path and below it was forgotten: an address is free where one went, and the pipes to others are as they were
+-- requests at a port: so many attempts at most, and a fault has its cause
+pub record Requested {A : Type 0} (port : HubPort) (most : ℕ) (old : Hosting)
+    (result : Result A EnumFault) (new : Hosting) : Type 0 where
+  pub goes : HostGoes most old new
+  pub told : IfErr result (λ fault. FaultAt port fault new.world)
+
+-- what stood at a path and below it was forgotten: an address is free where one went, and the
+-- pipes to others are as they were; the table agrees with the pool
 pub record Forgets (path : List ℕ) (old new : Hosting) : Type 0 where
+  pub others : new ≡ record old {
+    entries = new.entries;
+    pipes = new.pipes;
+    addresses = new.addresses;
+  }
+  pub gone : has_at path new.entries ≡ false
+  pub rest : new.entries ≡ without path old.entries
   pub full : IsFull new.addresses → IsFull old.addresses
-  pub pipes : (other : List ℕ) → is_way path other ≡ false → pipes_at other (table_in new) ≡ pipes_at other (table_in old)
+  pub pipes : (other : List ℕ) → is_way path other ≡ false
+      → pipes_at other (table_in new) ≡ pipes_at other (table_in old)
+  pub agrees : Agrees new.entries new.addresses
 
 -- a root port tells of a change; a hub has told of it
 abbrev pub IsDue : World → HubPort → Type 0

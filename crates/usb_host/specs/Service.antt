@@ -1,5 +1,5 @@
 -- What a round does, part by part (11.12): how each port was served, how each hub was polled, and in which order.
-use Rattle.std.specs.Prelude.{◌≡◌, ◌⊎◌, ◌≤◌, ◌+◌, ⊤, ℕ, List, [], ◌∷◌, ◌++◌, Bool, true, false, Option, None, Some, Result, Ok, Err, OnOk, IfOk, IsSome, IsSomeAnd}
+use Rattle.std.specs.Prelude.{◌≡◌, ◌≢◌, ◌⊎◌, ◌≤◌, ◌+◌, ⊤, ℕ, List, [], ◌∷◌, ◌++◌, Bool, true, false, Option, None, Some, Result, Ok, Err, OnOk, IfOk, IsSome, IsSomeAnd}
 use Rattle.std.specs.BTreeMap.{insert_entry}
 use Rattle.arrayvec.specs.ArrayVec.{ArrayVec}
 use Rattle.usb_port.specs.Order.{path_cmp, parent_of}
@@ -18,12 +18,15 @@ use Rattle.usb_pipe.specs.Leaves.{ByteTold}
 use Rattle.usb_hub.specs.declared.port.HubPort.{HubPort}
 use Rattle.usb_hub.specs.Addresses.{IsAt}
 use Rattle.usb_hub.specs.Moments.{PortDone, PortTold}
+use Rattle.usb_enum.specs.Bounds.{widest_enumeration}
+use Rattle.usb_enum.specs.Stop.{CanFail}
 use Rattle.usb_enum.specs.declared.fault.EnumFault.{EnumFault}
 use Rattle.usb_enum.specs.declared.fault.EnumFault.TheVariants.{ParentLost, Bus, Memory}
 use Rattle.usb_enum.specs.declared.finding.Accepted.{Accepted}
 use Rattle.usb_enum.specs.declared.finding.Finding.{Finding}
 use Rattle.usb_table.specs.Entries.{Entries, Replaced, without}
 use Rattle.usb_table.specs.Findings.{is_hub, is_waiting, accepted_device_at}
+use Rattle.usb_table.specs.declared.known.KnownPort.{KnownPort}
 use Rattle.usb_table.specs.KnownPorts.{known_port}
 use Rattle.usb_table.specs.Levels.{BitsOf, Heard}
 use Rattle.usb_table.specs.NextEntries.{ComesAfter, IsNext, IsLast}
@@ -31,14 +34,15 @@ use Rattle.usb_table.specs.Listing.{hub_facts_at}
 use Rattle.usb_table.specs.Table.{pipes_at}
 use Rattle.usb_table.specs.Transfers.{PipesPolled}
 use Rattle.usb_resources.specs.Pool.{IsFull}
-use Rattle.usb_host.specs.Backlog.{hubs, ClearsConnection, ClearsReset, PaysAtLook, PaysAtServe, RestsCalm}
+use Rattle.usb_host.specs.Backlog.{hubs, ClearsReset, PaysAtLook, PaysAtServe, RestsCalm}
+use Rattle.usb_host.specs.Bounds.{drop_bound, handling_bound, look_bound, roots_bound, serving_bound, told_bound}
 use Rattle.usb_host.specs.Budget.{Affords, HubPaid, NumberPaid, PaysPart, PaysRound, PortPaid, RootsPaid, RoundPaid, ToldPaid, Weights, handling_most, hubs_most, poll_most, told_most}
 use Rattle.usb_host.specs.Hosting.{Hosting}
-use Rattle.usb_host.specs.Ownership.{HasLost, IsOwned}
-use Rattle.usb_host.specs.PortHandling.{ClearsChange, DropsLost}
-use Rattle.usb_host.specs.Ports.{Looked, Served, Waits}
-use Rattle.usb_host.specs.Progress.{AddsNoWork, Advances, Did, DidRound, Remains, Rests, either}
-use Rattle.usb_host.specs.Soundness.{IsSound, RootsRest}
+use Rattle.usb_host.specs.Ownership.{DropsHub, HasLost, IsOwned, KeepsOwned, KeepsPort}
+use Rattle.usb_host.specs.PortHandling.{DropsLost, FindsSound, ServesSound}
+use Rattle.usb_host.specs.Ports.{Entered, Forgets, IsDue, Looked, Requested, Served, Waits}
+use Rattle.usb_host.specs.Progress.{AddsNoWork, Advances, Did, DidRound, HostGoes, Remains, Rests, either}
+use Rattle.usb_host.specs.Soundness.{DropsSound, HubKeeps, HubsKeep, IsSound, LooksKeep, Part, PartsKeep, RootsRest}
 use Rattle.usb_host.specs.Transfers.{table_in}
 use Rattle.usb_host.specs.declared.fault.HostFault.{HostFault}
 use Rattle.usb_host.specs.declared.host.Round.{Round}
@@ -189,12 +193,6 @@ pub record TidiesTold (port : HubPort) (status : PortStatus) (old : Hosting) (re
   pub calm : RestsCalm status old result new
   pub clears : (f : Claims) (p : List ℕ) → IsAt f port p → TillFault (Owned f) old.world → OnOk result (ClearsTold p status old.world new.world)
 
--- a change of connection was cleared
-pub record ClearsPort (port : HubPort) (old : World) (result : Result PortStatus EnumFault) (new : World) : Type 0 where
-  pub keeps : ClearsChange port old result new
-  pub paid : IfOk result (λ status. ClearsConnection port status old new)
-  pub reads : (f : Claims) (p : List ℕ) → IsAt f port p → TillFault (Owned f) old → IfOk result (λ status. ClearsAndReads p status old new)
-
 -- what is known stays, or what was found at the port and below it is forgotten
 abbrev pub StaysOrForgets : List ℕ → Entries → Entries → Type 0
 StaysOrForgets path old new = (new ≡ old) ⊎ (new ≡ without path old)
@@ -220,19 +218,58 @@ EndsAt path (Err ParentLost) old result new = OnOk result (LosesParent path old.
 EndsAt path (Err (Bus fault)) old result new = ⊤
 EndsAt path (Err Memory) old result new = ⊤
 
--- what a look leaves
-pub record LooksAnew (path : List ℕ) (old : Hosting) (result : Result (Unit {0}) EnumFault) (new : Hosting) : Type 0 where
+-- what is there was found
+pub record Discovers (path : List ℕ) (port : KnownPort) (old : Hosting)
+    (result : Result (Unit {0}) EnumFault) (new : Hosting) : Type 0 where
+  pub requested : Requested port.port widest_enumeration old result new
+  pub owned : KeepsPort path old result new
+  pub sound : FindsSound path old result new
+
+-- what was found there and below it is forgotten, and where a device is connected, it was found
+pub record RenewsPort (path : List ℕ) (port : KnownPort) (connected : Bool) (old : Hosting)
+    (result : Result (Unit {0}) EnumFault) (new : Hosting) : Type 0 where
+  pub mid : Hosting
+  pub forgot : Forgets path old mid
+  pub none : connected ≡ false → (result ≡ Ok tt) × (new ≡ mid)
+  pub entered : connected ≡ true → Entered path mid result new
+  pub found : connected ≡ true → Discovers path port mid result new
+
+-- what a look leaves; where it was due or a device waits, the host got on
+pub record LooksAt (path : List ℕ) (port : KnownPort) (old : Hosting)
+    (result : Result (Unit {0}) EnumFault) (new : Hosting) : Type 0 where
+  pub requested : Requested port.port look_bound old result new
+  pub on : IsDue old.world port.port ⊎ Waits path old → Served result old new
+  pub owned : KeepsPort path old result new
+  pub sound : ServesSound path old result new
   pub renewed : OnOk result (Replaced path (without path old.entries) new.entries)
   pub pays : PaysAtLook path old result new
   pub hubs : hubs new.entries ≤ hubs old.entries + 1
   pub looked : IsOwned old → LookedOrLost path old result new
 
+-- what one leaves after an error
+pub record LooksAfterError (path : List ℕ) (port : KnownPort) (old : Hosting)
+    (result : Result (Unit {0}) EnumFault) (new : Hosting) : Type 0 where
+  pub requested : Requested port.port look_bound old result new
+  pub on : CanFail port.port → Served result old new
+  pub owned : KeepsPort path old result new
+
 -- what the serving of a port leaves; where it was due, the host got on
-pub record ServesPort (path : List ℕ) (due : Type 0) (old : Hosting) (result : Result (Unit {0}) EnumFault) (new : Hosting) : Type 0 where
-  pub on : due → Served result old new
+pub record ServesPort (path : List ℕ) (port : KnownPort) (old : Hosting)
+    (result : Result (Unit {0}) EnumFault) (new : Hosting) : Type 0 where
+  pub requested : Requested port.port serving_bound old result new
+  pub on : IsDue old.world port.port → Served result old new
+  pub owned : KeepsPort path old result new
+  pub sound : ServesSound path old result new
   pub pays : PaysAtServe path old result new
   pub hubs : hubs new.entries ≤ hubs old.entries + 1
   pub served : IsSound old → ServedOrLost path old result new
+
+-- the changes of a hub itself were cleared, or it was dropped
+pub record ServesOwn (old : Hosting) (result : Result (Unit {0}) HostFault) (new : Hosting)
+    : Type 0 where
+  pub goes : HostGoes handling_bound old new
+  pub holds : AddsNoWork old new
+  pub owned : KeepsOwned old result new
 
 -- the hub of a port is listed
 abbrev pub HasHub : List ℕ → Entries → Type 0
@@ -240,14 +277,19 @@ HasHub path entries = IsSomeAnd (parent_of path) (λ hub. IsSome (hub_facts_at h
 
 -- how the handling of a port ends; where its hub was lost, one hub fewer is listed
 pub record FinishesAt (path : List ℕ) (served : Result (Unit {0}) EnumFault) (old : Hosting) (result : Result (Unit {0}) HostFault) (new : Hosting) : Type 0 where
+  pub goes : HostGoes drop_bound old new
+  pub holds : AddsNoWork old new
   pub drops : DropsLost path served old result new
   pub left : EndsAt path served old result new
   pub fewer : served ≡ Err ParentLost → HasHub path old.entries → OnOk result (hubs new.entries + 1 ≤ hubs old.entries)
 
 -- a hub is dropped: no more is left to do, and where it was listed, one hub fewer is
 pub record DropsOne (hub : List ℕ) (old : Hosting) (result : Result (Unit {0}) HostFault) (new : Hosting) : Type 0 where
+  pub goes : HostGoes drop_bound old new
   pub holds : AddsNoWork old new
   pub hubs : OnOk result (IsSome (hub_facts_at hub old.entries) → hubs new.entries + 1 ≤ hubs old.entries)
+  pub owned : DropsHub hub old result new
+  pub sound : DropsSound hub old result new
 
 -- a port was handled; where it was due, the host got on
 pub record HandlesAt (path : List ℕ) (due : Type 0) (old new : Hosting) : Type 0 where
@@ -256,6 +298,7 @@ pub record HandlesAt (path : List ℕ) (due : Type 0) (old new : Hosting) : Type
 
 -- and what that cost
 pub record HandlesPort (path : List ℕ) (due : Type 0) (old : Hosting) (result : Result (Unit {0}) HostFault) (new : Hosting) : Type 0 where
+  pub part : Part handling_bound old result new
   pub handled : OnOk result (HandlesAt path due old new)
   pub pays : PaysPart handling_most (λ c done. PortPaid c path) old result new
 
@@ -266,18 +309,39 @@ pub record HandlesBelow (hub : List ℕ) (number : ℕ) (round : Round) (old new
 
 -- and what that cost
 pub record HandlesNumber (hub : List ℕ) (number : ℕ) (old : Hosting) (result : Result Round HostFault) (new : Hosting) : Type 0 where
+  pub part : Part handling_bound old result new
   pub handled : IfOk result (λ round. HandlesBelow hub number round old new)
   pub pays : PaysPart handling_most (λ c. NumberPaid c hub number) old result new
 
 -- the ports of which a hub told were handled
-pub record ServesTold (hub : List ℕ) (bits : ℕ) (old : Hosting) (result : Result (Unit {0}) HostFault) (new : Hosting) : Type 0 where
+pub record ServesPorts (hub : List ℕ) (bits : ℕ) (old : Hosting)
+    (result : Result (Unit {0}) HostFault) (new : Hosting) : Type 0 where
+  pub part : Part told_bound old result new
+  pub holds : OnOk result (AddsNoWork old new)
   pub served : OnOk result (IsSound old → ServedTold hub bits 8 old new)
   pub pays : PaysPart told_most (λ c done. ToldPaid hub bits c) old result new
 
+-- and where it told of itself alone, its own changes were cleared
+pub record ServesTold (hub : List ℕ) (bits : ℕ) (old : Hosting)
+    (result : Result (Unit {0}) HostFault) (new : Hosting) : Type 0 where
+  pub goes : HostGoes told_bound old new
+  pub holds : OnOk result (AddsNoWork old new)
+  pub owned : KeepsOwned old result new
+  pub ports : bits ≢ 1 → ServesPorts hub bits old result new
+
 -- a device that waits was looked at again
-pub record LooksOnceMore (path : List ℕ) (round : Round) (old new : Hosting) : Type 0 where
-  pub did : Looked round old new
-  pub looked : IsSound old → (round ≡ Worked) × LookedOnce path old new
+pub record LooksOnceMore (path : List ℕ) (old : Hosting) (result : Result Round HostFault)
+    (new : Hosting) : Type 0 where
+  pub part : Part handling_bound old result new
+  pub did : IfOk result (λ round. Looked round old new)
+  pub looked : IfOk result (λ round. IsSound old → (round ≡ Worked) × LookedOnce path old new)
+
+-- each that waits, while an address is free
+pub record LooksAgain (old : Hosting) (result : Result Round HostFault) (new : Hosting)
+    : Type 0 where
+  pub keeps : LooksKeep old result new
+  pub did : IfOk result (λ round. Did round old new)
+  pub looked : IfOk result (λ round. IsSound old → EachLookedAgain round old new)
 
 -- a hub was polled
 pub record PollsHub (hub : List ℕ) (round : Round) (old new : Hosting) : Type 0 where
@@ -286,11 +350,14 @@ pub record PollsHub (hub : List ℕ) (round : Round) (old new : Hosting) : Type 
 
 -- and what that cost
 pub record ServesHub (hub : List ℕ) (old : Hosting) (result : Result Round HostFault) (new : Hosting) : Type 0 where
+  pub keeps : HubKeeps hub old result new
   pub polls : IfOk result (λ round. PollsHub hub round old new)
   pub pays : PaysPart poll_most (HubPaid hub) old result new
 
 -- each hub that is known was polled
 pub record ServesHubs (old : Hosting) (result : Result Round HostFault) (new : Hosting) : Type 0 where
+  pub keeps : HubsKeep old result new
+  pub did : IfOk result (λ round. Did round old new)
   pub polls : IfOk result (λ round. IsSound old → new.world.fault ≡ None → EachPolled round old new)
   pub pays : PaysPart hubs_most RoundPaid old result new
   -- where nothing is listed, nothing is done
@@ -298,6 +365,8 @@ pub record ServesHubs (old : Hosting) (result : Result Round HostFault) (new : H
 
 -- the parts of a round; where it is quiet no root port had changed
 pub record WentByParts (old : Hosting) (result : Result Round HostFault) (new : Hosting) : Type 0 where
+  pub keeps : PartsKeep old result new
+  pub did : IfOk result (λ round. Did round old new)
   pub none : result ≡ Ok Quiet → changes (root_row old.world) ≡ 0
   pub parts : IfOk result (λ round. IsSound old → new.world.fault ≡ None → RoundParts round old new)
   pub pays : (c : Weights) (plan : PlanData) → Affords c plan old → PaysRound c plan old result new
@@ -306,11 +375,13 @@ pub record WentByParts (old : Hosting) (result : Result Round HostFault) (new : 
 
 -- the root ports were served
 pub record ServesRoots (round : Round) (old new : Hosting) : Type 0 where
+  pub did : Did round old new
   pub none : round ≡ Quiet → RootsRest old new
   pub served : IsSound old → RootsServed (roots_of old.world + 1) round old new
 
 -- and what that cost
 pub record ServesEach (old : Hosting) (result : Result Round HostFault) (new : Hosting) : Type 0 where
+  pub part : Part roots_bound old result new
   pub serves : IfOk result (λ round. ServesRoots round old new)
   pub pays : PaysPart handling_most RootsPaid old result new
   -- where none had changed, nothing is done

@@ -29,9 +29,11 @@ use Rattle.usb_transaction.specs.Failures.{NoThreeDamaged}
 use Rattle.usb_enum.specs.Losses.{FewLosses}
 use Rattle.usb_enum.specs.PresentDevices.{IsInOrder, IsOrderly}
 use Rattle.usb_host.specs.Agreement.{Agrees}
+use Rattle.usb_host.specs.Bounds.{hub_poll_bound, hubs_bound, looks_bound, round_bound}
 use Rattle.usb_host.specs.BulkPipes.{KeepsBulk}
 use Rattle.usb_host.specs.Hosting.{Hosting}
 use Rattle.usb_host.specs.Plugs.{KeepsPlugs}
+use Rattle.usb_host.specs.Progress.{HostGoes}
 use Rattle.usb_host.specs.Transfers.{table_in}
 use Rattle.usb_host.specs.Ownership.{IsOwned, IsOwnedBut, IsRooted, KeepsOwned, Owning}
 use Rattle.usb_host.specs.declared.fault.HostFault.{HostFault}
@@ -180,8 +182,11 @@ pub record RoundsSound (old : Hosting) (result : Result Round HostFault) (new : 
 
 -- Parts of a round
 
--- each reachable device holds the address that the host has for it, and what is known stays so
-pub record PartKeeps {A : Type 0} (old : Hosting) (result : Result A HostFault) (new : Hosting) : Type 0 where
+-- a part of a round: so many attempts at most, each reachable device holds the address that the
+-- host has for it, and what is known stays so
+pub record Part {A : Type 0} (most : ℕ) (old : Hosting) (result : Result A HostFault)
+    (new : Hosting) : Type 0 where
+  pub goes : HostGoes most old new
   pub owned : KeepsOwned old result new
   pub sound : KeepsSound old result new
 
@@ -197,30 +202,29 @@ IsSilent hub h = (facts : HubFacts) (number : ℕ) → hub_facts_at hub h.entrie
 
 -- a hub was polled; where it told of no change, nothing was asked of any port, and where no change is pending at it, none was told at its ports
 pub record HubKeeps (hub : List ℕ) (old : Hosting) (result : Result Round HostFault) (new : Hosting) : Type 0 where
-  pub owned : KeepsOwned old result new
-  pub sound : KeepsSound old result new
+  pub part : Part hub_poll_bound old result new
   pub calm : result ≡ Ok Quiet → new.world.fault ≡ None → AllRest old.world new.world
   pub silent : IsSound old → result ≡ Ok Quiet → new.world.fault ≡ None → pend new.world.roots hub ≡ false → IsSilent hub new
 
 -- so was each hub; where none told of a change and no event came, none is told at the ports of any at which none is pending
 pub record HubsKeep (old : Hosting) (result : Result Round HostFault) (new : Hosting) : Type 0 where
-  pub owned : KeepsOwned old result new
-  pub sound : KeepsSound old result new
+  pub part : Part hubs_bound old result new
   pub calm : result ≡ Ok Quiet → new.world.fault ≡ None → AllRest old.world new.world
   pub silent : IsSound old → result ≡ Ok Quiet → new.world.fault ≡ None → new.world.taken ≡ old.world.taken → (hub : List ℕ) → pend new.world.roots hub ≡ false → IsSilent hub new
   pub agrees : OnOk result (Agrees new.entries new.addresses)
 
 -- devices that wait were looked at again; where none was, none need be
 pub record LooksKeep (old : Hosting) (result : Result Round HostFault) (new : Hosting) : Type 0 where
-  pub owned : KeepsOwned old result new
-  pub sound : KeepsSound old result new
+  pub part : Part looks_bound old result new
   pub rest : IsRooted old → result ≡ Ok Quiet → (new ≡ old) × NoneWaiting new.entries
   pub idle : NoneWait old.entries → (result ≡ Ok Quiet) × (new ≡ old)
 
--- all of them
-pub record PartsKeep (old : Hosting) (result : Result Round HostFault) (new : Hosting) : Type 0 where
-  pub owned : KeepsOwned old result new
-  pub sound : RoundsSound old result new
+-- all of them; quiet ones in which no event came leave nothing to do, as long as the bus is at work
+pub record PartsKeep (old : Hosting) (result : Result Round HostFault) (new : Hosting)
+    : Type 0 where
+  pub part : Part round_bound old result new
+  pub rest : IsSound old → result ≡ Ok Quiet → new.world.taken ≡ old.world.taken
+      → new.world.fault ≡ None → IsAtRest new.world new.entries
 
 -- Whole calls
 

@@ -3,7 +3,7 @@
 //! Each call does nothing; what it ensures is for proofs to cite.
 ghost use Rattle.std.specs.Prelude.{◌≡◌, ℕ, List, Option, Result, Ok, false};
 ghost use Rattle.usb_resources.specs.Pool.{Addresses};
-ghost use Rattle.usb_world.specs.declared.event.Due.{Due};
+ghost use Rattle.usb_world.specs.declared.event.Ask.{Ask};
 ghost use Rattle.usb_world.specs.declared.types.BusFault.{BusFault};
 ghost use Rattle.usb_world.specs.RestingPorts.{AsksNothingOf};
 ghost use Rattle.usb_world.specs.Steps.{Course};
@@ -28,10 +28,11 @@ pub fn known_stays()
 /// An event that comes through `Host::bus_mut` by `SimBus::apply_next_event` leaves a host as it was but for its bus: what it
 /// knows stays so, and each reachable device holds the address that the host has for it, also where the bus told a fault.
 pub fn known_stays_at_events()
-    ensures sound { (old new : Hosting) (due : Option Due) → Agrees old.entries old.addresses
+    ensures sound { (old new : Hosting) (due : Option (Option Ask))
+        → Agrees old.entries old.addresses
         → TakesEvent old.world old.trace (Ok due) new.world new.trace → Rests old new
         → StaysSound old new }
-    ensures owning { (old new : Hosting) (result : Result (Option Due) BusFault)
+    ensures owning { (old new : Hosting) (result : Result (Option (Option Ask)) BusFault)
         → old.stopped ≡ false → TakesEvent old.world old.trace result new.world new.trace
         → Rests old new → Owning old → Owning new }
 {}

@@ -1,29 +1,22 @@
 //! What the host does at a port.
-ghost use Rattle.std.specs.Prelude.{◌≡◌, ◌≤◌, ◌⊎◌, ◌+◌, ◌*◌, [], ◌∷◌, true, false, length, IsTrue, OnOk, Ok, IfOk, IfErr, IfSome, IfNone, IsSome, is_some};
-ghost use Rattle.std.specs.BTreeMap.{insert_entry};
-ghost use Rattle.usb_port.specs.Order.{path_cmp};
+ghost use Rattle.std.specs.Prelude.{◌≡◌, ◌≤◌, ◌+◌, ◌*◌, [], ◌∷◌, true, false, IsTrue, Ok, IfErr, IfSome, IfNone, IsSome, MatchResult, is_some};
+ghost use Rattle.usb_port.specs.Calls.{IsClearFeature};
 ghost use Rattle.usb_port.specs.Path.{IsPath, IsPortNumber};
 ghost use Rattle.usb_world.specs.World.{IsRootPort, root_port_at};
 ghost use Rattle.usb_hub.specs.Port.{IsAsked};
-ghost use Rattle.usb_address.specs.Ownership.{KeepsAddresses};
-ghost use Rattle.usb_resources.specs.Pool.{IsFull};
-ghost use Rattle.usb_enum.specs.Bounds.{widest_enumeration, read_bound};
-ghost use Rattle.usb_enum.specs.Stop.{CanFail, FaultAt};
-ghost use Rattle.usb_table.specs.Entries.{has_at, without};
+ghost use Rattle.usb_enum.specs.Stop.{at_port};
+ghost use Rattle.usb_table.specs.Entries.{has_at};
 ghost use Rattle.usb_table.specs.Findings.{accepted_device_at};
 ghost use Rattle.usb_table.specs.KnownPorts.{IsAskable, known_port};
 ghost use Rattle.usb_table.specs.Listing.{tier_of};
 ghost use Rattle.usb_pipe.specs.Control.{write_bound};
 ghost use Rattle.usb_host.specs.Backlog.{hubs};
-ghost use Rattle.usb_host.specs.Bounds.{clearing_bound, look_bound, drop_bound, handling_bound, serving_bound};
-ghost use Rattle.usb_host.specs.Agreement.{Agrees};
-ghost use Rattle.usb_host.specs.Changes.{IsPlain, KeepsEach, OnlyTidies, has_failed};
-ghost use Rattle.usb_host.specs.PortHandling.{Watches, Tidies, ServesSound, Looks, FindsSound, DisablesOnWay, Climbs};
-ghost use Rattle.usb_host.specs.Ownership.{BaresPort, KeepsOwned, KeepsPort, DropsHub};
-ghost use Rattle.usb_host.specs.Ports.{IsPortAt, StandsNowhere, IsDue, Waits, Served, Shown, Gains, Broke, EndsAs, Entered, Forgets};
-ghost use Rattle.usb_host.specs.Progress.{HostGoes, AddsNoWork, Rests};
-ghost use Rattle.usb_host.specs.Service.{ClearsPort, DropsOne, FinishesAt, HandlesNumber, HandlesPort, LooksAnew, LooksOnceMore, ServesPort, TidiesTold};
-ghost use Rattle.usb_host.specs.Soundness.{KeepsSound, DropsSound, PartKeeps};
+ghost use Rattle.usb_host.specs.Changes.{IsPlain, has_failed};
+ghost use Rattle.usb_host.specs.PortHandling.{DisablesOnWay, Climbs};
+ghost use Rattle.usb_host.specs.Ports.{IsPortAt, StandsNowhere, IsDue, Waits, Broke, EndsAs, Entered, Forgets};
+ghost use Rattle.usb_host.specs.Progress.{Rests};
+ghost use Rattle.usb_host.specs.Requests.{ClearsError, ClearsFeature, ClearsOthers, ClearsOwn, ClearsPort, ClearsWhere, SettlesPort, ShowsPort, TidiesPort};
+ghost use Rattle.usb_host.specs.Service.{Discovers, DropsOne, FinishesAt, HandlesNumber, HandlesPort, LooksAfterError, LooksAt, LooksOnceMore, RenewsPort, ServesOwn, ServesPort};
 ghost use Rattle.usb_host.specs.ToldFaults.{PartTold};
 
 use crate::HostFault;
@@ -54,13 +47,10 @@ impl<B: Bus> Host<B> {
     pub(crate) fn handle_root(&mut self, number: u8) -> Result<(), HostFault>
         requires port { B.modelled ≡ true → IsRootPort self.old.world number }
         requires number { IsPortNumber number }
-        ensures goes { B.modelled ≡ true → HostGoes handling_bound self.old self.new }
         ensures told { IfErr result (λ fault. PartTold B.modelled fault self.new.world) }
         ensures handles { B.modelled ≡ true → HandlesPort (number ∷ [])
             ((root_port_at self.old.world number).connection_changed ≡ true)
             self.old result self.new }
-        ensures owned { B.modelled ≡ true → KeepsOwned self.old result self.new }
-        ensures sound { B.modelled ≡ true → KeepsSound self.old result self.new }
     {
         // for the checker: the entries and the addresses agree
         let _table = &self.table;
@@ -74,12 +64,9 @@ impl<B: Bus> Host<B> {
     /// Handles a port of a hub, where that is known and has the port.
     pub(crate) fn handle_below(&mut self, hub: &PortPath, number: u8) -> Result<Round, HostFault>
         requires { IsPath hub.now }
-        ensures goes { B.modelled ≡ true → HostGoes handling_bound self.old self.new }
         ensures told { IfErr result (λ fault. PartTold B.modelled fault self.new.world) }
         ensures handles { B.modelled ≡ true
             → HandlesNumber hub.now number self.old result self.new }
-        ensures owned { B.modelled ≡ true → KeepsOwned self.old result self.new }
-        ensures sound { B.modelled ≡ true → KeepsSound self.old result self.new }
     {
         let mut path = hub.duplicate();
         if !path.push(number) {
@@ -95,10 +82,8 @@ impl<B: Bus> Host<B> {
     /// Clears the changes of a hub itself, by way of its first port.
     pub(crate) fn serve_own(&mut self, hub: &PortPath) -> Result<(), HostFault>
         requires { IsPath hub.now }
-        ensures goes { B.modelled ≡ true → HostGoes handling_bound self.old self.new }
         ensures told { IfErr result (λ fault. PartTold B.modelled fault self.new.world) }
-        ensures holds { B.modelled ≡ true → AddsNoWork self.old self.new }
-        ensures owned { B.modelled ≡ true → KeepsOwned self.old result self.new }
+        ensures serves { B.modelled ≡ true → ServesOwn self.old result self.new }
     {
         let mut path = hub.duplicate();
         if !path.push(1) {
@@ -113,10 +98,8 @@ impl<B: Bus> Host<B> {
     /// Clears the changes of the hub that has a port. Where it does not answer, it is dropped.
     fn handle_own(&mut self, path: &PortPath, port: KnownPort) -> Result<(), HostFault>
         requires { IsPortAt B.modelled path.now port self.old }
-        ensures goes { B.modelled ≡ true → HostGoes handling_bound self.old self.new }
         ensures told { IfErr result (λ fault. PartTold B.modelled fault self.new.world) }
-        ensures holds { B.modelled ≡ true → AddsNoWork self.old self.new }
-        ensures owned { B.modelled ≡ true → KeepsOwned self.old result self.new }
+        ensures serves { B.modelled ≡ true → ServesOwn self.old result self.new }
     {
         let cleared = self.clear_own(port.port);
         self.finish(path, cleared)
@@ -126,17 +109,13 @@ impl<B: Bus> Host<B> {
     fn clear_own(&mut self, port: HubPort) -> Result<(), EnumFault>
         requires port { IsAsked B.modelled self.old.world port }
         requires askable { IsAskable port }
-        ensures goes { B.modelled ≡ true
-            → HostGoes (read_bound 4 + 2 * write_bound) self.old self.new }
-        ensures told { B.modelled ≡ true
-            → IfErr result (λ fault. FaultAt port fault self.new.world) }
         ensures rests { Rests self.old self.new }
-        ensures addresses { B.modelled ≡ true → KeepsAddresses self.old.world self.new.world }
+        ensures clears { B.modelled ≡ true → ClearsOwn port self.old result self.new }
     {
         match port {
             HubPort::Root(_) => Ok(()),
             HubPort::External { hub, .. } => {
-                Ok(clear_hub_changes(self.alloc, &mut self.bus, hub)?)
+                at_port(clear_hub_changes(self.alloc, &mut self.bus, hub))
             }
         }
     }
@@ -145,11 +124,8 @@ impl<B: Bus> Host<B> {
     pub(crate) fn look_once_more(&mut self, path: &PortPath) -> Result<Round, HostFault>
         requires { Waits path.now self.old }
         ensures path { IsPath path.now }
-        ensures goes { B.modelled ≡ true → HostGoes handling_bound self.old self.new }
         ensures told { IfErr result (λ fault. PartTold B.modelled fault self.new.world) }
-        ensures looks { B.modelled ≡ true
-            → IfOk result (λ round. LooksOnceMore path.now round self.old self.new) }
-        ensures keeps { B.modelled ≡ true → PartKeeps self.old result self.new }
+        ensures looks { B.modelled ≡ true → LooksOnceMore path.now self.old result self.new }
     {
         // for the checker: a path has one to seven numbers
         let _numbers = path.numbers();
@@ -178,12 +154,9 @@ impl<B: Bus> Host<B> {
     /// Handles a port. Where a request to its hub fails, that hub is dropped.
     fn handle(&mut self, path: &PortPath, port: KnownPort) -> Result<(), HostFault>
         requires { IsPortAt B.modelled path.now port self.old }
-        ensures goes { B.modelled ≡ true → HostGoes handling_bound self.old self.new }
         ensures told { IfErr result (λ fault. PartTold B.modelled fault self.new.world) }
         ensures handles { B.modelled ≡ true
             → HandlesPort path.now (IsDue self.old.world port.port) self.old result self.new }
-        ensures owned { B.modelled ≡ true → KeepsOwned self.old result self.new }
-        ensures sound { B.modelled ≡ true → KeepsSound self.old result self.new }
     {
         let served = self.serve(path, port);
         self.finish(path, served)
@@ -192,9 +165,7 @@ impl<B: Bus> Host<B> {
     /// Drops the hub of a port, where a request to it failed.
     fn finish(&mut self, path: &PortPath, served: Result<(), EnumFault>) -> Result<(), HostFault>
         requires { B.modelled ≡ true → IfErr served (λ fault. Broke path.now fault self.old.world) }
-        ensures goes { B.modelled ≡ true → HostGoes drop_bound self.old self.new }
         ensures told { IfErr result (λ fault. PartTold B.modelled fault self.new.world) }
-        ensures holds { B.modelled ≡ true → AddsNoWork self.old self.new }
         ensures ends { EndsAs served result }
         ensures finishes { B.modelled ≡ true → FinishesAt path.now served self.old result self.new }
     {
@@ -214,13 +185,7 @@ impl<B: Bus> Host<B> {
     /// there is forgotten and found anew; else its changes are cleared.
     fn serve(&mut self, path: &PortPath, port: KnownPort) -> Result<(), EnumFault>
         requires { IsPortAt B.modelled path.now port self.old }
-        ensures goes { B.modelled ≡ true → HostGoes serving_bound self.old self.new }
-        ensures told { B.modelled ≡ true
-            → IfErr result (λ fault. FaultAt port.port fault self.new.world) }
-        ensures owned { B.modelled ≡ true → KeepsPort path.now self.old result self.new }
-        ensures sound { B.modelled ≡ true → ServesSound path.now self.old result self.new }
-        ensures serves { B.modelled ≡ true
-            → ServesPort path.now (IsDue self.old.world port.port) self.old result self.new }
+        ensures { B.modelled ≡ true → ServesPort path.now port self.old result self.new }
     {
         let status = self.status(port.port)?;
         if status.connection_changed {
@@ -256,26 +221,58 @@ impl<B: Bus> Host<B> {
     fn status(&mut self, port: HubPort) -> Result<PortStatus, EnumFault>
         requires port { IsAsked B.modelled self.old.world port }
         requires askable { IsAskable port }
-        ensures goes { B.modelled ≡ true → HostGoes (read_bound 4) self.old self.new }
-        ensures told { B.modelled ≡ true
-            → IfErr result (λ fault. FaultAt port fault self.new.world) }
         ensures rests { Rests self.old self.new }
-        ensures shown { B.modelled ≡ true → Shown port result self.old.world self.new.world }
-        ensures watches { B.modelled ≡ true → Watches port self.old.world result self.new.world }
+        ensures shows { B.modelled ≡ true → ShowsPort port self.old result self.new }
     {
-        Ok(port_status(self.alloc, &mut self.bus, port)?)
+        at_port(port_status(self.alloc, &mut self.bus, port))
+    }
+
+    /// Clears a feature of a port (11.24.2.2).
+    fn clear(&mut self, port: HubPort, feature: u16) -> Result<(), EnumFault>
+        requires port { IsAsked B.modelled self.old.world port }
+        requires named { IsClearFeature feature }
+        ensures rests { Rests self.old self.new }
+        ensures clears { B.modelled ≡ true
+            → ClearsFeature port feature self.old result self.new }
+    {
+        at_port(clear_port(&mut self.bus, port, feature))
+    }
+
+    /// Clears a feature of a port, where that is asked for.
+    fn clear_where(&mut self, asked: bool, port: HubPort, feature: u16) -> Result<(), EnumFault>
+        requires port { IsAsked B.modelled self.old.world port }
+        requires named { IsClearFeature feature }
+        ensures rests { Rests self.old self.new }
+        ensures clears { B.modelled ≡ true
+            → ClearsWhere asked port feature self.old result self.new }
+    {
+        if asked {
+            self.clear(port, feature)
+        } else {
+            Ok(())
+        }
+    }
+
+    /// Clears a change of a port that asks for nothing else, where that is asked for.
+    fn clear_other(&mut self, asked: bool, port: HubPort, feature: u16) -> Result<(), EnumFault>
+        requires { IsAsked B.modelled self.old.world port }
+        ensures rests { Rests self.old self.new }
+        ensures none { asked ≡ false → (result ≡ Ok tt) × (self.new ≡ self.old) }
+        ensures clears { B.modelled ≡ true
+            → ClearsOthers port write_bound self.old result self.new }
+    {
+        if asked {
+            at_port(clear_port_change(&mut self.bus, port, feature))
+        } else {
+            Ok(())
+        }
     }
 
     /// Clears each change of a port whose connection has not changed.
     fn settle(&mut self, port: HubPort, status: PortStatus) -> Result<(), EnumFault>
         requires { IsAsked B.modelled self.old.world port }
-        ensures goes { B.modelled ≡ true → HostGoes (4 * write_bound) self.old self.new }
-        ensures told { B.modelled ≡ true
-            → IfErr result (λ fault. FaultAt port fault self.new.world) }
         ensures rests { Rests self.old self.new }
-        ensures keeps { B.modelled ≡ true → KeepsEach self.old.world self.new.world }
-        ensures tidies { B.modelled ≡ true
-            → IsPlain status → OnlyTidies port status self.old result self.new }
+        ensures settles { B.modelled ≡ true → SettlesPort port status self.old result self.new }
     {
         self.tidy(port, status)?;
         self.clear_others(port, status)
@@ -284,131 +281,98 @@ impl<B: Bus> Host<B> {
     /// Clears the changes of a port that ask for nothing else: of its suspend and its over-current.
     fn clear_others(&mut self, port: HubPort, status: PortStatus) -> Result<(), EnumFault>
         requires { IsAsked B.modelled self.old.world port }
-        ensures goes { B.modelled ≡ true → HostGoes (2 * write_bound) self.old self.new }
-        ensures told { B.modelled ≡ true
-            → IfErr result (λ fault. FaultAt port fault self.new.world) }
         ensures rests { Rests self.old self.new }
-        ensures keeps { B.modelled ≡ true → KeepsEach self.old.world self.new.world }
         ensures none { IsPlain status → (result ≡ Ok tt) × (self.new ≡ self.old) }
+        ensures clears { B.modelled ≡ true
+            → ClearsOthers port (2 * write_bound) self.old result self.new }
     {
-        if status.suspend_changed {
-            clear_port_change(&mut self.bus, port, C_PORT_SUSPEND)?;
-        }
-        if status.over_current_changed {
-            clear_port_change(&mut self.bus, port, C_PORT_OVER_CURRENT)?;
-        }
-        Ok(())
+        self.clear_other(status.suspend_changed, port, C_PORT_SUSPEND)?;
+        self.clear_other(status.over_current_changed, port, C_PORT_OVER_CURRENT)
     }
 
     /// Clears what an earlier reset or error left of a port whose connection has not changed.
-    #[tactic(auto, using(usb_address::proofs::Interface::keeps_then))]
     fn tidy(&mut self, port: HubPort, status: PortStatus) -> Result<(), EnumFault>
         requires { IsAsked B.modelled self.old.world port }
-        ensures goes { B.modelled ≡ true → HostGoes (2 * write_bound) self.old self.new }
-        ensures told { B.modelled ≡ true
-            → IfErr result (λ fault. FaultAt port fault self.new.world) }
         ensures rests { Rests self.old self.new }
-        ensures tidies { B.modelled ≡ true → Tidies port self.old.world result self.new.world }
-        ensures clears { B.modelled ≡ true → TidiesTold port status self.old result self.new }
+        ensures tidies { B.modelled ≡ true → TidiesPort port status self.old result self.new }
     {
-        if status.enable_changed {
-            clear_port(&mut self.bus, port, C_PORT_ENABLE)?;
-        }
-        if status.reset_changed {
-            clear_port(&mut self.bus, port, C_PORT_RESET)?;
-        }
-        Ok(())
+        self.clear_where(status.enable_changed, port, C_PORT_ENABLE)?;
+        self.clear_where(status.reset_changed, port, C_PORT_RESET)
     }
 
     /// Forgets what was found at a port, and finds what is there now. The change is cleared before
     /// the status is read, so that no later change is lost.
     fn look(&mut self, path: &PortPath, port: KnownPort) -> Result<(), EnumFault>
         requires { IsPortAt B.modelled path.now port self.old }
-        ensures goes { B.modelled ≡ true → HostGoes look_bound self.old self.new }
-        ensures told { B.modelled ≡ true
-            → IfErr result (λ fault. FaultAt port.port fault self.new.world) }
-        ensures served { B.modelled ≡ true
-            → IsDue self.old.world port.port ⊎ Waits path.now self.old
-            → Served result self.old self.new }
-        ensures looks { B.modelled ≡ true → Looks path.now self.old result self.new }
-        ensures anew { B.modelled ≡ true → LooksAnew path.now self.old result self.new }
+        ensures { B.modelled ≡ true → LooksAt path.now port self.old result self.new }
     {
         let status = self.clear_change(port.port)?;
-        self.forget(path);
-        if status.connected {
-            self.discover(path, port)?;
-        }
-        Ok(())
-    }
-
-    /// Clears a port's change of connection, reads its status, and disables it where it is enabled.
-    fn clear_change(&mut self, port: HubPort) -> Result<PortStatus, EnumFault>
-        requires port { IsAsked B.modelled self.old.world port }
-        requires askable { IsAskable port }
-        ensures goes { B.modelled ≡ true → HostGoes clearing_bound self.old self.new }
-        ensures told { B.modelled ≡ true
-            → IfErr result (λ fault. FaultAt port fault self.new.world) }
-        ensures rests { Rests self.old self.new }
-        ensures gains { B.modelled ≡ true
-            → IsDue self.old.world port → Gains result self.old.world self.new.world }
-        ensures clears { B.modelled ≡ true → ClearsPort port self.old.world result self.new.world }
-    {
-        clear_port(&mut self.bus, port, C_PORT_CONNECTION)?;
-        let status = port_status(self.alloc, &mut self.bus, port)?;
-        if status.enabled {
-            clear_port(&mut self.bus, port, PORT_ENABLE)?;
-        }
-        Ok(status)
+        self.renew(path, port, status)
     }
 
     /// Forgets a device that is dead since its hub has disabled its port on an error, and finds it
     /// anew.
     fn look_after_error(&mut self, path: &PortPath, port: KnownPort) -> Result<(), EnumFault>
         requires { IsPortAt B.modelled path.now port self.old }
-        ensures goes { B.modelled ≡ true → HostGoes look_bound self.old self.new }
-        ensures told { B.modelled ≡ true
-            → IfErr result (λ fault. FaultAt port.port fault self.new.world) }
-        ensures owned { B.modelled ≡ true → KeepsPort path.now self.old result self.new }
-        ensures served { B.modelled ≡ true
-            → CanFail port.port → Served result self.old self.new }
         ensures hubs { hubs self.new.entries ≤ hubs self.old.entries + 1 }
+        ensures looks { B.modelled ≡ true
+            → LooksAfterError path.now port self.old result self.new }
     {
         let status = self.clear_error(port.port)?;
-        self.forget(path);
-        if status.connected {
-            self.discover(path, port)?;
-        }
-        Ok(())
+        self.renew(path, port, status)
+    }
+
+    /// Clears a port's change of connection, reads its status, and disables it where it is enabled.
+    fn clear_change(&mut self, port: HubPort) -> Result<PortStatus, EnumFault>
+        requires port { IsAsked B.modelled self.old.world port }
+        requires askable { IsAskable port }
+        ensures rests { Rests self.old self.new }
+        ensures clears { B.modelled ≡ true → ClearsPort port self.old result self.new }
+    {
+        self.clear(port, C_PORT_CONNECTION)?;
+        let status = self.status(port)?;
+        self.clear_where(status.enabled, port, PORT_ENABLE)?;
+        Ok(status)
     }
 
     /// Clears a port's change of enable, disables it, and reads its status.
     fn clear_error(&mut self, port: HubPort) -> Result<PortStatus, EnumFault>
         requires port { IsAsked B.modelled self.old.world port }
         requires askable { IsAskable port }
-        ensures goes { B.modelled ≡ true → HostGoes clearing_bound self.old self.new }
-        ensures told { B.modelled ≡ true
-            → IfErr result (λ fault. FaultAt port fault self.new.world) }
         ensures rests { Rests self.old self.new }
-        ensures gains { B.modelled ≡ true
-            → CanFail port → Gains result self.old.world self.new.world }
-        ensures bares { B.modelled ≡ true
-            → BaresPort port self.old.world result self.new.world }
+        ensures clears { B.modelled ≡ true → ClearsError port self.old result self.new }
     {
-        clear_port(&mut self.bus, port, C_PORT_ENABLE)?;
-        clear_port(&mut self.bus, port, PORT_ENABLE)?;
-        Ok(port_status(self.alloc, &mut self.bus, port)?)
+        self.clear(port, C_PORT_ENABLE)?;
+        self.clear(port, PORT_ENABLE)?;
+        self.status(port)
+    }
+
+    /// Forgets what was found at a port, and where its status shows a device, finds what is there.
+    fn renew(
+        &mut self,
+        path: &PortPath,
+        port: KnownPort,
+        status: PortStatus,
+    ) -> Result<(), EnumFault>
+        requires { IsPortAt B.modelled path.now port self.old }
+        ensures hubs { hubs self.new.entries ≤ hubs self.old.entries + 1 }
+        ensures renews { B.modelled ≡ true
+            → RenewsPort path.now port status.connected self.old result self.new }
+    {
+        self.forget(path);
+        if status.connected {
+            self.discover(path, port)
+        } else {
+            Ok(())
+        }
     }
 
     /// Enters what is found at a port, of which nothing is known.
     fn discover(&mut self, path: &PortPath, port: KnownPort) -> Result<(), EnumFault>
         requires port { IsPortAt B.modelled path.now port self.old }
         requires away { has_at path.now self.old.entries ≡ false }
-        ensures goes { B.modelled ≡ true → HostGoes widest_enumeration self.old self.new }
-        ensures told { B.modelled ≡ true
-            → IfErr result (λ fault. FaultAt port.port fault self.new.world) }
         ensures entered { Entered path.now self.old result self.new }
-        ensures owned { B.modelled ≡ true → KeepsPort path.now self.old result self.new }
-        ensures sound { B.modelled ≡ true → FindsSound path.now self.old result self.new }
+        ensures finds { B.modelled ≡ true → Discovers path.now port self.old result self.new }
     {
         let finding = enumerate(
             self.alloc,
@@ -424,11 +388,8 @@ impl<B: Bus> Host<B> {
     /// Drops a hub that failed: its port is disabled, what stood there and below is forgotten, and
     /// it is listed as lost. Where its port cannot be disabled, its own hub is dropped in its place.
     pub(crate) fn drop_hub(&mut self, hub: PortPath) -> Result<(), HostFault>
-        ensures goes { B.modelled ≡ true → HostGoes drop_bound self.old self.new }
         ensures told { IfErr result (λ fault. PartTold B.modelled fault self.new.world) }
-        ensures counts { B.modelled ≡ true → DropsOne hub self.old result self.new }
-        ensures owned { B.modelled ≡ true → DropsHub hub self.old result self.new }
-        ensures sound { B.modelled ≡ true → DropsSound hub self.old result self.new }
+        ensures drops { B.modelled ≡ true → DropsOne hub self.old result self.new }
     {
         let lost = self.disable_upward(hub)?;
         // for the checker: a path has one to seven numbers
@@ -439,10 +400,10 @@ impl<B: Bus> Host<B> {
 
     /// Disables the port at a path, or the nearest one above it that can be disabled.
     fn disable_upward(&mut self, first: PortPath) -> Result<PortPath, HostFault>
-        ensures goes { B.modelled ≡ true → HostGoes drop_bound self.old self.new }
-        ensures told { IfErr result (λ fault. PartTold B.modelled fault self.new.world) }
+        ensures ends { MatchResult result
+            (λ path. IsSome (known_port path self.old.entries))
+            (λ fault. PartTold B.modelled fault self.new.world) }
         ensures rests { Rests self.old self.new }
-        ensures known { IfOk result (λ path. IsSome (known_port path self.old.entries)) }
         ensures climbs { B.modelled ≡ true → Climbs first self.old result self.new }
     {
         // for the checker: a path has one to seven numbers
@@ -461,11 +422,10 @@ impl<B: Bus> Host<B> {
 
     /// Disables the port at a path, and says whether it could.
     fn disable(&mut self, path: &PortPath) -> Result<bool, HostFault>
-        ensures goes { B.modelled ≡ true → HostGoes write_bound self.old self.new }
-        ensures told { IfErr result (λ fault. PartTold B.modelled fault self.new.world) }
+        ensures ends { MatchResult result
+            (λ done. IsTrue done → IsSome (known_port path.now self.old.entries))
+            (λ fault. PartTold B.modelled fault self.new.world) }
         ensures rests { Rests self.old self.new }
-        ensures known { IfOk result (λ done. IsTrue done
-            → IsSome (known_port path.now self.old.entries)) }
         ensures disables { B.modelled ≡ true → DisablesOnWay path.now self.old result self.new }
     {
         let Some(port) = self.port_at(path) else {
@@ -481,19 +441,21 @@ impl<B: Bus> Host<B> {
     /// Takes out the entries at a path and below it, and releases their addresses.
     #[tactic(auto, using(usb_table::proofs::Interface::takes_one, crate::proofs::Balances::accounts_freed, crate::proofs::Balances::range_freed, usb_table::proofs::Interface::taken_apart, crate::proofs::Balances::full_before, crate::proofs::LevelPipes::pipes_apart))]
     fn forget(&mut self, path: &PortPath)
-        ensures others { self.new ≡ record self.old {
-          entries = self.new.entries;
-          pipes = self.new.pipes;
-          addresses = self.new.addresses;
-        } }
-        ensures gone { has_at path.now self.new.entries ≡ false }
-        ensures rest { self.new.entries ≡ without path.now self.old.entries }
-        ensures freed { Forgets path.now self.old self.new }
-        ensures agrees { Agrees self.new.entries self.new.addresses }
+        ensures { Forgets path.now self.old self.new }
     {
         'entries: while let Some(finding) = self.table.take_at(path) {
             release(&mut self.pool, address_of(&finding));
         }
+    }
+}
+
+/// What a request at a port gave: where a hub does not serve it, that is lost.
+fn at_port<T>(outcome: Result<T, PipeFault>) -> Result<T, EnumFault>
+    ensures { result ≡ at_port outcome }
+{
+    match outcome {
+        Ok(answer) => Ok(answer),
+        Err(fault) => Err(EnumFault::from(fault)),
     }
 }
 

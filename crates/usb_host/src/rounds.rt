@@ -1,19 +1,14 @@
 //! The parts of a round.
-ghost use Rattle.std.specs.Prelude.{◌≡◌, ◌≢◌, ◌≤◌, ◌<◌, ◌+◌, ◌*◌, true, false, None, IfOk, IfErr, ◌⊎◌, IfSome, IfNone, IsSome, OnOk, Ok};
-ghost use Rattle.usb_world.specs.World.{IsRootPort};
+ghost use Rattle.std.specs.Prelude.{◌≡◌, true, IfErr, ◌⊎◌, IfSome, IfNone, IsSome};
 ghost use Rattle.usb_port.specs.Path.{IsPath};
 ghost use Rattle.usb_table.specs.Listing.{hub_facts_at};
 ghost use Rattle.usb_table.specs.Findings.{is_hub, is_waiting};
 ghost use Rattle.usb_table.specs.NextEntries.{ComesAfter, IsNext, IsLast};
 ghost use Rattle.usb_resources.specs.Pool.{IsFull};
 ghost use Rattle.usb_host.specs.Agreement.{Agrees};
-ghost use Rattle.usb_host.specs.Changes.{ServesPorts};
-ghost use Rattle.usb_host.specs.Ownership.{KeepsOwned};
-ghost use Rattle.usb_host.specs.Bounds.{round_bound, roots_bound, hubs_bound, hub_poll_bound, told_bound, looks_bound};
-ghost use Rattle.usb_host.specs.Soundness.{IsSound, PartKeeps, PartsKeep, HubKeeps, HubsKeep, LooksKeep};
 ghost use Rattle.usb_host.specs.Ports.{Waits};
-ghost use Rattle.usb_host.specs.Progress.{HostGoes, Did, AddsNoWork, either};
-ghost use Rattle.usb_host.specs.Service.{EachLookedAgain, ServesEach, ServesHub, ServesHubs, ServesTold, WentByParts, first_byte};
+ghost use Rattle.usb_host.specs.Progress.{either};
+ghost use Rattle.usb_host.specs.Service.{LooksAgain, ServesEach, ServesHub, ServesHubs, ServesPorts, ServesTold, WentByParts, first_byte};
 ghost use Rattle.usb_host.specs.ToldFaults.{PartTold};
 
 use crate::HostFault;
@@ -36,13 +31,9 @@ impl Round {
 
 impl<B: Bus> Host<B> {
     /// The root ports, the hubs, and the devices that wait.
-    #[tactic(auto, using(crate::proofs::Owners::stays_then, crate::proofs::Owners::single_then))]
     pub(crate) fn parts(&mut self) -> Result<Round, HostFault>
-        ensures goes { B.modelled ≡ true → HostGoes round_bound self.old self.new }
         ensures told { IfErr result (λ fault. PartTold B.modelled fault self.new.world) }
-        ensures did { B.modelled ≡ true → IfOk result (λ round. Did round self.old self.new) }
         ensures parts { B.modelled ≡ true → WentByParts self.old result self.new }
-        ensures keeps { B.modelled ≡ true → PartsKeep self.old result self.new }
     {
         let roots = self.serve_roots()?;
         let hubs = self.serve_hubs()?;
@@ -51,13 +42,9 @@ impl<B: Bus> Host<B> {
     }
 
     /// Handles each root port whose connection has changed, by rising number.
-    #[tactic(auto, using(crate::proofs::Owners::single_then))]
     fn serve_roots(&mut self) -> Result<Round, HostFault>
-        ensures goes { B.modelled ≡ true → HostGoes roots_bound self.old self.new }
         ensures told { IfErr result (λ fault. PartTold B.modelled fault self.new.world) }
-        ensures did { B.modelled ≡ true → IfOk result (λ round. Did round self.old self.new) }
         ensures roots { B.modelled ≡ true → ServesEach self.old result self.new }
-        ensures keeps { B.modelled ≡ true → PartKeeps self.old result self.new }
     {
         let mut round = Round::Quiet;
         let roots = self.bus.root_ports();
@@ -72,11 +59,8 @@ impl<B: Bus> Host<B> {
 
     /// Polls each hub that is known, by rising path, and handles the ports of which it tells.
     fn serve_hubs(&mut self) -> Result<Round, HostFault>
-        ensures goes { B.modelled ≡ true → HostGoes hubs_bound self.old self.new }
         ensures told { IfErr result (λ fault. PartTold B.modelled fault self.new.world) }
-        ensures did { B.modelled ≡ true → IfOk result (λ round. Did round self.old self.new) }
-        ensures keeps { B.modelled ≡ true → HubsKeep self.old result self.new }
-        ensures polls { B.modelled ≡ true → ServesHubs self.old result self.new }
+        ensures hubs { B.modelled ≡ true → ServesHubs self.old result self.new }
     {
         let mut round = Round::Quiet;
         let mut last: Option<PortPath> = None;
@@ -91,10 +75,8 @@ impl<B: Bus> Host<B> {
     fn serve_hub(&mut self, hub: &PortPath) -> Result<Round, HostFault>
         requires { IsSome (hub_facts_at hub.now self.old.entries) }
         ensures path { IsPath hub.now }
-        ensures goes { B.modelled ≡ true → HostGoes hub_poll_bound self.old self.new }
         ensures told { IfErr result (λ fault. PartTold B.modelled fault self.new.world) }
         ensures polls { B.modelled ≡ true → ServesHub hub.now self.old result self.new }
-        ensures keeps { B.modelled ≡ true → HubKeeps hub.now self.old result self.new }
     {
         // for the checker: a path has one to seven numbers
         let _numbers = hub.numbers();
@@ -115,12 +97,8 @@ impl<B: Bus> Host<B> {
     /// Serves what a hub told: its ports, and the hub itself where none of them has a change.
     fn serve_told(&mut self, hub: &PortPath, bits: u8) -> Result<(), HostFault>
         requires { IsPath hub.now }
-        ensures goes { B.modelled ≡ true → HostGoes told_bound self.old self.new }
         ensures told { IfErr result (λ fault. PartTold B.modelled fault self.new.world) }
-        ensures holds { B.modelled ≡ true → OnOk result (AddsNoWork self.old self.new) }
-        ensures owned { B.modelled ≡ true → KeepsOwned self.old result self.new }
-        ensures ports { B.modelled ≡ true
-            → bits ≢ 1 → ServesPorts hub.now bits self.old result self.new }
+        ensures serves { B.modelled ≡ true → ServesTold hub.now bits self.old result self.new }
     {
         if bits == 1 {
             self.serve_own(hub)
@@ -130,14 +108,10 @@ impl<B: Bus> Host<B> {
     }
 
     /// Handles each port of a hub whose bit is set, by rising number, as long as the hub is known.
-    #[tactic(auto, using(crate::proofs::Owners::single_then))]
     fn serve_ports(&mut self, hub: &PortPath, bits: u8) -> Result<(), HostFault>
         requires { IsPath hub.now }
-        ensures goes { B.modelled ≡ true → HostGoes told_bound self.old self.new }
         ensures told { IfErr result (λ fault. PartTold B.modelled fault self.new.world) }
-        ensures holds { B.modelled ≡ true → OnOk result (AddsNoWork self.old self.new) }
-        ensures keeps { B.modelled ≡ true → PartKeeps self.old result self.new }
-        ensures serves { B.modelled ≡ true → ServesTold hub.now bits self.old result self.new }
+        ensures serves { B.modelled ≡ true → ServesPorts hub.now bits self.old result self.new }
     {
         'ports: for number in 1..8u8 {
             if bits >> number & 1 == 1 {
@@ -149,12 +123,8 @@ impl<B: Bus> Host<B> {
 
     /// Looks again at each device that waits for an address, by rising path, while one is free.
     fn look_again(&mut self) -> Result<Round, HostFault>
-        ensures goes { B.modelled ≡ true → HostGoes looks_bound self.old self.new }
         ensures told { IfErr result (λ fault. PartTold B.modelled fault self.new.world) }
-        ensures did { B.modelled ≡ true → IfOk result (λ round. Did round self.old self.new) }
-        ensures keeps { B.modelled ≡ true → LooksKeep self.old result self.new }
-        ensures looks { B.modelled ≡ true
-            → IfOk result (λ round. IsSound self.old → EachLookedAgain round self.old self.new) }
+        ensures looks { B.modelled ≡ true → LooksAgain self.old result self.new }
     {
         let mut round = Round::Quiet;
         let mut last: Option<PortPath> = None;

@@ -1,5 +1,6 @@
 -- What a host and a far end say to each other, from the hello on.
-use Rattle.std.specs.Prelude.{◌≡◌, ⊤, ℕ, ◌+◌, ◌≤◌, List, flat_map, Option, Some, None, Result, Ok, Err}
+use Rattle.std.specs.Prelude.{◌≡◌, ⊤, ℕ, ◌+◌, ◌≤◌, ◌==◌, ◌&&◌, Bool, true, false, List, length, flat_map, Option, Some, None, Result, Ok, Err}
+use Rattle.std.specs.Str.{bytes_eq}
 use Rattle.usb_table.specs.Entries.{Entries}
 use Rattle.usb_text.specs.ListingLines.{listing_lines}
 use Rattle.usb_wire.specs.declared.answer.Answer.{Answer}
@@ -7,12 +8,15 @@ use Rattle.usb_wire.specs.declared.answer.Answer.TheVariants as answer
 use Rattle.usb_wire.specs.declared.question.Question.{Question}
 use Rattle.usb_wire.specs.declared.question.Question.TheVariants.{Hello, Wait}
 use Rattle.usb_serve.specs.declared.runs.Item.{Item}
-use Rattle.usb_serve.specs.declared.runs.Item.TheVariants.{Listing}
+use Rattle.usb_serve.specs.declared.runs.Item.TheVariants.{Listing, Sent, Received, Cleared}
+use Rattle.usb_serve.specs.declared.transfer.TransferFault.{TransferFault}
 use Rattle.usb_serve.specs.ServeResults.{item_lines}
 use Rattle.usb_stream.specs.Stream.{AskedWell, AsksNothing, AsksOnce, Kept, Tells, greeted, questions, streams, unasked}
 use Rattle.usb_stream.specs.declared.fault.LiveFault.{LiveFault}
 use Rattle.usb_live.specs.declared.end.LiveEnd.{LiveEnd}
 use Rattle.usb_live.specs.declared.end.LiveEnd.TheVariants.{Line, Memory, Rounds}
+use Rattle.usb_live.specs.declared.owed.Owed.{Owed}
+use Rattle.usb_live.specs.declared.owed.Owed.TheVariants as owed
 use Rattle.usb_live.specs.declared.stage.Stage.{Stage}
 use Rattle.usb_live.specs.declared.stage.Stage.TheVariants.{Asks, EndWanted, Over}
 
@@ -20,22 +24,71 @@ use Rattle.usb_live.specs.declared.stage.Stage.TheVariants.{Asks, EndWanted, Ove
 abbrev pub told_text : ℕ → Item → List ℕ
 told_text number item = flat_map (λ line. line) (item_lines number item)
 
+-- what is owed behind an answer to what is wanted
+abbrev pub owed_by : Result Answer LiveFault → Owed
+owed_by (Ok answer.Show) = owed.Listing
+owed_by (Ok answer.End) = owed.Listing
+owed_by (Ok (answer.Send path bytes)) = owed.Send path (length bytes.items)
+owed_by (Ok (answer.Receive path packets)) = owed.Receive path
+owed_by (Ok (answer.Clear path)) = owed.Clear path
+owed_by other = owed.Nothing
+
+abbrev pub is_nothing : Owed → Bool
+is_nothing owed.Nothing = true
+is_nothing other = false
+
+abbrev pub is_count : ℕ → Result ℕ TransferFault → Bool
+is_count count (Ok all) = all == count
+is_count count (Err fault) = true
+
+-- the item is the one that is owed: a listing; or that transfer at that path, of which all bytes were sent if it is a send
+-- that did not fail
+abbrev pub settles : Owed → Item → Bool
+settles owed.Listing (Listing entries taken) = true
+settles (owed.Send path count) (Sent at sent) = bytes_eq path at && is_count count sent
+settles (owed.Receive path) (Received at received) = bytes_eq path at
+settles (owed.Clear path) (Cleared at cleared) = bytes_eq path at
+settles other item = false
+
+-- what is owed still, behind an item that was told, or a front of it
+abbrev pub owed_left : Owed → Result (Unit {0}) LiveFault → Owed
+owed_left o (Ok done) = owed.Nothing
+owed_left o (Err f) = o
+
+abbrev pub is_wait : Question → Bool
+is_wait Wait = true
+is_wait other = false
+
+-- of a private function: where a listing is wanted, it is of these entries
+abbrev pub ListsEntries : Answer → Entries → Option Item → Type 0
+ListsEntries answer.Show entries item = item ≡ Some (Listing entries 0)
+ListsEntries answer.End entries item = item ≡ Some (Listing entries 0)
+ListsEntries other entries item = ⊤
+
 -- how many questions went out, or a front of one
 abbrev pub questions_in : Result Answer LiveFault → ℕ
 questions_in (Ok got) = 1
 questions_in (Err f) = questions f
 
 -- so many questions were asked, from the hello on, each was answered by the lines that were read next or left a fault,
--- and items were told between them; behind a fault nothing was asked or told
-pub data Course (limit : ℕ) (unread before : Option (List ℕ)) : Option (List ℕ) → Option (List ℕ) → Kept → ℕ → Type 0 where
+-- and items were told between them: behind what was wanted the one that this owes, once, and before it is asked again what
+-- is wanted; behind a fault nothing was asked or told
+pub data Course (limit : ℕ) (unread before : Option (List ℕ)) : Owed → Option (List ℕ) → Option (List ℕ) → Kept → ℕ → Type 0 where
   opened : {left now : Option (List ℕ)} (k : Kept) (result : Result Answer LiveFault)
-      → AsksOnce Hello (streams unread left before now) (unasked limit) result k → Course limit unread before left now (greeted result k) (questions_in result)
-  asked : {r left w now : Option (List ℕ)} {j k : Kept} {n : ℕ} (q : Question) (result : Result Answer LiveFault) → Course limit unread before r w j n
-      → j.fault ≡ None → AsksOnce q (streams r left w now) j result k → Course limit unread before left now k (n + questions_in result)
-  told : {left w now : Option (List ℕ)} {j k : Kept} {n : ℕ} (number : ℕ) (item : Item) (result : Result (Unit {0}) LiveFault)
-      → Course limit unread before left w j n → j.fault ≡ None → Tells (told_text number item) w now j result k → Course limit unread before left now k n
-  still : {r left w now : Option (List ℕ)} {j k : Kept} {n : ℕ} → Course limit unread before r w j n → AsksNothing (streams r left w now) j k
-      → Course limit unread before left now k n
+      → AsksOnce Hello (streams unread left before now) (unasked limit) result k
+      → Course limit unread before owed.Nothing left now (greeted result k) (questions_in result)
+  asked : {o : Owed} {r left w now : Option (List ℕ)} {j k : Kept} {n : ℕ} (q : Question) (result : Result Answer LiveFault)
+      → Course limit unread before o r w j n → j.fault ≡ None → is_wait q ≡ false
+      → AsksOnce q (streams r left w now) j result k → Course limit unread before o left now k (n + questions_in result)
+  wanted : {r left w now : Option (List ℕ)} {j k : Kept} {n : ℕ} (result : Result Answer LiveFault)
+      → Course limit unread before owed.Nothing r w j n → j.fault ≡ None
+      → AsksOnce Wait (streams r left w now) j result k
+      → Course limit unread before (owed_by result) left now k (n + questions_in result)
+  told : {o : Owed} {left w now : Option (List ℕ)} {j k : Kept} {n : ℕ} (number : ℕ) (item : Item) (result : Result (Unit {0}) LiveFault)
+      → Course limit unread before o left w j n → j.fault ≡ None → settles o item ≡ true
+      → Tells (told_text number item) w now j result k → Course limit unread before (owed_left o result) left now k n
+  still : {o : Owed} {r left w now : Option (List ℕ)} {j k : Kept} {n : ℕ} → Course limit unread before o r w j n
+      → AsksNothing (streams r left w now) j k → Course limit unread before o left now k n
 
 -- the host asked last what is wanted, and that was the end
 pub record WantsEnd (limit : ℕ) (unread before left now : Option (List ℕ)) (k : Kept) (n : ℕ) : Type 0 where
@@ -43,7 +96,7 @@ pub record WantsEnd (limit : ℕ) (unread before left now : Option (List ℕ)) (
   pub w : Option (List ℕ)
   pub j : Kept
   pub m : ℕ
-  pub course : Course limit unread before r w j m
+  pub course : Course limit unread before owed.Nothing r w j m
   pub sound : j.fault ≡ None
   pub ended : AskedWell Wait (streams r left w now) j answer.End k
   pub one : n ≡ m + 1
@@ -72,30 +125,32 @@ IsAt EndWanted limit unread before left now k n = WantsEnd limit unread before l
 IsAt Over limit unread before left now k n = IsOver limit unread before left now k n
 
 -- a course of at most so many questions
-pub record CourseTo (stage : Stage) (limit : ℕ) (unread before left now : Option (List ℕ)) (k : Kept) : Type 0 where
+pub record CourseTo (stage : Stage) (o : Owed) (limit : ℕ) (unread before left now : Option (List ℕ)) (k : Kept) : Type 0 where
   pub asked : ℕ
-  pub course : Course limit unread before left now k asked
+  pub course : Course limit unread before o left now k asked
   pub few : asked + k.left ≡ limit
   pub at : IsAt stage limit unread before left now k asked
 
--- it ended because the end was wanted, or because of a fault; the limit is also told behind as many rounds with no fault
+-- it ended because the end was wanted, or because of a fault, which is told with the number of lines that were read; the
+-- limit is also told behind as many rounds with no fault
 abbrev pub EndsAs : Result (Unit {0}) LiveEnd → ℕ → Option (List ℕ) → Option (List ℕ) → Option (List ℕ) → Option (List ℕ) → Kept → ℕ → Type 0
 EndsAs (Ok done) limit unread before left now k n = IsOver limit unread before left now k n
-EndsAs (Err (Line number f)) limit unread before left now k n = k.fault ≡ Some f
-EndsAs (Err (Rounds number)) limit unread before left now k n = k.fault ≡ None
+EndsAs (Err (Line number f)) limit unread before left now k n = (k.fault ≡ Some f) × (number ≡ k.lines)
+EndsAs (Err (Rounds number)) limit unread before left now k n = (k.fault ≡ None) × (number ≡ k.lines)
 EndsAs (Err Memory) limit unread before left now k n = k.fault ≡ None
 
--- of a private function: why it ended, by the fault that is kept
-abbrev pub EndsBy : Option LiveFault → Stage → Result (Unit {0}) LiveEnd → Type 0
-EndsBy fault stage (Ok done) = (fault ≡ None) × (stage ≡ Over)
-EndsBy fault stage (Err (Line number f)) = fault ≡ Some f
-EndsBy fault stage (Err (Rounds number)) = fault ≡ None
-EndsBy fault stage (Err Memory) = fault ≡ None
+-- of a private function: why it ended, by the fault that is kept and the number of lines that were read
+abbrev pub EndsBy : Option LiveFault → ℕ → Stage → Result (Unit {0}) LiveEnd → Type 0
+EndsBy fault lines stage (Ok done) = (fault ≡ None) × (stage ≡ Over)
+EndsBy fault lines stage (Err (Line number f)) = (fault ≡ Some f) × (number ≡ lines)
+EndsBy fault lines stage (Err (Rounds number)) = (fault ≡ None) × (number ≡ lines)
+EndsBy fault lines stage (Err Memory) = fault ≡ None
 
 -- a whole course: at most so many questions were asked
 pub record Lives (limit : ℕ) (unread left before now : Option (List ℕ)) (ended : Result (Unit {0}) LiveEnd) : Type 0 where
   pub asked : ℕ
   pub kept : Kept
-  pub course : Course limit unread before left now kept asked
+  pub owes : Owed
+  pub course : Course limit unread before owes left now kept asked
   pub few : asked ≤ limit
   pub ends : EndsAs ended limit unread before left now kept asked

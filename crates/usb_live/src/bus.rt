@@ -5,6 +5,7 @@ ghost use Rattle.usb_stream.specs.Stream.{kept_of, unread_of, written_of};
 ghost use Rattle.usb_live.specs.Course.{CourseTo};
 
 use crate::end::{LiveEnd, end_of};
+use crate::owed::{Owed, is_nothing, owed_by, settles};
 use crate::stage::{Stage, stage_behind, stage_of};
 use std::io::{Read, Write};
 use std::marker::{Brand, PhantomData};
@@ -38,8 +39,9 @@ impl Begun for Brand {
 pub(crate) struct CourseBus<R: Read, W: Write, B: Begun> {
     bus: StreamBus<R, W>,
     stage: Stage,
+    owed: Owed,
     begun: PhantomData<B>,
-    ghost course: { ∥ CourseTo stage B.limit B.unread B.before (unread_of R.remaining bus)
+    ghost course: { ∥ CourseTo stage owed B.limit B.unread B.before (unread_of R.remaining bus)
         (written_of W.contents bus) (kept_of bus) ∥₁ },
 }
 
@@ -74,6 +76,10 @@ impl<R: Read, W: Write, B: Begun> Bus for CourseBus<R, W, B> {
         self.stage = Stage::Asks;
         self.bus.root_clear(port, feature);
     }
+
+    ghost settled = { λ known bus. Prim.cc known };
+
+    ghost between = { λ known bus working. Prim.cc known };
 }
 
 impl<R: Read, W: Write, B: Begun> CourseBus<R, W, B> {
@@ -88,32 +94,41 @@ impl<R: Read, W: Write, B: Begun> CourseBus<R, W, B> {
         CourseBus {
             bus: StreamBus::open(reader, writer, limit),
             stage: Stage::Asks,
+            owed: Owed::Nothing,
             begun: PhantomData,
         }
     }
 
-    /// Asks what is wanted.
+    /// Asks what is wanted; where something is owed, that is nothing.
     ///
     /// # Errors
     /// The bus's fault.
     pub(crate) fn wait(&mut self) -> Result<Answer, LiveFault> {
+        if !is_nothing(&self.owed) {
+            return Ok(Answer::Done);
+        }
         let answer = self.bus.wait();
         self.stage = stage_of(&answer);
+        self.owed = owed_by(&answer);
         answer
     }
 
-    /// Tells an item, whose text is this.
+    /// Tells an item, whose text is this, where it is the one that is owed.
     ///
     /// # Errors
     /// The bus's fault.
     pub(crate) fn tell(&mut self, number: u64, item: &Item, text: &[u8]) -> Result<(), LiveFault>
         requires { text.now ≡ told_text number item.now }
     {
+        if !settles(&self.owed, item) {
+            return Ok(());
+        }
         let stage = stage_behind(self.stage, item);
         self.stage = Stage::Asks;
         let told = self.bus.tell(text);
         if told.is_ok() {
             self.stage = stage;
+            self.owed = Owed::Nothing;
         }
         told
     }

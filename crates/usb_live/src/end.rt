@@ -37,7 +37,7 @@ pub(crate) fn end_of(
     stage: Stage,
     ran: Result<(), LiveEnd>,
 ) -> Result<(), LiveEnd>
-    ensures { EndsBy fault stage result }
+    ensures { EndsBy fault lines stage result }
 {
     match (fault, stage, ran) {
         (Some(fault), _, _) => Err(LiveEnd::Line(lines, fault)),

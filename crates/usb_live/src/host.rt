@@ -1,7 +1,7 @@
 //! The host, from the hello to the end.
 ghost use Rattle.std.specs.Prelude.{◌≡◌, IfOk, flat_map};
 ghost use Rattle.usb_bus.specs.Watch.{inner_of};
-ghost use Rattle.usb_live.specs.Course.{Lives, told_text};
+ghost use Rattle.usb_live.specs.Course.{ListsEntries, Lives, told_text};
 
 use crate::bus::{Begun, CourseBus};
 use crate::end::LiveEnd;
@@ -114,7 +114,10 @@ fn wanted<R: Read + Drop, W: Write + Drop, B: Begun>(
 fn item_of<R: Read + Drop, W: Write + Drop, B: Begun>(
     host: &mut LiveHost<R, W, B>,
     answer: Answer,
-) -> Result<Option<Item>, LiveEnd> {
+) -> Result<Option<Item>, LiveEnd>
+    // A listing is of what the host has found.
+    ensures { IfOk result (ListsEntries answer host.new.entries) }
+{
     match answer {
         Answer::Show | Answer::End => match host.tree() {
             Ok(tree) => Ok(Some(Item::Listing(tree, 0))),

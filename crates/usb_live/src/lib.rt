@@ -8,20 +8,26 @@
 //! Of any far end `live` is safe, and returns. Of readers and writers whose bytes are known (*Lives*,
 //! `specs/Course.antt`): what was written is, one after the other, the lines of questions and of items, an item being a
 //! listing or how a transfer went; what was read is for each question the statuses that were pushed and one answer to it
-//! (*Course*, on *AsksOnce* of usb_stream). At most `limit` questions were asked. Behind a fault nothing was asked or
-//! told, and it is that fault that is told. An Ok is told only where the far end wanted the end, or its input ended in
-//! place of an answer to that, and a listing was told behind it and nothing more. The host asks over a bus that keeps
-//! its course in its type (`CourseBus`), so all of this holds whatever the host does.
+//! (*Course*, on *AsksOnce* of usb_stream). An item is told only where it is owed (*settles*): a listing where one was
+//! wanted or the end was, a transfer at the path where that one was wanted, and a `send` that is done tells as many bytes
+//! as were to be sent. It is told once, and it is not asked again what is wanted before. At most `limit` questions were
+//! asked. Behind a fault nothing was asked or told, and it is that fault that is told, with the number of lines that were
+//! read. An Ok is told only where the far end wanted the end, or its input ended in place of an answer to that, and a
+//! listing was told behind it and nothing more. The host asks over a bus that keeps its course in its type (`CourseBus`)
+//! and tells nothing that is not owed, so all of this holds whatever the host does.
 //!
-//! *Only tested*, by the worked rows (`usb_rows`): which items are told, and when; that a listing is of what the host
-//! has found then. *Neither*: the number of the line at a fault, but in some rows of usb_live_tests. What a far end
-//! answers is its own: no clause says that it is right. `Rounds`, behind as many rounds as questions, was never seen:
-//! each round that worked asks something.
+//! Of the private functions: the listing that is told is of the entries that the host has then (`item_of`).
+//!
+//! *Only tested*, by the worked rows (`usb_rows`): that a round was quiet before it is asked what is wanted, and what a
+//! listing or a transfer tells. *Neither*: that memory was refused where Memory is told, and that there were so many
+//! rounds where Rounds is; no far end has brought that about, as each round that worked asks something. What a far end
+//! answers is its own: no clause says that it is right.
 #![tactic(auto)]
 
 mod bus;
 mod end;
 mod host;
+mod owed;
 mod stage;
 
 pub use end::LiveEnd;

@@ -1,8 +1,6 @@
 //! A bus that counts what goes over another one.
-ghost use Rattle.std.specs.Prelude.{◌≡◌, true, None};
+ghost use Rattle.std.specs.Prelude.{◌≡◌, true};
 ghost use Rattle.usb_bus.specs.Traces.{Attempts};
-ghost use Rattle.usb_world.specs.AttemptPackets.{IsSettled};
-ghost use Rattle.usb_world.specs.SanePorts.{IsSane};
 ghost use Rattle.usb_world.specs.World.{IsAttempt};
 ghost use Rattle.usb_own_bus.specs.Counted.{counts_after, counts_with};
 
@@ -99,9 +97,6 @@ impl<B: Bus> Bus for CountedBus<B> {
         requires { IsAttempt attempt.now }
         ensures attempts { B.modelled ≡ true → Attempts attempt.now (B.world self.old.bus)
             (B.trace self.old.bus) result (B.world self.new.bus) (B.trace self.new.bus) }
-        ensures settled { B.modelled ≡ true → IsSettled (B.world self.old.bus).roots }
-        ensures sane { B.modelled ≡ true → (B.world self.old.bus).fault ≡ None
-            → IsSane (B.world self.old.bus).roots }
         ensures counted { self.new.counts ≡ counts_after self.old.counts result }
     {
         let result = self.bus.attempt(attempt);
@@ -126,4 +121,8 @@ impl<B: Bus> Bus for CountedBus<B> {
     fn root_clear(&mut self, port: u8, feature: u16) {
         self.bus.root_clear(port, feature);
     }
+
+    ghost settled = { λ known counted. B.settled known counted.bus };
+
+    ghost between = { λ known counted. B.between known counted.bus };
 }

@@ -413,20 +413,22 @@ module _ (wanted : ℕ) (pipe left : Bulk) (old new : World) (least : 1 ≤ pipe
 
 pub sends_by : (bytes : List ℕ) (pipe : Bulk) (old : World) (result : Result (Unit {0}) PipeFault) (left : Bulk) (new : World) → pipe.condition ≢ Broken → bytes ≢ []
     → PacketsSent (packet_target pipe.target pipe.max) pipe.ep pipe.toggle bytes old result left.toggle new → left ≡ record pipe { toggle = left.toggle; condition = after_transfer pipe.condition result }
-    → Sends bytes pipe old result left new
-sends_by bytes pipe old result left new works some x is = record {
+    → IsSettled old.roots → Sends bytes pipe old result left new
+sends_by bytes pipe old result left new works some x is settled = record {
   broken = λ e. absurd (works e);
   nothing = λ w e. absurd (some e);
-  moved = λ w s. record { ends = x.ends; went = x.moves; behind = x.behind; settled = x.settled; room = x.room; pipe_left = is; toggle = x.turned; halted = x.halted };
+  moved = λ w s. record { ends = x.ends; went = x.moves; behind = x.behind; settled = settled; room
+      = x.room; pipe_left = is; toggle = x.turned; halted = x.halted };
 }
 
 pub receives_by : (wanted : ℕ) (pipe : Bulk) (old : World) (result : Result (Vec ℕ) PipeFault) (left : Bulk) (new : World) → pipe.condition ≢ Broken → wanted ≢ 0
     → PacketsReceived (packet_target pipe.target pipe.max) pipe.ep pipe.toggle wanted old result left.toggle new → left ≡ record pipe { toggle = left.toggle; condition = after_transfer pipe.condition result }
-    → Receives wanted pipe old result left new
-receives_by wanted pipe old result left new works some x is = record {
+    → IsSettled old.roots → Receives wanted pipe old result left new
+receives_by wanted pipe old result left new works some x is settled = record {
   broken = λ e. absurd (works e);
   nothing = λ w e. absurd (some e);
-  moved = λ w s. record { ends = x.ends; came = x.moves; behind = x.behind; settled = x.settled; most = x.most; pipe_left = is; toggle = x.turned; halted = x.halted };
+  moved = λ w s. record { ends = x.ends; came = x.moves; behind = x.behind; settled = settled; most
+      = x.most; pipe_left = is; toggle = x.turned; halted = x.halted };
 }
 
 -- The record of a call

@@ -704,7 +704,6 @@ pub record Onward (t : Target) (wanted : ℕ) (old : World) (before : Option (Li
   pub few : length got < wanted
   pub spends : Spends (byte_bound t.max * length got) old now
   pub sound : now.fault ≡ None → old.fault ≡ None
-  pub back : IsSettled now.roots → IsSettled old.roots
   pub traced : Traced old before now trace
 
 pub onward_none : (t : Target) (wanted : ℕ) (got : List ℕ) (w : World) (trace : Option (List ℕ)) → 0 < wanted → got ≡ [] → Onward t wanted w trace got One w trace
@@ -716,7 +715,6 @@ onward_none t wanted got w trace some none = rw none (record {
   few = some;
   spends = spends_wider 0 (byte_bound t.max * 0) w w (spends_none w) (omega arith);
   sound = λ e. e;
-  back = λ h. h;
   traced = still;
 })
 
@@ -740,9 +738,12 @@ goes_on : (size max got wanted : ℕ) → ends_stage size max got wanted ≡ fal
 goes_on size max got wanted e = (grind (arith, nat_tests, e), grind (arith, nat_tests, e))
 
 pub onward_more : {t : Target} {wanted : ℕ} {old mid new : World} {before r s : Option (List ℕ)} {got kept : List ℕ} {toggle next : Toggle} (bytes : List ℕ) → 1 ≤ t.max → Onward t wanted old before got toggle mid r
-    → Asks t toggle mid (Ok bytes) new → IsSettled mid.roots → Worked 1 mid new → WentOn transaction_bound mid r new s → kept ≡ got ++ take (wanted - length got) bytes → ends_stage (length bytes) t.max (length kept) wanted ≡ false → next ≡ other toggle
+    → Asks t toggle mid (Ok bytes) new → Worked 1 mid new → WentOn transaction_bound mid r new s
+    → kept ≡ got ++ take (wanted - length got) bytes
+    → ends_stage (length bytes) t.max (length kept) wanted ≡ false → next ≡ other toggle
     → Onward t wanted old before kept next new s
-onward_more {t} {wanted} {old} {mid} {new} {got = got} {kept} {toggle} {next} bytes least o asks settled worked went is more f =
+onward_more {t} {wanted} {old} {mid} {new} {got = got} {kept} {toggle} {next} bytes least o asks
+    worked went is more f =
     let on = goes_on (length bytes) t.max (length kept) wanted more in
     let front : kept ≡ take wanted (got ++ bytes) = is ∙ kept_front wanted got bytes o.few in
     let whole : kept ≡ got ++ bytes = front ∙ take_all wanted (got ++ bytes) (omega (arith, on.1, ap length front, length-take wanted (got ++ bytes))) in
@@ -754,7 +755,6 @@ onward_more {t} {wanted} {old} {mid} {new} {got = got} {kept} {toggle} {next} by
       few = on.1;
       spends = spends_wider (byte_bound t.max * length got + transaction_bound) _ old new (spends_then (byte_bound t.max * length got) transaction_bound old mid new o.spends went.spends) (full_packet t.max (length got) (length kept) least grown);
       sound = λ _. o.sound worked.sound;
-      back = λ _. o.back settled;
       traced = traced_then o.traced went.traced;
     }
 

@@ -8,7 +8,6 @@ use Rattle.std.proofs.lemmas.List.{take_min}
 use Rattle.std.proofs.lemmas.Nat.{div-mul-add, le-div}
 use Rattle.usb_packet.specs.declared.Toggle.{Toggle}
 use Rattle.usb_packet.specs.Toggles.{other, flips}
-use Rattle.usb_world.specs.AttemptPackets.{IsSettled}
 use Rattle.usb_world.specs.World.{World}
 use Rattle.usb_bus.specs.Traces.{WentOn}
 use Rattle.usb_bus.proofs.Interface.{went_none, went_then, went_wider}
@@ -35,8 +34,6 @@ pub record Moved (n : ℕ) (first toggle : Toggle) (old : World) (t : Option (Li
   pub least : old.attempts + n ≤ now.attempts
   pub sound : now.fault ≡ None → old.fault ≡ None
   pub still : 0 < n → now.fault ≡ None
-  pub settled : IsSettled now.roots → IsSettled old.roots
-  pub began : 0 < n → IsSettled old.roots
   pub turned : toggle ≡ flips n first
 
 moved_none : (first : Toggle) (w : World) (t : Option (List ℕ)) → Moved 0 first first w t w t
@@ -46,8 +43,6 @@ moved_none first w t = record {
   least = omega arith;
   sound = λ e. e;
   still = λ lt. absurd (omega arith);
-  settled = λ h. h;
-  began = λ lt. absurd (omega arith);
   turned = refl;
 }
 
@@ -59,8 +54,10 @@ module _ {n : ℕ} {first toggle : Toggle} {old mid : World} {t r : Option (List
   pub moved_went : {more : ℕ} {new : World} {s : Option (List ℕ)} → n < more → WentOn transaction_bound mid r new s → WentOn (transaction_bound * more) old t new s
   moved_went {more} lt w = went_wider (transaction_bound * n + transaction_bound) (transaction_bound * more) (went_then (transaction_bound * n) transaction_bound m.went w) (omega (arith, lt))
 
-  moved_more : (next : Toggle) {new : World} {s : Option (List ℕ)} → IsSettled mid.roots → WentOn transaction_bound mid r new s → Worked 1 mid new → next ≡ other toggle → Moved (n + 1) first next old t new s
-  moved_more next h w worked e = grind (arith, moved_went, flips_more)
+  moved_more : (next : Toggle) {new : World} {s : Option (List ℕ)}
+      → WentOn transaction_bound mid r new s → Worked 1 mid new → next ≡ other toggle
+      → Moved (n + 1) first next old t new s
+  moved_more next w worked e = grind (arith, moved_went, flips_more)
 
   worked_then : {k : ℕ} {new : World} → Worked k mid new → Worked k old new
   worked_then w = record { sound = m.sound w.sound; least = omega (arith, m.least, w.least); still = w.still }
@@ -133,7 +130,6 @@ module _ (t : Target) (ep : ℕ) (first : Toggle) (total : List ℕ) (least : 1 
           ends = rw count (moved_worked few g.moved);
           moves = record { packets = g.packets; gone = gone };
           behind = g.moved.turned;
-          settled = g.moved.began few;
           room = λ e. cc e;
           turned = rw count g.moved.turned;
           halted = λ e. cc e;
@@ -156,7 +152,7 @@ module _ (t : Target) (ep : ℕ) (first : Toggle) (total : List ℕ) (least : 1 
           before = packet (take k rest) g.before full (omega (arith, l, is)) (omega (arith, l, is)) (rw (g.moved.turned, front, x.nothing) at x.heard);
           split = g.split ∙ ap (λ z. g.sent ++ z) (sym (take-append-drop k rest)) ∙ sym (append_assoc g.sent (take k rest) (drop k rest));
           full = λ more. omega (arith, j, l, d, is, full);
-          moved = moved_more g.moved next x.settled went x.ends e;
+          moved = moved_more g.moved next went x.ends e;
         })
 
     -- one that does not go
@@ -183,7 +179,6 @@ module _ (t : Target) (ep : ℕ) (first : Toggle) (total : List ℕ) (least : 1 
               lost = subst (λ z. Puts t ep z (take t.max rest) mid (Err fault) new) g.moved.turned (subst (λ z. Puts t ep toggle z mid (Err fault) new) (front ∙ fitting) x.heard);
             };
             behind = same ∙ g.moved.turned;
-            settled = g.moved.settled x.settled;
             room = room;
             turned = tt;
             halted = λ _. moved_turned g.moved few same;
@@ -209,7 +204,6 @@ module _ (t : Target) (ep : ℕ) (first : Toggle) {old : World} {text : Option (
     ends = rw (all_packets a least) (moved_worked (omega arith) m);
     moves = a;
     behind = m.turned;
-    settled = m.began (omega arith);
     most = all_most a;
     turned = rw (all_packets a least) m.turned;
     halted = λ e. cc e;
@@ -230,13 +224,16 @@ module _ (t : Target) (ep : ℕ) (first : Toggle) {old : World} {text : Option (
     -- that came
     module _ {last front kept : List ℕ} (x : AsksIn t ep toggle mid (Ok last) new) (e : next ≡ other toggle) (same : front ≡ last) (is : kept ≡ got ++ front) where
       pub coming_more : {m : ℕ} → m ≡ n + 1 → length last ≡ t.max → Coming t ep first old text m kept next new written
-      coming_more more full = rw (more, is, same) (record { came = packet last c.came (rw c.moved.turned at x.heard) full; moved = moved_more c.moved next x.settled went x.ends e })
+      coming_more more full = rw (more, is, same) (record {
+        came = packet last c.came (rw c.moved.turned at x.heard) full;
+        moved = moved_more c.moved next went x.ends e;
+      })
 
       -- and was short
       pub short_received : {bytes : Vec ℕ} → bytes.items ≡ kept → length last < t.max → PacketsReceived t ep first wanted old (Ok bytes) next new
       short_received items short =
           all_received (record { packets = n; few = few; got = got; mid = mid; before = c.came; last = last; came = rw c.moved.turned at x.heard; fits = x.short; kept = items ∙ is ∙ ap (λ z. got ++ z) same; ends = inr short })
-          (moved_more c.moved next x.settled went x.ends e)
+          (moved_more c.moved next went x.ends e)
 
     -- that did not
     pub lost_received : (fault : TransFault) (result : Result (Vec ℕ) PipeFault) → IsErr result → IsErrAnd result (λ why. why ≡ as_pipe_fault fault) → AsksIn t ep toggle mid (Err fault) new → next ≡ toggle
@@ -245,7 +242,6 @@ module _ (t : Target) (ep : ℕ) (first : Toggle) {old : World} {text : Option (
       ends = subst (λ w. FaultAfter 0 old w new) (sym said) (lost_ends c.moved fault new x.ends);
       moves = inl (record { packets = n; few = few; got = got; mid = mid; before = c.came; fault = fault; told = said; lost = subst (λ z. Fetches t ep z mid (Err fault) new) c.moved.turned x.heard });
       behind = same ∙ c.moved.turned;
-      settled = c.moved.settled x.settled;
       most = tt;
       turned = tt;
       halted = λ _. moved_turned c.moved few same;
@@ -259,7 +255,6 @@ module _ (t : Target) (ep : ℕ) (first : Toggle) {old : World} {text : Option (
       ends = subst (λ w. FaultAfter 0 old w new) (sym said) (worked_then c.moved x.ends);
       moves = inr (record { packets = n; few = few; got = got; mid = mid; before = c.came; last = last; told = said; came = rw c.moved.turned at x.heard; fits = x.short });
       behind = flips_more n first toggle next c.moved.turned e;
-      settled = c.moved.settled x.settled;
       most = tt;
       turned = tt;
       halted = λ h. cc (said, h);

@@ -3,7 +3,6 @@ use Rattle.std.specs.Prelude.{◌≡◌, ◌≢◌, ℕ, ◌*◌, ◌≤◌, Lis
 use Rattle.std.specs.Global.{Vec}
 use Rattle.std.specs.Int.{div_ceil}
 use Rattle.usb_packet.specs.declared.Toggle.{Toggle}
-use Rattle.usb_world.specs.AttemptPackets.{IsSettled}
 use Rattle.usb_world.specs.World.{World}
 use Rattle.usb_transaction.specs.declared.target.Target.{Target}
 use Rattle.usb_transaction.specs.Transactions.{Worked}
@@ -19,7 +18,6 @@ pub record PacketsSent (t : Target) (ep : ℕ) (first : Toggle) (bytes : List �
   pub ends : MatchResult result (λ _. Worked (div_ceil (length bytes) t.max) old new) (λ fault. FaultAfter 0 old fault new)
   pub moves : SendEnds t ep first bytes old result new
   pub behind : toggle ≡ flips (packets_gone t ep first bytes old result new moves) first
-  pub settled : IsSettled old.roots
   pub room : result ≢ Err Memory
   pub turned : OnOk result (toggle ≡ flips (div_ceil (length bytes) t.max) first)
   pub halted : result ≡ Err Stalled → Turned (div_ceil (length bytes) t.max) first toggle
@@ -29,7 +27,6 @@ pub record PacketsReceived (t : Target) (ep : ℕ) (first : Toggle) (wanted : �
   pub ends : MatchResult result (λ bytes. Worked (packets_of (length bytes.items) t.max wanted) old new) (λ fault. FaultAfter 0 old fault new)
   pub moves : ReceiveEnds t ep first wanted old result new
   pub behind : toggle ≡ flips (packets_came t ep first wanted old result new moves) first
-  pub settled : IsSettled old.roots
   pub most : IfOk result (λ bytes. length bytes.items ≤ wanted * t.max)
   pub turned : IfOk result (λ bytes. toggle ≡ flips (packets_of (length bytes.items) t.max wanted) first)
   pub halted : result ≡ Err Stalled → Turned wanted first toggle

@@ -1,7 +1,6 @@
 //! The data stage of a control transfer that reads.
 ghost use Rattle.std.specs.Prelude.{◌≡◌, ◌-◌, ◌+◌, ◌*◌, ◌<◌, ◌≤◌, ◌++◌, take, length, OnOk, IfOk, MatchResult, true};
 ghost use Rattle.usb_bus.specs.Traces.{Went};
-ghost use Rattle.usb_world.specs.AttemptPackets.{IsSettled};
 ghost use Rattle.usb_transaction.specs.Transactions.{IsTarget, Worked, transaction_bound};
 ghost use Rattle.usb_pipe.specs.Control.{FaultAfter, byte_bound, ends_stage};
 ghost use Rattle.usb_pipe.specs.Stages.{DataEnds};
@@ -28,7 +27,6 @@ pub(crate) fn data_stage<B: Bus>(
         (λ fault. FaultAfter 0 (B.world bus.old) fault (B.world bus.new)) }
     ensures packets { B.modelled ≡ true
         → DataEnds target wanted (B.world bus.old) result (B.world bus.new) }
-    ensures settled { B.modelled ≡ true → IsSettled (B.world bus.old).roots }
     ensures most { IfOk result (λ bytes. length bytes.items ≤ wanted) }
 {
     let mut bytes = Vec::new(alloc);

@@ -7,12 +7,13 @@ use Rattle.toml.specs.Data.{Data, Members, no_members, member, get_member}
 use Rattle.usb_plan.specs.declared.entry_fault.EntryFault.{EntryFault}
 use Rattle.usb_plan.specs.declared.entry_fault.EntryFault.TheVariants.{BadValue}
 use Rattle.usb_plan.specs.declared.verb.Verb.{Verb}
-use Rattle.usb_plan.specs.declared.verb.Verb.TheVariants as verb
+use Rattle.usb_plan.specs.declared.action.OtherKeys.{OtherKeys}
+use Rattle.usb_plan.specs.declared.action.OtherKeys.TheVariants.{Alone, Path, PathDevice, PathBytes, PathPackets}
 use Rattle.usb_plan.specs.Keys.{only_named, keys_at}
 use Rattle.usb_plan.specs.EventMembers.{EventValues, event_values, all_event_keys}
-use Rattle.usb_plan.specs.Verb.{verb_at}
+use Rattle.usb_plan.specs.Verb.{verb_at, action_of, other_keys}
 use Rattle.usb_plan.specs.Scene.{SceneData}
-use Rattle.usb_plan.specs.Action.{action_of, keys_of, event_keys, fits, keys_given}
+use Rattle.usb_plan.specs.Action.{keys_of, event_keys, fits, keys_given}
 use Rattle.usb_plan.specs.Event.{after_at, event_room, event_with, event_given, event_of, event_in}
 use Rattle.usb_plan.proofs.EventWalks.{same_text, turned, at_first, at_later}
 
@@ -67,51 +68,46 @@ without_bytes ms =
     narrowed (codes "do" ∷ codes "after" ∷ codes "path" ∷ codes "device" ∷ []) (codes "packets" ∷ []) (codes "bytes") ms refl
     ∙ ap (λ b. b && is_none (get_member (codes "bytes") ms)) (not_not (only_named all_event_keys ms))
 
-plug_fits : (ms : Members) → only_named (event_keys (codes "path" ∷ codes "device" ∷ [])) ms ≡ fits verb.Plug (event_values ms)
+device_fits : (ms : Members) → only_named (event_keys (codes "path" ∷ codes "device" ∷ [])) ms ≡ fits PathDevice (event_values ms)
 unfolding event_values fits
-plug_fits ms =
+device_fits ms =
     narrowed (codes "do" ∷ codes "after" ∷ codes "path" ∷ codes "device" ∷ []) [] (codes "bytes") ms refl
     ∙ ap (λ b. b && is_none (get_member (codes "bytes") ms)) (without_packets ms)
 
-unplug_fits : (ms : Members) → only_named (event_keys (codes "path" ∷ [])) ms ≡ fits verb.Unplug (event_values ms)
+path_fits : (ms : Members) → only_named (event_keys (codes "path" ∷ [])) ms ≡ fits Path (event_values ms)
 unfolding event_values fits
-unplug_fits ms =
+path_fits ms =
     narrowed (codes "do" ∷ codes "after" ∷ codes "path" ∷ []) [] (codes "device") ms refl
-    ∙ ap (λ b. b && is_none (get_member (codes "device") ms)) (plug_fits ms)
+    ∙ ap (λ b. b && is_none (get_member (codes "device") ms)) (device_fits ms)
 
-show_fits : (ms : Members) → only_named (event_keys []) ms ≡ fits verb.Show (event_values ms)
+alone_fits : (ms : Members) → only_named (event_keys []) ms ≡ fits Alone (event_values ms)
 unfolding event_values fits
-show_fits ms =
+alone_fits ms =
     narrowed (codes "do" ∷ codes "after" ∷ []) [] (codes "path") ms refl
-    ∙ ap (λ b. b && is_none (get_member (codes "path") ms)) (unplug_fits ms)
+    ∙ ap (λ b. b && is_none (get_member (codes "path") ms)) (path_fits ms)
 
-send_fits : (ms : Members) → only_named (event_keys (codes "path" ∷ codes "bytes" ∷ [])) ms ≡ fits verb.Send (event_values ms)
+bytes_fits : (ms : Members) → only_named (event_keys (codes "path" ∷ codes "bytes" ∷ [])) ms ≡ fits PathBytes (event_values ms)
 unfolding event_values fits
-send_fits ms =
+bytes_fits ms =
     narrowed (codes "do" ∷ codes "after" ∷ codes "path" ∷ []) (codes "bytes" ∷ []) (codes "device") ms refl
     ∙ ap (λ b. b && is_none (get_member (codes "device") ms)) (without_packets ms)
 
-receive_fits : (ms : Members) → only_named (event_keys (codes "path" ∷ codes "packets" ∷ [])) ms ≡ fits verb.Receive (event_values ms)
+packets_fits : (ms : Members) → only_named (event_keys (codes "path" ∷ codes "packets" ∷ [])) ms ≡ fits PathPackets (event_values ms)
 unfolding event_values fits
-receive_fits ms =
+packets_fits ms =
     narrowed (codes "do" ∷ codes "after" ∷ codes "path" ∷ []) (codes "packets" ∷ []) (codes "device") ms refl
     ∙ ap (λ b. b && is_none (get_member (codes "device") ms)) (without_bytes ms)
-
-clear_fits : (ms : Members) → only_named (event_keys (codes "path" ∷ [])) ms ≡ fits verb.Clear (event_values ms)
-unfolding event_values fits
-clear_fits ms = unplug_fits ms
 
 answer : Bool → Result (Unit {0}) EntryFault
 answer b = if b then Ok tt else Err BadValue
 
-pub keys_given-event_values : (verb : Verb) (ms : Members) → keys_given verb (event_values ms) ≡ keys_of verb ms
+pub keys_given-event_values : (keys : OtherKeys) (ms : Members) → keys_given keys (event_values ms) ≡ keys_of keys ms
 unfolding keys_given keys_of keys_at answer
-keys_given-event_values verb.Plug ms = ap answer (sym (plug_fits ms))
-keys_given-event_values verb.Unplug ms = ap answer (sym (unplug_fits ms))
-keys_given-event_values verb.Show ms = ap answer (sym (show_fits ms))
-keys_given-event_values verb.Send ms = ap answer (sym (send_fits ms))
-keys_given-event_values verb.Receive ms = ap answer (sym (receive_fits ms))
-keys_given-event_values verb.Clear ms = ap answer (sym (clear_fits ms))
+keys_given-event_values Alone ms = ap answer (sym (alone_fits ms))
+keys_given-event_values Path ms = ap answer (sym (path_fits ms))
+keys_given-event_values PathDevice ms = ap answer (sym (device_fits ms))
+keys_given-event_values PathBytes ms = ap answer (sym (bytes_fits ms))
+keys_given-event_values PathPackets ms = ap answer (sym (packets_fits ms))
 
 -- an event by the values of its table
 pub event_in_refused : (scene : SceneData) (count : ℕ) (ms : Members) (v : EventValues) (fault : EntryFault) → v ≡ event_values ms
@@ -127,5 +123,5 @@ unfolding event_in event_of event_given event_values
 event_in_given scene count ms v verb same is =
     let told : verb_at (get_member (codes "do") ms) ≡ Ok verb = ap (λ x. verb_at x.verb) (sym same) ∙ is in
     let of : event_of verb scene count ms ≡ event_given verb scene count (event_values ms) =
-    ap (λ keys. event_with (action_of verb scene (event_values ms)) (after_at (get_member (codes "after") ms)) keys (event_room count)) (sym (keys_given-event_values verb ms)) in
+    ap (λ keys. event_with (action_of verb scene (event_values ms)) (after_at (get_member (codes "after") ms)) keys (event_room count)) (sym (keys_given-event_values (other_keys verb) ms)) in
     rw told (of ∙ ap (event_given verb scene count) (sym same))

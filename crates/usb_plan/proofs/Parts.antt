@@ -1,5 +1,5 @@
 -- What follows where the parts of an entry are good.
-use Rattle.std.proofs.Common.{◌≡◌, ◌+◌, ◌-◌, ◌^◌, ℕ, ℤ, pos, negsuc, ◌<◌, ◌≤◌, List, [], ◌∷◌, length, Bool, true, false, ◌&&◌, ◌||◌, cond, Option, Some, None, ok_or, Result, Ok, Err, refl, ap, sym, ◌∙◌, not, IfOk, IfSome, arith, codes, nat_le, nat_lt, ◌==◌, inl, inr, ◌⊎◌, slice_get, zero, suc}
+use Rattle.std.proofs.Common.{◌≡◌, ◌+◌, ◌-◌, ◌^◌, ℕ, ℤ, pos, negsuc, ◌<◌, ◌≤◌, List, [], ◌∷◌, length, Bool, true, false, ◌&&◌, ◌||◌, cond, Option, Some, None, ok_or, Result, Ok, Err, refl, ap, sym, subst, ◌∙◌, not, IfOk, IfSome, arith, codes, nat_le, nat_lt, ◌==◌, inl, inr, ◌⊎◌, slice_get, zero, suc}
 use Rattle.std.proofs.lemmas.Bool.{and_parts, or_parts, leb-true, ltb-true, lt-ltb, le-leb}
 use Rattle.std.proofs.lemmas.List.Quantifiers.{position-Some}
 use Rattle.std.specs.Str.{bytes_eq}
@@ -15,7 +15,9 @@ use Rattle.usb_plan.specs.declared.bulk.Bulk.{Bulk}
 use Rattle.usb_plan.specs.declared.fault.Place.{Place}
 use Rattle.usb_world.specs.declared.event.Event.{Event}
 use Rattle.usb_world.specs.declared.event.Action.{Action}
-use Rattle.usb_world.specs.declared.event.Action.TheVariants.{Plug, Unplug, Show, Send, Receive, Clear}
+use Rattle.usb_world.specs.declared.event.Action.TheVariants.{Change, Ask}
+use Rattle.usb_world.specs.declared.event.Change.TheVariants.{Plug, Unplug}
+use Rattle.usb_world.specs.declared.event.Ask.TheVariants.{Send, Receive, Clear}
 use Rattle.usb_world.specs.declared.damage.Damage.{Damage}
 use Rattle.usb_world.specs.declared.damage.Harm.{Harm}
 use Rattle.usb_world.specs.declared.damage.Harm.TheVariants.{Lose, LosePre, Flip}
@@ -36,10 +38,10 @@ use Rattle.usb_world.specs.PlanData.{is_taken, action_fits, event_fits, harm_fit
 use Rattle.usb_plan.specs.Device as device
 use Rattle.usb_plan.specs.Device.{name_in, name_at, speed_at, descriptor_at, with_quirks, with_halt, with_hub, named_device, HubFits, FewNaks, HaltsLater, identity_with, identity_of, device_of_parts, device_with, read_device, device_in}
 use Rattle.usb_plan.specs.Path.{read_path, free_path, taken_path}
-use Rattle.usb_plan.specs.Verb.{verb_at}
+use Rattle.usb_plan.specs.Verb.{verb_at, other_keys, action_of}
 use Rattle.usb_plan.specs.EventMembers.{EventValues, event_values}
 use Rattle.usb_plan.specs.Action as action
-use Rattle.usb_plan.specs.Action.{device_index_at, bytes_at, packets_at, plug_of, unplug_of, send_of, receive_of, clear_of, action_of, keys_of}
+use Rattle.usb_plan.specs.Action.{device_index_at, bytes_at, packets_at, plug_of, unplug_of, send_of, receive_of, clear_of, keys_of}
 use Rattle.usb_plan.specs.Event.{after_at, event_room, event_with, event_of, event_in}
 use Rattle.usb_plan.specs.Damage as damage
 use Rattle.usb_plan.specs.Damage.{attempt_at, packet_number, way_at, no_bit, flip_at, harm_of, harm_by, damage_with, read_damage, damage_entry}
@@ -330,7 +332,7 @@ record PlugIs (path : Result (List ℕ) EntryFault) (device : Result ℕ EntryFa
   index : ℕ
   path_is : path ≡ Ok at
   device_is : device ≡ Ok index
-  action_is : Plug at index ≡ a
+  action_is : Change (Plug at index) ≡ a
 
 plug_ok : (path : Result (List ℕ) EntryFault) (device : Result ℕ EntryFault) (a : Action) → action.plug path device ≡ Ok a → PlugIs path device a
 unfolding action.plug
@@ -352,7 +354,7 @@ unplug_of_ok : (scene : SceneData) (v : EventValues) (a : Action) → unplug_of 
 unfolding unplug_of
 unplug_of_ok scene v a h =
     let path = bind_ok (taken_path scene (read_path scene v.path)) _ a h in
-    let same : Unplug path.value ≡ a = cc path.rest in
+    let same : Change (Unplug path.value) ≡ a = cc path.rest in
     let held = taken_path_ok scene (read_path scene v.path) path.value path.good in
     rw (← same) (rw (read_path_ok scene v.path path.value held.0, held.1))
 
@@ -360,7 +362,7 @@ record SendIs (path : Result (List ℕ) EntryFault) (a : Action) : Type 0 where
   at : List ℕ
   sent : List ℕ
   path_is : path ≡ Ok at
-  action_is : Send at sent ≡ a
+  action_is : Ask (Send at sent) ≡ a
 
 send_ok : (path bytes : Result (List ℕ) EntryFault) (a : Action) → action.send path bytes ≡ Ok a → SendIs path a
 unfolding action.send
@@ -381,7 +383,7 @@ record ReceiveIs (path : Result (List ℕ) EntryFault) (packets : Result ℕ Ent
   count : ℕ
   path_is : path ≡ Ok at
   packets_is : packets ≡ Ok count
-  action_is : Receive at count ≡ a
+  action_is : Ask (Receive at count) ≡ a
 
 receive_ok : (path : Result (List ℕ) EntryFault) (packets : Result ℕ EntryFault) (a : Action) → action.receive path packets ≡ Ok a → ReceiveIs path packets a
 unfolding action.receive
@@ -402,17 +404,17 @@ clear_of_ok : (scene : SceneData) (v : EventValues) (a : Action) → clear_of sc
 unfolding clear_of
 clear_of_ok scene v a h =
     let path = bind_ok (read_path scene v.path) _ a h in
-    let same : Clear path.value ≡ a = cc path.rest in
+    let same : Ask (Clear path.value) ≡ a = cc path.rest in
     rw (← same) (read_path_ok scene v.path path.value path.good)
 
 action_of_ok : (verb : Verb) (scene : SceneData) (v : EventValues) (a : Action) → action_of verb scene v ≡ Ok a → Fits scene a
 unfolding action_of
 action_of_ok verb.Plug scene v a h = plug_of_ok scene v a h
 action_of_ok verb.Unplug scene v a h = unplug_of_ok scene v a h
-action_of_ok verb.Show scene v a h = let same : Show ≡ a = cc in rw (← same) refl
 action_of_ok verb.Send scene v a h = send_of_ok scene v a h
 action_of_ok verb.Receive scene v a h = receive_of_ok scene v a h
 action_of_ok verb.Clear scene v a h = clear_of_ok scene v a h
+action_of_ok _ scene v a h = subst (λ r. IfOk r (Fits scene)) h refl
 
 record EventIs (action : Result Action EntryFault) (after : Result ℕ EntryFault) (room : Result (Unit {0}) EntryFault) (e : Event) : Type 0 where
   action_is : action ≡ Ok e.action
@@ -440,7 +442,7 @@ pub record Follows (scene : SceneData) (count : ℕ) (e : Event) : Type 0 where
 event_of_ok : (v : Verb) (scene : SceneData) (count : ℕ) (ms : Members) (e : Event) → event_of v scene count ms ≡ Ok e → Follows scene count e
 unfolding event_of
 event_of_ok v scene count ms e h =
-    let is = event_with_ok (action_of v scene (event_values ms)) (after_at (get_member (codes "after") ms)) (keys_of v ms) (event_room count) e h in
+    let is = event_with_ok (action_of v scene (event_values ms)) (after_at (get_member (codes "after") ms)) (keys_of (other_keys v) ms) (event_room count) e h in
     let after = le-leb e.after 1000000000 (after_at_ok (get_member (codes "after") ms) e.after is.after_is) in
     record {
       room = event_room_ok count tt is.room_is;

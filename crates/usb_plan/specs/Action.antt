@@ -4,8 +4,8 @@ use Rattle.std.specs.Str.{bytes_eq}
 use Rattle.toml.specs.Data.{Data, Members}
 use Rattle.usb_plan.specs.declared.entry_fault.EntryFault.{EntryFault}
 use Rattle.usb_plan.specs.declared.entry_fault.EntryFault.TheVariants.{MissingKey, BadValue, UnknownDevice}
-use Rattle.usb_plan.specs.declared.verb.Verb.{Verb}
-use Rattle.usb_plan.specs.declared.verb.Verb.TheVariants as verb
+use Rattle.usb_plan.specs.declared.action.OtherKeys.{OtherKeys}
+use Rattle.usb_plan.specs.declared.action.OtherKeys.TheVariants.{Alone, Path, PathDevice, PathBytes, PathPackets}
 use Rattle.usb_plan.specs.EntryFault.{fault_in_part, least_fault, ◌>>=◌}
 use Rattle.usb_plan.specs.EventMembers.{EventValues}
 use Rattle.usb_plan.specs.Keys.{keys_at}
@@ -13,7 +13,9 @@ use Rattle.usb_plan.specs.Value.{read_text, number_at, hex_bytes}
 use Rattle.usb_plan.specs.Path.{read_path, free_path, taken_path}
 use Rattle.usb_plan.specs.Scene.{SceneData}
 use Rattle.usb_world.specs.declared.event.Action.{Action}
-use Rattle.usb_world.specs.declared.event.Action.TheVariants.{Plug, Unplug, Show, Send, Receive, Clear}
+use Rattle.usb_world.specs.declared.event.Action.TheVariants.{Change, Ask}
+use Rattle.usb_world.specs.declared.event.Change.TheVariants.{Plug, Unplug}
+use Rattle.usb_world.specs.declared.event.Ask.TheVariants.{Send, Receive, Clear}
 
 -- the key `device`: the index of the device of that name
 unfoldable pub device_index_at : SceneData → Option Data → Result ℕ EntryFault
@@ -33,27 +35,27 @@ plug path device = do
   u ← least_fault (fault_in_part path ∷ fault_in_part device ∷ [])
   p ← path
   d ← device
-  Ok (Plug p d)
+  Ok (Change (Plug p d))
 
 unfoldable pub send : Result (List ℕ) EntryFault → Result (List ℕ) EntryFault → Result Action EntryFault
 send path bytes = do
   u ← least_fault (fault_in_part path ∷ fault_in_part bytes ∷ [])
   p ← path
   b ← bytes
-  Ok (Send p b)
+  Ok (Ask (Send p b))
 
 unfoldable pub receive : Result (List ℕ) EntryFault → Result ℕ EntryFault → Result Action EntryFault
 receive path packets = do
   u ← least_fault (fault_in_part path ∷ fault_in_part packets ∷ [])
   p ← path
   n ← packets
-  Ok (Receive p n)
+  Ok (Ask (Receive p n))
 
 unfoldable pub plug_of : SceneData → EventValues → Result Action EntryFault
 plug_of scene v = plug (free_path scene (read_path scene v.path)) (device_index_at scene v.device)
 
 unfoldable pub unplug_of : SceneData → EventValues → Result Action EntryFault
-unplug_of scene v = taken_path scene (read_path scene v.path) >>= λ path. Ok (Unplug path)
+unplug_of scene v = taken_path scene (read_path scene v.path) >>= λ path. Ok (Change (Unplug path))
 
 unfoldable pub send_of : SceneData → EventValues → Result Action EntryFault
 send_of scene v = send (read_path scene v.path) (bytes_at v.bytes)
@@ -62,38 +64,30 @@ unfoldable pub receive_of : SceneData → EventValues → Result Action EntryFau
 receive_of scene v = receive (read_path scene v.path) (packets_at v.packets)
 
 unfoldable pub clear_of : SceneData → EventValues → Result Action EntryFault
-clear_of scene v = read_path scene v.path >>= λ path. Ok (Clear path)
-
--- what an event with these values does in the scene
-unfoldable pub action_of : Verb → SceneData → EventValues → Result Action EntryFault
-action_of verb.Plug scene v = plug_of scene v
-action_of verb.Unplug scene v = unplug_of scene v
-action_of verb.Show scene v = Ok Show
-action_of verb.Send scene v = send_of scene v
-action_of verb.Receive scene v = receive_of scene v
-action_of verb.Clear scene v = clear_of scene v
+clear_of scene v = read_path scene v.path >>= λ path. Ok (Ask (Clear path))
 
 abbrev pub event_keys : List (List ℕ) → List (List ℕ)
 event_keys others = codes "do" ∷ codes "after" ∷ others
 
--- no key but those that go with `do`
-unfoldable pub keys_of : Verb → Members → Result (Unit {0}) EntryFault
-keys_of verb.Plug ms = keys_at (event_keys (codes "path" ∷ codes "device" ∷ [])) ms
-keys_of verb.Unplug ms = keys_at (event_keys (codes "path" ∷ [])) ms
-keys_of verb.Show ms = keys_at (event_keys []) ms
-keys_of verb.Send ms = keys_at (event_keys (codes "path" ∷ codes "bytes" ∷ [])) ms
-keys_of verb.Receive ms = keys_at (event_keys (codes "path" ∷ codes "packets" ∷ [])) ms
-keys_of verb.Clear ms = keys_at (event_keys (codes "path" ∷ [])) ms
+abbrev pub other_names : OtherKeys → List (List ℕ)
+other_names Alone = []
+other_names Path = codes "path" ∷ []
+other_names PathDevice = codes "path" ∷ codes "device" ∷ []
+other_names PathBytes = codes "path" ∷ codes "bytes" ∷ []
+other_names PathPackets = codes "path" ∷ codes "packets" ∷ []
+
+-- no key but these, `do` and `after`
+unfoldable pub keys_of : OtherKeys → Members → Result (Unit {0}) EntryFault
+keys_of keys ms = keys_at (event_keys (other_names keys)) ms
 
 -- the same by what stands at the keys: no other key, and nothing at those that do not go with `do`
-unfoldable pub fits : Verb → EventValues → Bool
-fits verb.Plug v = not v.has_others && is_none v.packets && is_none v.bytes
-fits verb.Unplug v = not v.has_others && is_none v.packets && is_none v.bytes && is_none v.device
-fits verb.Show v =
+unfoldable pub fits : OtherKeys → EventValues → Bool
+fits Alone v =
     not v.has_others && is_none v.packets && is_none v.bytes && is_none v.device && is_none v.path
-fits verb.Send v = not v.has_others && is_none v.packets && is_none v.device
-fits verb.Receive v = not v.has_others && is_none v.bytes && is_none v.device
-fits verb.Clear v = not v.has_others && is_none v.packets && is_none v.bytes && is_none v.device
+fits Path v = not v.has_others && is_none v.packets && is_none v.bytes && is_none v.device
+fits PathDevice v = not v.has_others && is_none v.packets && is_none v.bytes
+fits PathBytes v = not v.has_others && is_none v.packets && is_none v.device
+fits PathPackets v = not v.has_others && is_none v.bytes && is_none v.device
 
-unfoldable pub keys_given : Verb → EventValues → Result (Unit {0}) EntryFault
-keys_given verb v = if fits verb v then Ok tt else Err BadValue
+unfoldable pub keys_given : OtherKeys → EventValues → Result (Unit {0}) EntryFault
+keys_given keys v = if fits keys v then Ok tt else Err BadValue

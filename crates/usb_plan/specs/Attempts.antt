@@ -2,7 +2,9 @@
 use Rattle.std.specs.Prelude.{ℕ, ◌+◌, ◌*◌, List, [], ◌∷◌, length, Option, Some, None, slice_get, max, min, ◌^◌, ◌-◌}
 use Rattle.std.specs.List.{sum_by}
 use Rattle.usb_world.specs.declared.event.Action.{Action}
-use Rattle.usb_world.specs.declared.event.Action.TheVariants.{Plug, Unplug, Show, Send, Receive, Clear}
+use Rattle.usb_world.specs.declared.event.Action.TheVariants.{Change, Ask}
+use Rattle.usb_world.specs.declared.event.Change.TheVariants.{Plug, Unplug}
+use Rattle.usb_world.specs.declared.event.Ask.TheVariants.{Send, Receive}
 use Rattle.usb_world.specs.declared.event.Event.{Event}
 use Rattle.usb_device.specs.SaidLengths.{said_lengths}
 use Rattle.usb_device.specs.Spec.{Spec}
@@ -13,12 +15,9 @@ total_at (Some device) = said_lengths device
 total_at None = 0
 
 abbrev pub total_after : List Spec → Action → ℕ
-total_after devices (Plug path device) = total_at (slice_get devices device)
-total_after devices (Unplug path) = 0
-total_after devices Show = 0
-total_after devices (Send path bytes) = 0
-total_after devices (Receive path packets) = 0
-total_after devices (Clear path) = 0
+total_after devices (Change (Plug path device)) = total_at (slice_get devices device)
+total_after devices (Change (Unplug path)) = 0
+total_after devices (Ask ask) = 0
 
 -- the sum over the texts of the device that an event plugs
 unfoldable pub plugged_total : List Spec → Event → ℕ
@@ -30,12 +29,9 @@ greatest_total devices [] = 0
 greatest_total devices (e ∷ events) = max (plugged_total devices e) (greatest_total devices events)
 
 abbrev pub moved_in : Action → ℕ
-moved_in (Plug path device) = 0
-moved_in (Unplug path) = 0
-moved_in Show = 0
-moved_in (Send path bytes) = length bytes
-moved_in (Receive path packets) = packets
-moved_in (Clear path) = 0
+moved_in (Ask (Send path bytes)) = length bytes
+moved_in (Ask (Receive path packets)) = packets
+moved_in _ = 0
 
 -- the bytes that an event sends, or the packets that it receives
 unfoldable pub moved : Event → ℕ

@@ -8,9 +8,9 @@ use Rattle.usb_plan.specs.declared.fault.Place.TheVariants as place
 use Rattle.usb_plan.specs.declared.fault.PlanFault.{PlanFault}
 use Rattle.usb_plan.specs.EntryFault.{fault_in_part, least_fault, entry_at, ◌>>=◌}
 use Rattle.usb_plan.specs.Value.{number_or}
-use Rattle.usb_plan.specs.Verb.{verb_at}
+use Rattle.usb_plan.specs.Verb.{verb_at, other_keys, action_of}
 use Rattle.usb_plan.specs.EventMembers.{EventValues, event_values}
-use Rattle.usb_plan.specs.Action.{action_of, keys_of, keys_given}
+use Rattle.usb_plan.specs.Action.{keys_of, keys_given}
 use Rattle.usb_plan.specs.Scene.{SceneData, scene_after}
 use Rattle.usb_device.specs.Spec.{Spec}
 use Rattle.usb_world.specs.declared.event.Action.{Action}
@@ -36,13 +36,13 @@ event_with action after keys room = do
 -- the event of these values, whose `do` is that verb, in the scene, after so many others
 unfoldable pub event_given : Verb → SceneData → ℕ → EventValues → Result Event EntryFault
 event_given verb scene count v =
-    event_with (action_of verb scene v) (after_at v.after) (keys_given verb v) (event_room count)
+    event_with (action_of verb scene v) (after_at v.after) (keys_given (other_keys verb) v) (event_room count)
 
 -- the event of a table whose `do` is that verb, in the scene, after so many others
 unfoldable pub event_of : Verb → SceneData → ℕ → Members → Result Event EntryFault
 event_of verb scene count ms =
     event_with (action_of verb scene (event_values ms)) (after_at (get_member (codes "after") ms))
-    (keys_of verb ms) (event_room count)
+    (keys_of (other_keys verb) ms) (event_room count)
 
 -- nothing else of an event is looked at where its `do` is absent or unknown
 unfoldable pub event_in : SceneData → ℕ → Option Members → Result Event EntryFault

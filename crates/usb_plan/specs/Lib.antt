@@ -10,9 +10,9 @@ pub mod Device
 pub mod Scene
 pub mod Path
 pub mod Plugged
-pub mod Verb
 pub mod EventMembers
 pub mod Action
+pub mod Verb
 pub mod Event
 pub mod Damage
 pub mod Plan

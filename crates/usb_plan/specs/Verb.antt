@@ -1,13 +1,21 @@
--- The key `do` of an event.
+-- The key `do` of an event: its words, and of each the keys that go with it, and what it does.
 use Rattle.std.specs.Prelude.{ℕ, codes, List, Option, Result, Ok, Err, if◌then◌else◌}
 use Rattle.std.specs.Str.{bytes_eq}
 use Rattle.toml.specs.Data.{Data}
+use Rattle.usb_plan.specs.declared.action.OtherKeys.{OtherKeys}
+use Rattle.usb_plan.specs.declared.action.OtherKeys.TheVariants.{Alone, Path, PathDevice, PathBytes, PathPackets}
 use Rattle.usb_plan.specs.declared.entry_fault.EntryFault.{EntryFault}
 use Rattle.usb_plan.specs.declared.entry_fault.EntryFault.TheVariants.{BadValue}
 use Rattle.usb_plan.specs.declared.verb.Verb.{Verb}
-use Rattle.usb_plan.specs.EntryFault.{◌>>=◌}
-use Rattle.usb_plan.specs.Value.{read_text}
 use Rattle.usb_plan.specs.declared.verb.Verb.TheVariants.{Plug, Unplug, Show, Send, Receive, Clear}
+use Rattle.usb_plan.specs.Action.{plug_of, unplug_of, send_of, receive_of, clear_of}
+use Rattle.usb_plan.specs.EntryFault.{◌>>=◌}
+use Rattle.usb_plan.specs.EventMembers.{EventValues}
+use Rattle.usb_plan.specs.Scene.{SceneData}
+use Rattle.usb_plan.specs.Value.{read_text}
+use Rattle.usb_world.specs.declared.event.Action.{Action}
+use Rattle.usb_world.specs.declared.event.Action.TheVariants.{Ask}
+use Rattle.usb_world.specs.declared.event.Ask.TheVariants as ask
 
 unfoldable pub verb_named : List ℕ → Result Verb EntryFault
 verb_named text =
@@ -22,3 +30,21 @@ verb_named text =
 -- the key `do`
 unfoldable pub verb_at : Option Data → Result Verb EntryFault
 verb_at d = read_text d >>= verb_named
+
+-- the keys that go with `do` and `after`
+unfoldable pub other_keys : Verb → OtherKeys
+other_keys Plug = PathDevice
+other_keys Unplug = Path
+other_keys Show = Alone
+other_keys Send = PathBytes
+other_keys Receive = PathPackets
+other_keys Clear = Path
+
+-- what an event with these values does in the scene
+unfoldable pub action_of : Verb → SceneData → EventValues → Result Action EntryFault
+action_of Plug scene v = plug_of scene v
+action_of Unplug scene v = unplug_of scene v
+action_of Show scene v = Ok (Ask ask.Show)
+action_of Send scene v = send_of scene v
+action_of Receive scene v = receive_of scene v
+action_of Clear scene v = clear_of scene v

@@ -2,7 +2,7 @@
 
 ghost use Rattle.std.specs.Prelude.{◌≡◌, ◌≤◌, option_map};
 ghost use Rattle.toml.specs.View.{view};
-ghost use Rattle.usb_plan.specs.Action.{device_index_at, bytes_at, packets_at, plug, send, receive, plug_of, unplug_of, send_of, receive_of, clear_of, action_of, fits, keys_given};
+ghost use Rattle.usb_plan.specs.Action.{device_index_at, bytes_at, packets_at, plug, send, receive, plug_of, unplug_of, send_of, receive_of, clear_of, fits, keys_given};
 ghost use Rattle.usb_plan.specs.EventMembers.{found};
 ghost use Rattle.usb_plan.specs.EntryFault.{EqualUnless};
 ghost use Rattle.usb_plan.specs.declared.entry_fault.EntryFault.TheVariants.{Memory};
@@ -12,11 +12,10 @@ use crate::members::EventMembers;
 use crate::path::{free_path, read_path, taken_path};
 use crate::scene::Scene;
 use crate::value::{hex_bytes, number_at, read_text};
-use crate::verb::Verb;
 use std::alloc::Global;
 use toml::Value;
 use usb_port::PortPath;
-use usb_world::{Action, SentBytes};
+use usb_world::{Action, Ask, Change, SentBytes};
 
 /// The key `device`.
 #[tactic(auto, unfolding(crate::specs::Action::device_index_at))]
@@ -53,7 +52,7 @@ fn plug(
     ensures { result ≡ plug path device }
 {
     least_fault(&[fault_in_part(&path), fault_in_part(&device)])?;
-    Ok(Action::Plug(path?, device?))
+    Ok(Action::Change(Change::Plug(path?, device?)))
 }
 
 #[tactic(auto, unfolding(crate::specs::Action::send))]
@@ -64,7 +63,7 @@ fn send(
     ensures { result ≡ send path bytes }
 {
     least_fault(&[fault_in_part(&path), fault_in_part(&bytes)])?;
-    Ok(Action::Send(path?, bytes?))
+    Ok(Action::Ask(Ask::Send(path?, bytes?)))
 }
 
 #[tactic(auto, unfolding(crate::specs::Action::receive))]
@@ -75,11 +74,12 @@ fn receive(
     ensures { result ≡ receive path packets }
 {
     least_fault(&[fault_in_part(&path), fault_in_part(&packets)])?;
-    Ok(Action::Receive(path?, packets?))
+    Ok(Action::Ask(Ask::Receive(path?, packets?)))
 }
 
+/// Plugs a device.
 #[tactic(auto, unfolding(crate::specs::Action::plug_of))]
-fn plug_of(scene: &Scene<'_>, members: &EventMembers<'_>) -> Result<Action, EntryFault>
+pub(crate) fn plug_of(scene: &Scene<'_>, members: &EventMembers<'_>) -> Result<Action, EntryFault>
     ensures { result ≡ plug_of scene.now (found members.now) }
 {
     let path = read_path(scene, members.path);
@@ -87,16 +87,18 @@ fn plug_of(scene: &Scene<'_>, members: &EventMembers<'_>) -> Result<Action, Entr
     plug(free_path(scene, path), device)
 }
 
+/// Unplugs what is at a port.
 #[tactic(auto, unfolding(crate::specs::Action::unplug_of))]
-fn unplug_of(scene: &Scene<'_>, members: &EventMembers<'_>) -> Result<Action, EntryFault>
+pub(crate) fn unplug_of(scene: &Scene<'_>, members: &EventMembers<'_>) -> Result<Action, EntryFault>
     ensures { result ≡ unplug_of scene.now (found members.now) }
 {
     let path = taken_path(scene, read_path(scene, members.path))?;
-    Ok(Action::Unplug(path))
+    Ok(Action::Change(Change::Unplug(path)))
 }
 
+/// Sends bytes.
 #[tactic(auto, using(crate::proofs::MemoryRefusals::send_unless), unfolding(crate::specs::Action::send_of))]
-fn send_of(
+pub(crate) fn send_of(
     alloc: Global,
     scene: &Scene<'_>,
     members: &EventMembers<'_>,
@@ -108,8 +110,12 @@ fn send_of(
     send(path, bytes)
 }
 
+/// Receives packets.
 #[tactic(auto, unfolding(crate::specs::Action::receive_of))]
-fn receive_of(scene: &Scene<'_>, members: &EventMembers<'_>) -> Result<Action, EntryFault>
+pub(crate) fn receive_of(
+    scene: &Scene<'_>,
+    members: &EventMembers<'_>,
+) -> Result<Action, EntryFault>
     ensures { result ≡ receive_of scene.now (found members.now) }
 {
     let path = read_path(scene, members.path);
@@ -117,58 +123,56 @@ fn receive_of(scene: &Scene<'_>, members: &EventMembers<'_>) -> Result<Action, E
     receive(path, packets)
 }
 
+/// Clears halts.
 #[tactic(auto, unfolding(crate::specs::Action::clear_of))]
-fn clear_of(scene: &Scene<'_>, members: &EventMembers<'_>) -> Result<Action, EntryFault>
+pub(crate) fn clear_of(scene: &Scene<'_>, members: &EventMembers<'_>) -> Result<Action, EntryFault>
     ensures { result ≡ clear_of scene.now (found members.now) }
 {
     let path = read_path(scene, members.path)?;
-    Ok(Action::Clear(path))
+    Ok(Action::Ask(Ask::Clear(path)))
 }
 
-/// What the event of a table does in the scene.
-#[tactic(auto, unfolding(crate::specs::Action::action_of))]
-pub(crate) fn action_of(
-    alloc: Global,
-    verb: Verb,
-    scene: &Scene<'_>,
-    members: &EventMembers<'_>,
-) -> Result<Action, EntryFault>
-    ensures { EqualUnless Memory result (action_of verb scene.now (found members.now)) }
-{
-    match verb {
-        Verb::Plug => plug_of(scene, members),
-        Verb::Unplug => unplug_of(scene, members),
-        Verb::Show => Ok(Action::Show),
-        Verb::Send => send_of(alloc, scene, members),
-        Verb::Receive => receive_of(scene, members),
-        Verb::Clear => clear_of(scene, members),
-    }
+/// The keys that go with an event's `do` and `after`.
+#[derive(Clone, Copy)]
+pub(crate) enum OtherKeys {
+    /// None.
+    Alone,
+    /// `path`.
+    Path,
+    /// `path` and `device`.
+    PathDevice,
+    /// `path` and `bytes`.
+    PathBytes,
+    /// `path` and `packets`.
+    PathPackets,
 }
 
-/// Whether each key that is there goes with the verb.
+/// Whether each key that is there is one of those, `do` or `after`.
 #[tactic(auto, unfolding(crate::specs::Action::fits))]
-fn fits(verb: Verb, members: &EventMembers<'_>) -> bool
-    ensures { result ≡ fits verb (found members.now) }
+fn fits(keys: OtherKeys, members: &EventMembers<'_>) -> bool
+    ensures { result ≡ fits keys (found members.now) }
 {
     let known = !members.has_others;
     let no_device = members.device.is_none();
     let no_bytes = members.bytes.is_none();
     let no_packets = members.packets.is_none();
-    match verb {
-        Verb::Plug => known && no_packets && no_bytes,
-        Verb::Unplug | Verb::Clear => known && no_packets && no_bytes && no_device,
-        Verb::Show => known && no_packets && no_bytes && no_device && members.path.is_none(),
-        Verb::Send => known && no_packets && no_device,
-        Verb::Receive => known && no_bytes && no_device,
+    match keys {
+        OtherKeys::Alone => {
+            known && no_packets && no_bytes && no_device && members.path.is_none()
+        }
+        OtherKeys::Path => known && no_packets && no_bytes && no_device,
+        OtherKeys::PathDevice => known && no_packets && no_bytes,
+        OtherKeys::PathBytes => known && no_packets && no_device,
+        OtherKeys::PathPackets => known && no_bytes && no_device,
     }
 }
 
 /// Refuses a key that does not go with `do`.
 #[tactic(auto, unfolding(crate::specs::Action::keys_given))]
-pub(crate) fn keys_given(verb: Verb, members: &EventMembers<'_>) -> Result<(), EntryFault>
-    ensures { result ≡ keys_given verb (found members.now) }
+pub(crate) fn keys_given(keys: OtherKeys, members: &EventMembers<'_>) -> Result<(), EntryFault>
+    ensures { result ≡ keys_given keys (found members.now) }
 {
-    if fits(verb, members) {
+    if fits(keys, members) {
         Ok(())
     } else {
         Err(EntryFault::BadValue)

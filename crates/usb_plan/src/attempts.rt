@@ -7,7 +7,7 @@ ghost use Rattle.usb_plan.specs.Attempts.{plugged_total, greatest_total, moved, 
 
 use usb_descriptor::config_head;
 use usb_device::DeviceSpec;
-use usb_world::{Action, Event, Plan};
+use usb_world::{Action, Ask, Change, Event, Plan};
 
 /// The first 9 bytes, or all that there are.
 fn head(text: &[u8]) -> &[u8]
@@ -46,7 +46,7 @@ fn plugged_total(devices: &[DeviceSpec], event: &Event) -> u64
     ensures most { result ≤ 524280 }
 {
     match &event.action {
-        Action::Plug(_, device) => match devices.get(*device) {
+        Action::Change(Change::Plug(_, device)) => match devices.get(*device) {
             Some(device) => said_lengths(device),
             None => 0,
         },
@@ -72,8 +72,8 @@ fn moved(event: &Event) -> u64
     ensures { result ≡ moved event.now }
 {
     match &event.action {
-        Action::Send(_, bytes) => bytes.as_slice().len() as u64,
-        Action::Receive(_, packets) => u64::from(*packets),
+        Action::Ask(Ask::Send(_, bytes)) => bytes.as_slice().len() as u64,
+        Action::Ask(Ask::Receive(_, packets)) => u64::from(*packets),
         _ => 0,
     }
 }

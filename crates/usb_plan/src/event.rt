@@ -4,19 +4,20 @@ ghost use Rattle.std.specs.Prelude.{◌≡◌, ◌≤◌, IfOk, option_map, map,
 ghost use Rattle.usb_plan.specs.declared.fault.PlanFault.TheVariants.{Memory as NoMemory};
 ghost use Rattle.toml.specs.View.{view, table_view};
 ghost use Rattle.usb_world.specs.PlanData.{events_fit};
-ghost use Rattle.usb_plan.specs.Action.{action_of, keys_of, keys_given};
+ghost use Rattle.usb_plan.specs.Action.{keys_of, keys_given};
+ghost use Rattle.usb_plan.specs.Verb.{action_of, other_keys};
 ghost use Rattle.usb_plan.specs.EventMembers.{found};
 ghost use Rattle.usb_plan.specs.EntryFault.{EqualUnless};
 ghost use Rattle.usb_plan.specs.declared.entry_fault.EntryFault.TheVariants.{Memory};
 ghost use Rattle.usb_plan.specs.Event.{after_at, event_room, event_with, event_given, event_of, event_in, events_from};
 
-use crate::action::{action_of, keys_given};
+use crate::action::keys_given;
 use crate::entry_fault::{EntryFault, entry_at, fault_in_part, least_fault};
 use crate::fault::{Place, PlanFault};
 use crate::members::EventMembers;
 use crate::scene::Scene;
 use crate::value::number_or;
-use crate::verb::{Verb, verb_at};
+use crate::verb::{Verb, action_of, other_keys, verb_at};
 use std::alloc::Global;
 use toml::{Table, Value};
 use usb_device::DeviceSpec;
@@ -82,7 +83,8 @@ fn event_given(
 {
     let action = action_of(alloc, verb, scene, members);
     let after = after_at(members.after);
-    event_with(action, after, keys_given(verb, members), event_room(count))
+    let keys = keys_given(other_keys(verb), members);
+    event_with(action, after, keys, event_room(count))
 }
 
 /// Where `do` is absent or unknown nothing else of the event is looked at.

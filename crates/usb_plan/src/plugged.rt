@@ -7,7 +7,7 @@ use std::alloc::{AllocError, Global};
 use std::collections::BTreeMap;
 use std::marker::Model;
 use usb_port::PortPath;
-use usb_world::Action;
+use usb_world::{Action, Change};
 
 /// The devices that are plugged, by their index among the plan's devices, at their paths.
 #[derive(Drop)]
@@ -75,11 +75,11 @@ impl Plugged {
         ensures { OnOk result (self.new ≡ plugged_after action.now self.old) }
     {
         match action {
-            Action::Plug(path, device) => {
+            Action::Change(Change::Plug(path, device)) => {
                 self.places.insert(path.duplicate(), *device)?;
             }
-            Action::Unplug(path) => self.unplug(path),
-            _ => {}
+            Action::Change(Change::Unplug(path)) => self.unplug(path),
+            Action::Ask(_) => {}
         }
         Ok(())
     }

@@ -1,12 +1,20 @@
-//! The key `do` of an event.
+//! The key `do` of an event: its words, and of each the keys that go with it, and what it does.
 
 ghost use Rattle.std.specs.Prelude.{◌≡◌, option_map};
 ghost use Rattle.toml.specs.View.{view};
-ghost use Rattle.usb_plan.specs.Verb.{verb_named, verb_at};
+ghost use Rattle.usb_plan.specs.EntryFault.{EqualUnless};
+ghost use Rattle.usb_plan.specs.EventMembers.{found};
+ghost use Rattle.usb_plan.specs.Verb.{verb_named, verb_at, other_keys, action_of};
+ghost use Rattle.usb_plan.specs.declared.entry_fault.EntryFault.TheVariants.{Memory};
 
+use crate::action::{OtherKeys, clear_of, plug_of, receive_of, send_of, unplug_of};
 use crate::entry_fault::EntryFault;
+use crate::members::EventMembers;
+use crate::scene::Scene;
 use crate::value::read_text;
+use std::alloc::Global;
 use toml::Value;
+use usb_world::{Action, Ask};
 
 /// What an event does.
 #[derive(Clone, Copy)]
@@ -40,4 +48,39 @@ pub(crate) fn verb_at(value: Option<&Value>) -> Result<Verb, EntryFault>
     ensures { result ≡ verb_at (option_map (λ v. view v.now) value.entry) }
 {
     verb_named(read_text(value)?)
+}
+
+/// The keys that go with `do` and `after`.
+#[tactic(auto, unfolding(crate::specs::Verb::other_keys))]
+pub(crate) fn other_keys(verb: Verb) -> OtherKeys
+    ensures { result ≡ other_keys verb }
+{
+    match verb {
+        Verb::Plug => OtherKeys::PathDevice,
+        Verb::Unplug => OtherKeys::Path,
+        Verb::Show => OtherKeys::Alone,
+        Verb::Send => OtherKeys::PathBytes,
+        Verb::Receive => OtherKeys::PathPackets,
+        Verb::Clear => OtherKeys::Path,
+    }
+}
+
+/// What the event of a table does in the scene.
+#[tactic(auto, unfolding(crate::specs::Verb::action_of))]
+pub(crate) fn action_of(
+    alloc: Global,
+    verb: Verb,
+    scene: &Scene<'_>,
+    members: &EventMembers<'_>,
+) -> Result<Action, EntryFault>
+    ensures { EqualUnless Memory result (action_of verb scene.now (found members.now)) }
+{
+    match verb {
+        Verb::Plug => plug_of(scene, members),
+        Verb::Unplug => unplug_of(scene, members),
+        Verb::Show => Ok(Action::Ask(Ask::Show)),
+        Verb::Send => send_of(alloc, scene, members),
+        Verb::Receive => receive_of(scene, members),
+        Verb::Clear => clear_of(scene, members),
+    }
 }

@@ -4,7 +4,7 @@ use std::cell::RefCell;
 use std::io;
 use std::io::{Error, ErrorKind, Read, Write};
 use usb_bus::{Plan, Tracer, Watched};
-use usb_far::{FarEnd, FarFault, serve};
+use usb_far::{FarEnd, serve};
 use usb_live::{LiveEnd, live};
 
 /// The most questions.
@@ -20,8 +20,6 @@ struct Link {
     read: usize,
     /// What the host has told.
     told: Vec<u8>,
-    /// Why the far end says no more.
-    fault: Option<FarFault>,
 }
 
 impl Link {
@@ -29,8 +27,7 @@ impl Link {
     fn take(&mut self, lines: &[u8]) -> io::Result<()> {
         let mut reader = Watched::new(lines);
         let mut writer = Watched::new(Vec::new(self.alloc));
-        if let Err((_, fault)) = serve(&mut self.far, &mut reader, &mut writer) {
-            self.fault = Some(fault);
+        if serve(&mut self.far, &mut reader, &mut writer).is_err() {
             return Err(Error::from(ErrorKind::Other));
         }
         let said = writer.into_inner();
@@ -77,8 +74,6 @@ impl Write for Ends<'_> {
 pub(crate) struct Course {
     /// How it ended.
     pub(crate) ended: Result<(), LiveEnd>,
-    /// Why the far end said no more, if it did not to the end.
-    pub(crate) fault: Option<FarFault>,
     /// The lines that were told.
     pub(crate) told: Vec<u8>,
 }
@@ -91,10 +86,9 @@ pub(crate) fn course_of(alloc: Global, plan: &Plan) -> Result<Course, AllocError
         answers: Vec::new(alloc),
         read: 0,
         told: Vec::new(alloc),
-        fault: None,
     });
     let ends = Ends(&link);
     let (ended, _reader, _writer) = live(alloc, Watched::new(ends), Watched::new(ends), LIMIT);
-    let Link { told, fault, .. } = link.into_inner();
-    Ok(Course { ended, fault, told })
+    let Link { told, .. } = link.into_inner();
+    Ok(Course { ended, told })
 }

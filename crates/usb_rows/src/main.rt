@@ -9,7 +9,6 @@ use std::alloc::{AllocError, Global};
 use std::rt::Files;
 use std::{fs, io, str};
 use usb_bus::Watched;
-use usb_far::FarFault;
 use usb_serve::{Mode, ServeFault, plan_of, serve};
 use usb_text::packet_line;
 
@@ -86,7 +85,7 @@ fn is_as_wanted<R: Files + Print + AllocGlobal>(
 }
 
 /// Whether a host before the far end of a row's plan tells what is wanted in mode Tree, but for the bound. Rows that do
-/// not end well are left out, and those that send more than a line has room for.
+/// not end well are left out.
 fn is_told_live<R: Files + Print + AllocGlobal>(rt: &R, name: &str) -> io::Result<bool> {
     let alloc = rt.alloc();
     let status = fs::read_to_string(rt, format!(in alloc; "{name}.status")?)?;
@@ -99,9 +98,6 @@ fn is_told_live<R: Files + Print + AllocGlobal>(rt: &R, name: &str) -> io::Resul
     };
     let wanted = fs::read_to_string(rt, format!(in alloc; "{name}.tree.txt")?)?;
     let course = course_of(alloc, &plan)?;
-    if course.fault == Some(FarFault::LongSend) {
-        return Ok(true);
-    }
     if let Err(end) = course.ended {
         println!(rt; "{name} live: {end}")?;
         return Ok(false);

@@ -1,7 +1,8 @@
 -- The lemmas that crates above cite. All others are for this crate alone.
+pub use Rattle.usb_serve.proofs.AskedCalls.{Answered, silent, listed, sent, received, cleared, answered}
 pub use Rattle.usb_serve.proofs.Causes.{at_fault, run_limit}
 pub use Rattle.usb_serve.proofs.Ends.{knows_opened, limit_opened}
-pub use Rattle.usb_serve.proofs.KnowledgeKept.{came_running, came_still, knows_then, makes_knows, puts_knows}
+pub use Rattle.usb_serve.proofs.KnowledgeKept.{came_knows, came_running, came_still, item_stays, knows_then, makes_knows, puts_knows}
 pub use Rattle.usb_serve.proofs.LineEnds.{joined_lines}
 pub use Rattle.usb_serve.proofs.Moments.{run_lists_right}
 pub use Rattle.usb_serve.proofs.RunCourses.{Onward, called_onward, comes_onward, puts_onward, traced_onward}

@@ -2,8 +2,7 @@
 use Rattle.std.proofs.Common.{◌≡◌, ◌∙◌, sym, ap, subst, Bool, false, ℕ, List, Option, None, Some, Result, Ok}
 use Rattle.std.specs.Prelude.{is_some}
 use Rattle.usb_device.specs.Tree.{Ports}
-use Rattle.usb_world.specs.declared.event.Due.{Due}
-use Rattle.usb_world.specs.declared.event.Due.TheVariants.{Changed, Show, Send, Receive, Clear}
+use Rattle.usb_world.specs.declared.event.Ask.{Ask}
 use Rattle.usb_world.specs.Paths.{pend}
 use Rattle.usb_world.specs.Steps.{EventEnds}
 use Rattle.usb_world.specs.Wire.{AtMostTwoRunning}
@@ -18,10 +17,11 @@ use Rattle.usb_host.specs.Hosting.{Hosting}
 use Rattle.usb_host.specs.Soundness.{IsAtRest, IsFairTo, IsSound, StaysSound}
 use Rattle.usb_host.proofs.Interface.{accounted, settled_matches, sound_event, sound_none}
 use Rattle.usb_serve.specs.declared.runs.Item.{Item}
-use Rattle.usb_serve.specs.RunSegments.{Arrives, Comes, Knows, LeavesSettled, Ran, idle, changed, Reaches, Rounds, none, more, Settled, Settles}
+use Rattle.usb_serve.specs.RunSegments.{Arrives, Comes, Knows, LeavesSettled, Ran, idle, silent, Reaches, Rounds, none, more, Settled, Settles}
 use Rattle.usb_serve.specs.Transcript.{AppendsText, Makes, asked, last}
 use Rattle.usb_host.specs.HostCalls.{TransferTells}
 use Rattle.usb_serve.specs.Transfers.{IsItemOf}
+use Rattle.usb_serve.proofs.AskedCalls.{answered, Calls, no_call, sends, receives, clears, item_calls}
 use Rattle.usb_serve.proofs.RunCourses.{Onward, called_onward, comes_onward, settles_onward}
 use Rattle.usb_serve.proofs.RunParts.{item_called, round_called, round_running, rounds_called}
 
@@ -88,19 +88,19 @@ settles_leaves a b settles = record {
 
 -- An event that came, and none that was left
 
-pub came_stays : (h k : Hosting) (due : Option Due) → Comes h (Ok due) k → StaysSound h k
+pub came_stays : (h k : Hosting) (due : Option (Option Ask)) → Comes h (Ok due) k → StaysSound h k
 came_stays h k due comes =
     let takes = comes.takes in
     sound_event h k comes.agrees (ap (λ (x : Hosting). x.entries) comes.rests) (ap (λ (x : Hosting). x.pipes) comes.rests) takes.exact
     (event_keeps h.world (Ok due) k.world takes.took takes.exact takes.kept takes.cut (λ reached none. cc (ap is_some none, takes.limit reached)))
 
-came_knows : (h k : Hosting) (due : Option Due) → Comes h (Ok due) k → Knows h → Knows k
+pub came_knows : (h k : Hosting) (due : Option (Option Ask)) → Comes h (Ok due) k → Knows h → Knows k
 came_knows h k due comes s = knows_then h k (comes_onward comes) (came_stays h k due comes) s
 
-pub came_running : (h k : Hosting) (due : Option Due) → Comes h (Ok due) k → k.stopped ≡ h.stopped
+pub came_running : (h k : Hosting) (due : Option (Option Ask)) → Comes h (Ok due) k → k.stopped ≡ h.stopped
 came_running h k due comes = ap (λ (x : Hosting). x.stopped) comes.rests
 
-pub came_still : (due : Option Due) (w v : World) → EventEnds w (Ok due) v → v.fault ≡ None
+pub came_still : (due : Option (Option Ask)) (w v : World) → EventEnds w (Ok due) v → v.fault ≡ None
 came_still None w v ends = ap (λ (x : World). x.fault) ends.same ∙ ends.sound
 came_still (Some due) w v ends = ends.still
 
@@ -112,7 +112,7 @@ rest_moved w v entries same rest = record {
 }
 
 -- it has settled still where nothing that is plugged changed
-pub came_settled : (h k : Hosting) (due : Option Due) → Comes h (Ok due) k → k.world.roots ≡ h.world.roots → Settled h → Settled k
+pub came_settled : (h k : Hosting) (due : Option (Option Ask)) → Comes h (Ok due) k → k.world.roots ≡ h.world.roots → Settled h → Settled k
 came_settled h k due comes calm settled =
     let entries : k.entries ≡ h.entries = ap (λ (x : Hosting). x.entries) comes.rests in
     let addresses : k.addresses ≡ h.addresses = ap (λ (x : Hosting). x.addresses) comes.rests in
@@ -123,20 +123,20 @@ came_settled h k due comes calm settled =
 
 -- Up to an event
 
-pub arrives_knows : {a b : Hosting} {due : Option Due} → Arrives a (Ok due) b → Knows b
+pub arrives_knows : {a b : Hosting} {due : Option (Option Ask)} → Arrives a (Ok due) b → Knows b
 arrives_knows {a} {b} {due} arrives = came_knows arrives.mid b due arrives.comes arrives.settled.knows
 
 pub ran_knows : {a b : Hosting} → Ran a b → Knows a → Knows b
 ran_knows idle s = s
-ran_knows (changed before arrives) s = arrives_knows arrives
+ran_knows (silent due before arrives is) s = arrives_knows arrives
 
-pub reaches_knows : {a b : Hosting} {due : Option Due} → Reaches a (Ok due) b → Knows b
+pub reaches_knows : {a b : Hosting} {due : Option (Option Ask)} → Reaches a (Ok due) b → Knows b
 reaches_knows reaches = arrives_knows reaches.arrives
 
-pub reaches_running : {a b : Hosting} {due : Option Due} → Reaches a (Ok due) b → b.stopped ≡ false
+pub reaches_running : {a b : Hosting} {due : Option (Option Ask)} → Reaches a (Ok due) b → b.stopped ≡ false
 reaches_running {b = b} {due = due} reaches = came_running reaches.arrives.mid b due reaches.arrives.comes ∙ reaches.arrives.settled.running
 
-pub reaches_still : {a b : Hosting} {due : Option Due} → Reaches a (Ok due) b → b.world.fault ≡ None
+pub reaches_still : {a b : Hosting} {due : Option (Option Ask)} → Reaches a (Ok due) b → b.world.fault ≡ None
 reaches_still {b = b} {due = due} reaches = came_still due reaches.arrives.mid.world b.world reaches.arrives.comes.takes.took.ends
 
 -- An item
@@ -144,12 +144,14 @@ reaches_still {b = b} {due = due} reaches = came_still due reaches.arrives.mid.w
 transfer_stays : {A : Type 0} {most : ℕ} {Did : Hosting → Result A HostFault → Hosting → Type 0} {a b : Hosting} {result : Result A HostFault} → TransferTells most Did a result b → StaysSound a b
 transfer_stays tells = tells.keeps.sound
 
-item_stays : (due : Due) (item : Option Item) (a b : Hosting) → IsItemOf due item a b → StaysSound a b
-item_stays Changed item a b is = subst (StaysSound a) (sym is.1) (sound_none a)
-item_stays Show item a b is = subst (StaysSound a) (sym is.1) (sound_none a)
-item_stays (Send path bytes) item a b is = transfer_stays is.2.call
-item_stays (Receive path packets) item a b is = transfer_stays is.2.call
-item_stays (Clear path) item a b is = transfer_stays is.2.call
+calls_stay : {due : Option Ask} {a b : Hosting} → Calls due a b → StaysSound a b
+calls_stay {a = a} (no_call same) = subst (StaysSound a) (sym same) (sound_none a)
+calls_stay (sends path bytes result asks tells) = transfer_stays tells
+calls_stay (receives path packets result asks tells) = transfer_stays tells
+calls_stay (clears path result asks tells) = transfer_stays tells
+
+pub item_stays : (due : Option Ask) (item : Option Item) (a b : Hosting) → IsItemOf due item a b → StaysSound a b
+item_stays due item a b is = calls_stay (item_calls (answered due item a b is))
 
 pub makes_knows : {a b : Hosting} {item : Item} {over : Bool} → Makes a item over b → Knows b
 makes_knows (asked {item} {mid} {new} due reaches is right) = knows_then mid new (called_onward (item_called due (Some item) mid new is)) (item_stays due (Some item) mid new is) (reaches_knows reaches)

@@ -4,13 +4,13 @@ use Rattle.std.specs.List.{sum_by}
 use Rattle.std.proofs.lemmas.List.Sums.{sum_by-cons}
 use Rattle.usb_world.specs.declared.event.Action.{Action}
 use Rattle.usb_world.specs.declared.event.Action.TheVariants as action
-use Rattle.usb_world.specs.declared.event.Due.{Due}
-use Rattle.usb_world.specs.declared.event.Due.TheVariants.{Changed, Show, Send, Receive, Clear}
+use Rattle.usb_world.specs.declared.event.Ask.{Ask}
+use Rattle.usb_world.specs.declared.event.Ask.TheVariants.{Send, Receive, Clear}
 use Rattle.usb_world.specs.declared.event.Event.{Event}
 use Rattle.usb_world.specs.declared.types.BusFault.{BusFault}
 use Rattle.usb_world.specs.PlanData.{PlanData, IsPlan}
 use Rattle.usb_world.specs.PlanCourses.{AtPorts}
-use Rattle.usb_world.specs.Steps.{AnyStep, Course, after, due_of, event, event_taken, opening, took, took_first}
+use Rattle.usb_world.specs.Steps.{AnyStep, Course, after, ask_of, event, event_taken, opening, took, took_first}
 use Rattle.usb_world.specs.World.{World, to_come}
 use Rattle.usb_world.proofs.Interface.{course_joined}
 use Rattle.usb_backlog.specs.Marks.{KeepsBy, looks_by, strays_by, unmarked}
@@ -36,6 +36,7 @@ use Rattle.usb_serve.specs.RunSegments.{Comes}
 use Rattle.usb_serve.specs.ServedRuns.{Opens}
 use Rattle.usb_host.specs.HostCalls.{TransferTells}
 use Rattle.usb_serve.specs.Transfers.{IsItemOf, StopsAt}
+use Rattle.usb_serve.proofs.AskedCalls.{answered, Calls, no_call, sends, receives, clears, item_calls, stop_calls}
 use Rattle.usb_serve.proofs.EventsLeft.{moved_left, ports_left}
 use Rattle.usb_serve.proofs.KnowledgeKept.{came_stays}
 use Rattle.usb_serve.proofs.PlanWeights.{looks_by-opening, strays_by-opening, totals_within, weights}
@@ -80,38 +81,35 @@ few_called {a} {b} most calls few working = split a.world.fault refl
 -- What an event pays
 
 -- a clear, what is sent, and what is received
-abbrev pub room_of : Due → ℕ
-room_of Changed = 0
-room_of Show = 0
-room_of (Send path bytes) = transaction_bound * length bytes
-room_of (Receive path packets) = transaction_bound * packets
-room_of (Clear path) = clear_bound
+abbrev pub room_of : Option Ask → ℕ
+room_of (Some (Send path bytes)) = transaction_bound * length bytes
+room_of (Some (Receive path packets)) = transaction_bound * packets
+room_of (Some (Clear path)) = clear_bound
+room_of _ = 0
 
-room_paid : (a : Action) → room_of (due_of a) ≤ 3200 + 1000 * moved_in a
-unfolding due_of
-room_paid (action.Plug path device) = omega arith
-room_paid (action.Unplug path) = omega arith
-room_paid action.Show = omega arith
-room_paid (action.Send path bytes) = omega arith
-room_paid (action.Receive path packets) = omega arith
-room_paid (action.Clear path) = omega arith
+room_paid : (a : Action) → room_of (ask_of a) ≤ 3200 + 1000 * moved_in a
+unfolding ask_of
+room_paid (action.Ask (Send path bytes)) = omega arith
+room_paid (action.Ask (Receive path packets)) = omega arith
+room_paid (action.Ask (Clear path)) = omega arith
+room_paid _ = omega arith
 
-room_moved : (e : Event) → room_of (due_of e.action) ≤ 3200 + 1000 * moved e
+room_moved : (e : Event) → room_of (ask_of e.action) ≤ 3200 + 1000 * moved e
 unfolding moved
 room_moved e = room_paid e.action
 
 -- the first event to come asks for this
-record IsFirst (w : World) (due : Due) : Type 0 where
+record IsFirst (w : World) (due : Option Ask) : Type 0 where
   e : Event
   events : List Event
   left : w.left ≡ e ∷ events
-  asks : due_of e.action ≡ due
+  asks : ask_of e.action ≡ due
 
-first_due : (w : World) (due : Due) → Some due ≡ next_due w → IsFirst w due
+first_due : (w : World) (due : Option Ask) → Some due ≡ next_due w → IsFirst w due
 unfolding next_due
 first_due w due is = split w.left refl is
   where
-    split : (l : List Event) → w.left ≡ l → Some due ≡ elim l [ [] ↦ None | e ∷ events ↦ Some (due_of e.action) ] → IsFirst w due
+    split : (l : List Event) → w.left ≡ l → Some due ≡ elim l [ [] ↦ None | e ∷ events ↦ Some (ask_of e.action) ] → IsFirst w due
     split [] same h = absurd (cc h)
     split (e ∷ events) same h = record { e = e; events = events; left = same; asks = cc h }
 
@@ -209,7 +207,7 @@ module _ (c : Weights) (plan : PlanData) where
 
   -- An event
 
-  module _ (a b : Hosting) (due : Due) (x : Paid c plan 0 a) (comes : Comes a (Ok (Some due)) b) where
+  module _ (a b : Hosting) (due : Option Ask) (x : Paid c plan 0 a) (comes : Comes a (Ok (Some due)) b) where
     came_work : AtWork a.world b.world
     came_work = comes_onward comes comes.takes.took.ends.still
 
@@ -273,19 +271,38 @@ module _ (c : Weights) (plan : PlanData) where
     transfer_paid : Paid c plan c.polls b
     transfer_paid = record { few = transfer_few; affords = transfer_affords; owes = transfer_owed }
 
-  item_paid : (a b : Hosting) (due : Due) (item : Option Item) → Paid c plan (c.polls + room_of due) a → IsItemOf due item a b → Paid c plan c.polls b
-  item_paid a b Changed item x is = subst (Paid c plan c.polls) (sym is.1) (paid_less a (c.polls + 0) c.polls (omega arith) x)
-  item_paid a b Show item x is = subst (Paid c plan c.polls) (sym is.1) (paid_less a (c.polls + 0) c.polls (omega arith) x)
-  item_paid a b (Send path bytes) item x is = transfer_paid (transaction_bound * length bytes) a b is.2.answer x is.2.call
-  item_paid a b (Receive path packets) item x is = transfer_paid (transaction_bound * packets) a b is.2.answer x is.2.call
-  item_paid a b (Clear path) item x is = transfer_paid clear_bound a b is.2.answer x is.2.call
+  asked_paid : (a : Hosting) {due asked : Option Ask} → due ≡ asked → Paid c plan (c.polls + room_of due) a
+      → Paid c plan (c.polls + room_of asked) a
+  asked_paid a asks x = subst (λ d. Paid c plan (c.polls + room_of d) a) asks x
 
-  stop_few : (a b : Hosting) (due : Due) (fault : RunFault) → Paid c plan (c.polls + room_of due) a → StopsAt due fault a b → Few all b
-  stop_few a b Changed fault x stops = absurd stops
-  stop_few a b Show fault x stops = subst (Few all) (sym stops.1) x.few
-  stop_few a b (Send path bytes) fault x stops = transfer_few (transaction_bound * length bytes) a b stops.answer x stops.call
-  stop_few a b (Receive path packets) fault x stops = transfer_few (transaction_bound * packets) a b stops.answer x stops.call
-  stop_few a b (Clear path) fault x stops = transfer_few clear_bound a b stops.answer x stops.call
+  calls_paid : (a b : Hosting) (due : Option Ask) → Paid c plan (c.polls + room_of due) a → Calls due a b
+      → Paid c plan c.polls b
+  calls_paid a b due x (no_call same) =
+      subst (Paid c plan c.polls) (sym same) (paid_less a (c.polls + room_of due) c.polls (omega arith) x)
+  calls_paid a b due x (sends path bytes result asks tells) =
+      transfer_paid (transaction_bound * length bytes) a b result (asked_paid a asks x) tells
+  calls_paid a b due x (receives path packets result asks tells) =
+      transfer_paid (transaction_bound * packets) a b result (asked_paid a asks x) tells
+  calls_paid a b due x (clears path result asks tells) =
+      transfer_paid clear_bound a b result (asked_paid a asks x) tells
+
+  calls_few : (a b : Hosting) (due : Option Ask) → Paid c plan (c.polls + room_of due) a → Calls due a b
+      → Few all b
+  calls_few a b due x (no_call same) = subst (Few all) (sym same) x.few
+  calls_few a b due x (sends path bytes result asks tells) =
+      transfer_few (transaction_bound * length bytes) a b result (asked_paid a asks x) tells
+  calls_few a b due x (receives path packets result asks tells) =
+      transfer_few (transaction_bound * packets) a b result (asked_paid a asks x) tells
+  calls_few a b due x (clears path result asks tells) =
+      transfer_few clear_bound a b result (asked_paid a asks x) tells
+
+  item_paid : (a b : Hosting) (due : Option Ask) (item : Option Item) → Paid c plan (c.polls + room_of due) a
+      → IsItemOf due item a b → Paid c plan c.polls b
+  item_paid a b due item x is = calls_paid a b due x (item_calls (answered due item a b is))
+
+  stop_few : (a b : Hosting) (due : Option Ask) (fault : RunFault) → Paid c plan (c.polls + room_of due) a
+      → StopsAt due fault a b → Few all b
+  stop_few a b due fault x stops = calls_few a b due x (stop_calls due fault a b stops)
 
   -- The trace
 

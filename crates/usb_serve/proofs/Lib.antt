@@ -1,6 +1,7 @@
 pub mod ToldTransfers
 pub mod Ends
 pub mod Causes
+pub mod AskedCalls
 pub mod RunParts
 pub mod KnowledgeKept
 pub mod LineEnds

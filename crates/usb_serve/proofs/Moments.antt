@@ -5,13 +5,13 @@ use Rattle.usb_device.specs.Spec.{Spec}
 use Rattle.usb_device.specs.Tree.{Ports}
 use Rattle.usb_world.specs.declared.event.Action.{Action}
 use Rattle.usb_world.specs.declared.event.Action.TheVariants as act
-use Rattle.usb_world.specs.declared.event.Due.{Due}
-use Rattle.usb_world.specs.declared.event.Due.TheVariants.{Changed, Show, Send, Receive, Clear}
+use Rattle.usb_world.specs.declared.event.Ask.{Ask}
+use Rattle.usb_world.specs.declared.event.Ask.TheVariants.{Show, Send, Receive, Clear}
 use Rattle.usb_world.specs.declared.event.Event.{Event}
 use Rattle.usb_world.specs.declared.types.BusFault.{BusFault}
 use Rattle.usb_world.specs.PlanData.{PlanData, IsPlan}
 use Rattle.usb_world.specs.PlanCourses.{AtPorts}
-use Rattle.usb_world.specs.Steps.{after, due_of, event, event_taken, happened, opening, took, took_first}
+use Rattle.usb_world.specs.Steps.{after, ask_of, event, event_taken, happened, opening, took, took_first}
 use Rattle.usb_world.specs.World.{World}
 use Rattle.usb_bus.specs.Lines.{next_due}
 use Rattle.usb_table.specs.Deliveries.{Delivered}
@@ -28,33 +28,33 @@ use Rattle.usb_serve.specs.RunSegments.{Reaches, Settled}
 use Rattle.usb_serve.specs.Run.{listing_of}
 use Rattle.usb_serve.specs.Transcript.{Makes, asked, last, RunsTo, StoppedRun, behind, on_the_way, unwritten, in_text, Transcript, begun, told}
 use Rattle.usb_serve.specs.Transfers.{IsItemOf, sent_count}
+use Rattle.usb_serve.proofs.AskedCalls.{Answered, silent, listed, sent, received, cleared, answered}
 use Rattle.usb_serve.proofs.KnowledgeKept.{came_settled, fair_after, fair_before, reaches_knows, reaches_running, reaches_still}
 use Rattle.usb_serve.proofs.RunCourses.{Onward, cuts_onward, makes_onward, onward_none, onward_then, puts_onward, stops_onward, transcript_onward}
 use Rattle.usb_serve.proofs.ToldTransfers.{told_sent, told_received, told_cleared, count_done}
 
--- A listing asks nothing of what is plugged
+-- What is asked changes nothing that is plugged
 
-show_calm : (a : Action) (devices : List Spec) (k : Ports) → Some (due_of a) ≡ Some Show → happened a devices k ≡ k
-unfolding due_of
-show_calm (act.Plug path device) devices k e = cc e
-show_calm (act.Unplug path) devices k e = cc e
-show_calm act.Show devices k e = refl
-show_calm (act.Send path bytes) devices k e = refl
-show_calm (act.Receive path packets) devices k e = refl
-show_calm (act.Clear path) devices k e = refl
+ask_calm : (a : Action) (ask : Ask) (devices : List Spec) (k : Ports) → Some (ask_of a) ≡ Some (Some ask)
+    → happened a devices k ≡ k
+unfolding ask_of
+ask_calm (act.Change change) ask devices k e = cc e
+ask_calm (act.Ask of_ask) ask devices k e = refl
 
-first_calm : (events : List Event) (w : World) → next_due (record w { left = events }) ≡ Some Show → (took_first events w).roots ≡ w.roots
+first_calm : (ask : Ask) (events : List Event) (w : World) → next_due (record w { left = events }) ≡ Some (Some ask)
+    → (took_first events w).roots ≡ w.roots
 unfolding next_due took
-first_calm [] w e = refl
-first_calm (x ∷ events) w e = show_calm x.action w.devices w.roots e
+first_calm ask [] w e = refl
+first_calm ask (x ∷ events) w e = ask_calm x.action ask w.devices w.roots e
 
-taken_calm : (fault : Option BusFault) (w : World) → next_due w ≡ Some Show → (event_taken fault w).roots ≡ w.roots
-taken_calm None w e = first_calm w.left w e
-taken_calm (Some fault) w e = refl
+taken_calm : (ask : Ask) (fault : Option BusFault) (w : World) → next_due w ≡ Some (Some ask)
+    → (event_taken fault w).roots ≡ w.roots
+taken_calm ask None w e = first_calm ask w.left w e
+taken_calm ask (Some fault) w e = refl
 
-shown_calm : (w : World) → next_due w ≡ Some Show → (after event w).roots ≡ w.roots
+asked_calm : (ask : Ask) (w : World) → next_due w ≡ Some (Some ask) → (after event w).roots ≡ w.roots
 unfolding after
-shown_calm w e = taken_calm w.fault w e
+asked_calm ask w e = taken_calm ask w.fault w e
 
 -- a run that is over ended with the bus at work
 
@@ -77,29 +77,41 @@ reaches_over {h} {k} reaches =
     let comes = reaches.arrives.comes in
     came_settled reaches.arrives.mid k None comes (ap (λ (w : World). w.roots) comes.takes.took.ends.same) reaches.arrives.settled
 
-reaches_shown : {h k : Hosting} → Reaches h (Ok (Some Show)) k → Settled k
-reaches_shown {h} {k} reaches =
+reaches_asked : {h k : Hosting} {ask : Ask} → Reaches h (Ok (Some (Some ask))) k → Settled k
+reaches_asked {h} {k} {ask} reaches =
     let comes = reaches.arrives.comes in
     let mid : Hosting = reaches.arrives.mid in
-    came_settled mid k (Some Show) comes (ap (λ (w : World). w.roots) comes.takes.exact ∙ shown_calm mid.world (sym comes.takes.asked)) reaches.arrives.settled
+    let calm = asked_calm ask mid.world (sym comes.takes.asked) in
+    came_settled mid k (Some (Some ask)) comes (ap (λ (w : World). w.roots) comes.takes.exact ∙ calm)
+    reaches.arrives.settled
 
 -- an item of an event that asked for it, by a host that had settled
-pub item_right : (due : Due) (made : Item) (h mid k : Hosting) → Reaches h (Ok (Some due)) mid → IsItemOf due (Some made) mid k → TellsRight due made mid k
-item_right Changed made h mid k reaches is = absurd (cc is.0)
-item_right Show made h mid k reaches is = subst Settled (sym is.1) (reaches_shown reaches)
-item_right (Send path bytes) made h mid k reaches is =
-    let e : made ≡ item.Sent path (sent_count (length bytes) is.0) = cc is.1 in
-    subst (λ (x : Item). TellsRight (Send path bytes) x mid k) (sym e)
-    (subst (λ (b : Bool). Delivered path b bytes (table_in mid) mid.world (table_in k) k.world) (count_done (length bytes) is.0)
-    (told_sent path mid k (reaches_knows reaches).sound (reaches_still reaches) (reaches_running reaches) bytes is.0 is.2))
-item_right (Receive path packets) made h mid k reaches is =
-    let e : made ≡ item.Received path is.0 = cc is.1 in
-    subst (λ (x : Item). TellsRight (Receive path packets) x mid k) (sym e)
-    (told_received path mid k (reaches_knows reaches).sound (reaches_still reaches) (reaches_running reaches) packets is.0 is.2)
-item_right (Clear path) made h mid k reaches is =
-    let e : made ≡ item.Cleared path is.0 = cc is.1 in
-    subst (λ (x : Item). TellsRight (Clear path) x mid k) (sym e)
-    (told_cleared path mid k (reaches_knows reaches).sound (reaches_still reaches) (reaches_running reaches) is.0 is.2)
+pub item_right : (due : Option Ask) (made : Item) (h mid k : Hosting) → Reaches h (Ok (Some due)) mid
+    → IsItemOf due (Some made) mid k → TellsRight due made mid k
+item_right due made h mid k reaches is = right (answered due (Some made) mid k is)
+  where
+    tells : (of_ask : Option Ask) (answer : Item) → due ≡ of_ask → Some made ≡ Some answer → TellsRight of_ask answer mid k
+        → TellsRight due made mid k
+    tells of_ask answer asks e so =
+        let same : made ≡ answer = cc e in
+        subst (λ d. TellsRight d made mid k) (sym asks) (subst (λ (i : Item). TellsRight of_ask i mid k) (sym same) so)
+
+    right : Answered due (Some made) mid k → TellsRight due made mid k
+    right (silent nothing same) = absurd (cc nothing)
+    right (listed asks e same) =
+        let shown = reaches_asked (subst (λ d. Reaches h (Ok (Some d)) mid) asks reaches) in
+        tells (Some Show) (listing_of k) asks e (subst Settled (sym same) shown)
+    right (sent path bytes answer asks e came) = tells (Some (Send path bytes)) _ asks e
+        (subst (λ (b : Bool). Delivered path b bytes (table_in mid) mid.world (table_in k) k.world)
+        (count_done (length bytes) answer)
+        (told_sent path mid k (reaches_knows reaches).sound (reaches_still reaches) (reaches_running reaches)
+        bytes answer came))
+    right (received path packets answer asks e came) = tells (Some (Receive path packets)) _ asks e
+        (told_received path mid k (reaches_knows reaches).sound (reaches_still reaches)
+        (reaches_running reaches) packets answer came)
+    right (cleared path answer asks e came) = tells (Some (Clear path)) _ asks e
+        (told_cleared path mid k (reaches_knows reaches).sound (reaches_still reaches)
+        (reaches_running reaches) answer came)
 
 -- Each listing is what is plugged
 
@@ -111,16 +123,27 @@ module _ (plan : PlanData) (rules : IsPlan plan) (paths : AtPorts plan.events) (
       let here = fair_after (opening plan) h.world h.world before early.still early in
       lists_of_plan plan rules paths h.world (before early.still).course h.entries (settled.matches here)
 
-  due_right : (due : Due) (made : Item) (mid k : Hosting) → Onward (opening plan) k.world → Onward k.world end → IsItemOf due (Some made) mid k → TellsRight due made mid k → IsListingOf plan made
-  due_right Changed made mid k before on is right = absurd (cc is.0)
-  due_right Show made mid k before on is right = let e : made ≡ listing_of k = cc is.0 in subst (IsListingOf plan) (sym e) (listing_right k before on right)
-  due_right (Send path bytes) made mid k before on is right = let e : made ≡ item.Sent path (sent_count (length bytes) is.0) = cc is.1 in subst (IsListingOf plan) (sym e) tt
-  due_right (Receive path packets) made mid k before on is right = let e : made ≡ item.Received path is.0 = cc is.1 in subst (IsListingOf plan) (sym e) tt
-  due_right (Clear path) made mid k before on is right = let e : made ≡ item.Cleared path is.0 = cc is.1 in subst (IsListingOf plan) (sym e) tt
+  due_right : {due : Option Ask} (made : Item) (mid k : Hosting) → Onward (opening plan) k.world
+      → Onward k.world end → Answered due (Some made) mid k → TellsRight due made mid k → IsListingOf plan made
+  due_right made mid k before on (silent nothing same) right = absurd (cc nothing)
+  due_right made mid k before on (listed asks e same) right =
+      let is : made ≡ listing_of k = cc e in
+      let settled = subst (λ d. TellsRight d made mid k) asks right in
+      subst (IsListingOf plan) (sym is) (listing_right k before on settled)
+  due_right made mid k before on (sent path bytes answer asks e came) right =
+      let is : made ≡ item.Sent path (sent_count (length bytes) answer) = cc e in
+      subst (IsListingOf plan) (sym is) tt
+  due_right made mid k before on (received path packets answer asks e came) right =
+      let is : made ≡ item.Received path answer = cc e in
+      subst (IsListingOf plan) (sym is) tt
+  due_right made mid k before on (cleared path answer asks e came) right =
+      let is : made ≡ item.Cleared path answer = cc e in
+      subst (IsListingOf plan) (sym is) tt
 
   made_right : {h k : Hosting} {made : Item} {over : Bool} → Onward (opening plan) h.world → Makes h made over k → Onward k.world end → IsListingOf plan made
   made_right {h} {k} {made} before (asked {mid = mid} due reaches is right) on =
-      due_right due made mid k (onward_then (opening plan) h.world k.world before (makes_onward (asked {item = made} {mid = mid} {new = k} due reaches is right))) on is right
+      due_right made mid k (onward_then (opening plan) h.world k.world before (makes_onward (asked {item = made} {mid = mid} {new = k} due reaches is right))) on
+      (answered due (Some made) mid k is) right
   made_right {h} {k} before (last reaches settled) on = listing_right k (onward_then (opening plan) h.world k.world before (makes_onward (last {new = k} reaches settled))) on settled
 
   items_right : {mode : Mode} {was : Bool} {old : Hosting} {items : List Item} {over : Bool} {new : Hosting} → Onward (opening plan) old.world → Transcript mode was old items over new → Onward new.world end

@@ -1,7 +1,7 @@
 -- The addresses that devices hold at the beginning of a run, and after an event.
 use Rattle.std.proofs.Common.{◌≡◌, refl, sym, ap, subst, false, ℕ, List, Option, None, Some, Result, Err}
 use Rattle.std.specs.Prelude.{OnOk, IsSome, is_some}
-use Rattle.usb_world.specs.declared.event.Due.{Due}
+use Rattle.usb_world.specs.declared.event.Ask.{Ask}
 use Rattle.usb_world.specs.declared.types.BusFault.{BusFault}
 use Rattle.usb_world.specs.declared.types.BusFault.TheVariants.{LimitReached, Memory, TraceFailed}
 use Rattle.usb_world.specs.PlanData.{PlanData}
@@ -17,7 +17,7 @@ pub untouched : (plan : PlanData) → IsUntouched (opening plan)
 untouched plan = record { single = refl; settled = opening_settled plan; none = opening_reach plan }
 
 -- what an event leaves of a host, whose bus stands for the world `mid` before it
-pub owning_event : (h : Hosting) (mid v : World) (t : Option (List ℕ)) (result : Result (Option Due) BusFault) → mid ≡ h.world → h.stopped ≡ false → TookEvent mid result v
+pub owning_event : (h : Hosting) (mid v : World) (t : Option (List ℕ)) (result : Result (Option (Option Ask)) BusFault) → mid ≡ h.world → h.stopped ≡ false → TookEvent mid result v
     → OnOk result (v ≡ after event mid)
     → (result ≡ Err Memory → mid.fault ≡ None → v ≡ record mid { fault = Some Memory })
     → (result ≡ Err TraceFailed → mid.fault ≡ None → v ≡ record (after event mid) { fault = Some TraceFailed })

@@ -7,7 +7,8 @@ use Rattle.usb_device.specs.Spec.{Spec}
 use Rattle.usb_device.specs.SaidLengths.{said_lengths}
 use Rattle.usb_device.specs.Tree.{new_ports, row_of}
 use Rattle.usb_world.specs.declared.event.Action.{Action}
-use Rattle.usb_world.specs.declared.event.Action.TheVariants.{Plug, Unplug, Show, Send, Receive, Clear}
+use Rattle.usb_world.specs.declared.event.Action.TheVariants.{Change, Ask}
+use Rattle.usb_world.specs.declared.event.Change.TheVariants.{Plug, Unplug}
 use Rattle.usb_world.specs.declared.event.Event.{Event}
 use Rattle.usb_world.specs.PlanData.{PlanData, IsPlan}
 use Rattle.usb_world.specs.World.{change_of, changes}
@@ -29,12 +30,9 @@ at_within most None h = tt
 at_within most (Some spec) h = h
 
 action_within : (most : ℕ) (devices : List Spec) (action : Action) → total_after devices action ≤ most → PlugsWithin most devices action
-action_within most devices (Plug path device) h = at_within most (slice_get devices device) h
-action_within most devices (Unplug path) h = tt
-action_within most devices Show h = tt
-action_within most devices (Send path bytes) h = tt
-action_within most devices (Receive path packets) h = tt
-action_within most devices (Clear path) h = tt
+action_within most devices (Change (Plug path device)) h = at_within most (slice_get devices device) h
+action_within most devices (Change (Unplug path)) h = tt
+action_within most devices (Ask ask) h = tt
 
 pub totals_within : (most : ℕ) (devices : List Spec) (events : List Event) → greatest_total devices events ≤ most → All (λ e. PlugsWithin most devices e.action) events
 unfolding greatest_total plugged_total

@@ -8,7 +8,8 @@ use Rattle.usb_world.specs.PlanData.{PlanData}
 use Rattle.usb_world.specs.World.{World, change_of, changes, root_row}
 use Rattle.usb_world.specs.Steps.{after, event, opening, took}
 use Rattle.usb_world.specs.declared.event.Action.TheVariants as act
-use Rattle.usb_world.specs.declared.event.Due.{Due}
+use Rattle.usb_world.specs.declared.event.Change.TheVariants as change
+use Rattle.usb_world.specs.declared.event.Ask.{Ask}
 use Rattle.usb_host.specs.Hosting.{Hosting, opening_host as host_opening, with_power}
 use Rattle.usb_plan.specs.declared.fault.PlanFault.{PlanFault}
 use Rattle.usb_plan.specs.declared.fault.PlanFault.TheVariants as plan_fault
@@ -18,13 +19,13 @@ use Rattle.usb_serve.specs.declared.serving.Mode.{Mode}
 use Rattle.usb_serve.specs.declared.serving.Mode.TheVariants.{Tree}
 use Rattle.usb_serve.specs.declared.serving.ServeFault.{ServeFault}
 use Rattle.usb_serve.specs.declared.serving.ServeFault.TheVariants as serve
-use Rattle.usb_serve.specs.RunSegments.{Arrives, Ran, idle, changed, Reaches}
+use Rattle.usb_serve.specs.RunSegments.{Arrives, Ran, idle, silent, Reaches}
 use Rattle.usb_serve.specs.ServedRuns.{EndsWell, IsServed, IsUnread, IsWritten, of_plan, unread}
 
 -- Events before their time
 
 -- behind an event at most one root port has its change of connection set, since the host had served all others
-pub arrives_one : {a b : Hosting} {due : Due} → Arrives a (Ok (Some due)) b → changes (root_row b.world) ≤ 1
+pub arrives_one : {a b : Hosting} {due : Option Ask} → Arrives a (Ok (Some due)) b → changes (root_row b.world) ≤ 1
 arrives_one {a} {b} {due} arrives =
     let settles = arrives.settles in
     let quiet = settles.last.did.did.quiet settles.ends.quiet in
@@ -41,7 +42,7 @@ two_plugs = record {
   limit = 10000;
   roots = 2;
   devices = function (0x66 ∷ []) [] [] ∷ [];
-  events = record { after = 4; action = act.Plug (1 ∷ []) 0 } ∷ record { after = 4; action = act.Plug (2 ∷ []) 0 } ∷ [];
+  events = record { after = 4; action = act.Change (change.Plug (1 ∷ []) 0) } ∷ record { after = 4; action = act.Change (change.Plug (2 ∷ []) 0) } ∷ [];
   damages = [];
 }
 
@@ -63,10 +64,10 @@ both_came = refl
 -- both plugs at once are no part of a run: the second comes only once the host has settled behind the first
 pub both_at_once : (k : Hosting) → k.world ≡ both → Ran first k → ⊥
 both_at_once k is idle = absurd (omega (arith, ap (λ (w : World). w.taken) is ∙ both_came))
-both_at_once k is (changed before arrives) = absurd (omega (arith, arrives_one arrives, ap (λ (w : World). changes (root_row w)) is ∙ both_set))
+both_at_once k is (silent due before arrives none) = absurd (omega (arith, arrives_one arrives, ap (λ (w : World). changes (root_row w)) is ∙ both_set))
 
 -- nor do they come before an event that asks for an item
-pub both_before : (due : Due) (k : Hosting) → k.world ≡ both → Reaches first (Ok (Some due)) k → ⊥
+pub both_before : (due : Option Ask) (k : Hosting) → k.world ≡ both → Reaches first (Ok (Some due)) k → ⊥
 both_before due k is reaches = absurd (omega (arith, arrives_one reaches.arrives, ap (λ (w : World). changes (root_row w)) is ∙ both_set))
 
 -- Faults without a cause

@@ -1,7 +1,6 @@
 -- A number that bounds the attempts of each part of a run bounds those of the whole.
 use Rattle.std.proofs.Common.{◌≡◌, ◌≤◌, ℕ, refl, sym, subst, List, Bool, false, Option, None, Some, Result, Ok, Err}
-use Rattle.usb_world.specs.declared.event.Due.{Due}
-use Rattle.usb_world.specs.declared.event.Due.TheVariants.{Changed}
+use Rattle.usb_world.specs.declared.event.Ask.{Ask}
 use Rattle.usb_world.specs.declared.types.BusFault.{BusFault}
 use Rattle.usb_host.specs.declared.fault.HostFault.{HostFault}
 use Rattle.usb_host.specs.declared.host.Round.{Round}
@@ -10,7 +9,7 @@ use Rattle.usb_serve.specs.declared.runs.Item.{Item}
 use Rattle.usb_serve.specs.declared.runs.RunFault.{RunFault}
 use Rattle.usb_serve.specs.declared.serving.Mode.{Mode}
 use Rattle.usb_host.specs.HostCalls.{RoundTells}
-use Rattle.usb_serve.specs.RunSegments.{Arrives, Comes, EndsSettling, Ran, idle, changed, Reaches, Rounds, none, more, Settles, Unsettled}
+use Rattle.usb_serve.specs.RunSegments.{Arrives, Comes, EndsSettling, Ran, idle, silent, Reaches, Rounds, none, more, Settles, Unsettled}
 use Rattle.usb_serve.specs.Transcript.{AppendsText, CutsText, Makes, asked, last, RunsTo, StoppedRun, behind, on_the_way, unwritten, in_text, Stops, in_round, at_event, in_item, in_last, Transcript, begun, told}
 use Rattle.usb_serve.specs.Transfers.{IsItemOf, StopsAt}
 
@@ -19,18 +18,18 @@ abbrev pub Few : ℕ → Hosting → Type 0
 Few most h = h.world.attempts ≤ most
 
 -- what is so of a host between the parts of a run (`At`), where it has settled (`Rest`) and behind an event (`Behind`), and that its attempts are few throughout
-pub record Carries (most : ℕ) (At Rest : Hosting → Type 0) (Behind : Due → Hosting → Type 0) : Type 0 where
+pub record Carries (most : ℕ) (At Rest : Hosting → Type 0) (Behind : Option Ask → Hosting → Type 0) : Type 0 where
   pub few : (a : Hosting) → At a → Few most a
   pub goes : (a b : Hosting) (round : Round) → At a → RoundTells a (Ok round) b → (EndsSettling round a b → ⊥) → At b
   pub settles : (a b : Hosting) (round : Round) → At a → RoundTells a (Ok round) b → EndsSettling round a b → Rest b
   pub fails : (a b : Hosting) (why : HostFault) → At a → RoundTells a (Err why) b → Few most b
-  pub comes : (a b : Hosting) (due : Due) → Rest a → Comes a (Ok (Some due)) b → Behind due b
-  pub ends : (a b : Hosting) (result : Result (Option Due) BusFault) → Rest a → Comes a result b → Few most b
-  pub answers : (a b : Hosting) (due : Due) (item : Option Item) → Behind due a → IsItemOf due item a b → At b
-  pub stops : (a b : Hosting) (due : Due) (fault : RunFault) → Behind due a → StopsAt due fault a b → Few most b
+  pub comes : (a b : Hosting) (due : Option Ask) → Rest a → Comes a (Ok (Some due)) b → Behind due b
+  pub ends : (a b : Hosting) (result : Result (Option (Option Ask)) BusFault) → Rest a → Comes a result b → Few most b
+  pub answers : (a b : Hosting) (due : Option Ask) (item : Option Item) → Behind due a → IsItemOf due item a b → At b
+  pub stops : (a b : Hosting) (due : Option Ask) (fault : RunFault) → Behind due a → StopsAt due fault a b → Few most b
   pub writes : (a : Hosting) (trace : Option (List ℕ)) → At a → At (record a { trace = trace })
 
-module _ (most : ℕ) (At Rest : Hosting → Type 0) (Behind : Due → Hosting → Type 0) (k : Carries most At Rest Behind) where
+module _ (most : ℕ) (At Rest : Hosting → Type 0) (Behind : Option Ask → Hosting → Type 0) (k : Carries most At Rest Behind) where
   rounds_at : {a b : Hosting} → Rounds a b → At a → At b
   rounds_at none h = h
   rounds_at (more {h = m} {k = n} round before tells goes) h = k.goes m n round (rounds_at before h) tells goes
@@ -41,20 +40,21 @@ module _ (most : ℕ) (At Rest : Hosting → Type 0) (Behind : Due → Hosting �
   unsettled_few : {a b : Hosting} {fault : RunFault} → Unsettled a fault b → At a → Few most b
   unsettled_few {a} {b} unsettled h = k.fails unsettled.before b unsettled.last.why (rounds_at unsettled.rounds h) unsettled.last.tells
 
-  arrives_behind : {a b : Hosting} {due : Due} → Arrives a (Ok (Some due)) b → At a → Behind due b
+  arrives_behind : {a b : Hosting} {due : Option Ask} → Arrives a (Ok (Some due)) b → At a → Behind due b
   arrives_behind {a} {b} {due} arrives h = k.comes arrives.mid b due (settles_rest arrives.settles h) arrives.comes
 
-  arrives_few : {a b : Hosting} {result : Result (Option Due) BusFault} → Arrives a result b → At a → Few most b
+  arrives_few : {a b : Hosting} {result : Result (Option (Option Ask)) BusFault} → Arrives a result b → At a → Few most b
   arrives_few {a} {b} {result} arrives h = k.ends arrives.mid b result (settles_rest arrives.settles h) arrives.comes
 
   ran_at : {a b : Hosting} → Ran a b → At a → At b
   ran_at idle h = h
-  ran_at (changed {h = m} {k = n} before arrives) h = k.answers n n Changed None (arrives_behind arrives (ran_at before h)) (refl, refl)
+  ran_at (silent {h = m} {k = n} due before arrives is) h =
+      k.answers n n due None (arrives_behind arrives (ran_at before h)) is
 
-  reaches_behind : {a b : Hosting} {due : Due} → Reaches a (Ok (Some due)) b → At a → Behind due b
+  reaches_behind : {a b : Hosting} {due : Option Ask} → Reaches a (Ok (Some due)) b → At a → Behind due b
   reaches_behind reaches h = arrives_behind reaches.arrives (ran_at reaches.ran h)
 
-  reaches_few : {a b : Hosting} {result : Result (Option Due) BusFault} → Reaches a result b → At a → Few most b
+  reaches_few : {a b : Hosting} {result : Result (Option (Option Ask)) BusFault} → Reaches a result b → At a → Few most b
   reaches_few reaches h = arrives_few reaches.arrives (ran_at reaches.ran h)
 
   makes_at : {a b : Hosting} {item : Item} {over : Bool} → Makes a item over b → over ≡ false → At a → At b

@@ -1,6 +1,6 @@
 -- As long as the bus is at work, what went over a run is a course of steps.
 use Rattle.std.proofs.Common.{◌≡◌, ℕ, List, Bool, Option, None, Some, Result, Ok, Err, refl, ap, sym, subst, ◌∙◌}
-use Rattle.usb_world.specs.declared.event.Due.{Due}
+use Rattle.usb_world.specs.declared.event.Ask.{Ask}
 use Rattle.usb_world.specs.declared.types.Attempt.{Attempt}
 use Rattle.usb_world.specs.declared.types.BusFault.{BusFault}
 use Rattle.usb_world.specs.declared.types.Outcome.{Outcome}
@@ -12,7 +12,7 @@ use Rattle.usb_host.specs.Hosting.{Hosting}
 use Rattle.usb_serve.specs.declared.runs.Item.{Item}
 use Rattle.usb_serve.specs.declared.runs.RunFault.{RunFault}
 use Rattle.usb_serve.specs.declared.serving.Mode.{Mode}
-use Rattle.usb_serve.specs.RunSegments.{Arrives, Comes, Ran, idle, changed, Reaches, Settles}
+use Rattle.usb_serve.specs.RunSegments.{Arrives, Comes, Ran, idle, silent, Reaches, Settles}
 use Rattle.usb_serve.specs.Transcript.{Makes, asked, last, Stops, in_round, at_event, in_item, in_last, AppendsText, CutsText, Transcript, begun, told}
 use Rattle.usb_serve.proofs.RunParts.{Called, item_called, settles_called, stop_called, unsettled_called}
 
@@ -52,7 +52,7 @@ traced_onward {w} (called {w = m} c port before) h =
     let work = traced_onward before h in
     record { sound = work.sound; course = course_joined work.course (step (root_call c port) tt (here (after (root_call c port) m))) }
 
-pub takes_onward : (w v : World) (result : Result (Option Due) BusFault) {t s : Option (List ℕ)} → TakesEvent w t result v s → Onward w v
+pub takes_onward : (w v : World) (result : Result (Option (Option Ask)) BusFault) {t s : Option (List ℕ)} → TakesEvent w t result v s → Onward w v
 takes_onward w v (Ok due) takes h =
     record { sound = sound_before w v (Ok due) h takes.took.again; course = subst (Course AnyStep w) (sym takes.exact) (step event tt (here (after event w))) }
 takes_onward w v (Err fault) takes h = absurd (cc (h, takes.took.ends.told))
@@ -65,20 +65,20 @@ GoesOn old new = Onward old.world new.world
 pub called_onward : {a b : Hosting} → Called a b → GoesOn a b
 called_onward calls = traced_onward calls.went.traced
 
-pub comes_onward : {a b : Hosting} {result : Result (Option Due) BusFault} → Comes a result b → GoesOn a b
+pub comes_onward : {a b : Hosting} {result : Result (Option (Option Ask)) BusFault} → Comes a result b → GoesOn a b
 comes_onward {a} {b} {result} comes = takes_onward a.world b.world result comes.takes
 
 pub settles_onward : {a b : Hosting} → Settles a b → GoesOn a b
 settles_onward settles = called_onward (settles_called settles)
 
-pub arrives_onward : {a b : Hosting} {result : Result (Option Due) BusFault} → Arrives a result b → GoesOn a b
+pub arrives_onward : {a b : Hosting} {result : Result (Option (Option Ask)) BusFault} → Arrives a result b → GoesOn a b
 arrives_onward {a} {b} arrives = onward_then a.world arrives.mid.world b.world (settles_onward arrives.settles) (comes_onward arrives.comes)
 
 pub ran_onward : {a b : Hosting} → Ran a b → GoesOn a b
 ran_onward {a} idle = onward_none a.world
-ran_onward {a} (changed {h} {k} before arrives) = onward_then a.world h.world k.world (ran_onward before) (arrives_onward arrives)
+ran_onward {a} (silent {h} {k} due before arrives is) = onward_then a.world h.world k.world (ran_onward before) (arrives_onward arrives)
 
-pub reaches_onward : {a b : Hosting} {result : Result (Option Due) BusFault} → Reaches a result b → GoesOn a b
+pub reaches_onward : {a b : Hosting} {result : Result (Option (Option Ask)) BusFault} → Reaches a result b → GoesOn a b
 reaches_onward {a} {b} reaches = onward_then a.world reaches.behind.world b.world (ran_onward reaches.ran) (arrives_onward reaches.arrives)
 
 pub makes_onward : {a b : Hosting} {item : Item} {over : Bool} → Makes a item over b → GoesOn a b

@@ -1,8 +1,7 @@
 -- How the parts of a run join, and what they leave of the counts.
 use Rattle.std.proofs.Common.{◌≡◌, refl, sym, ap, subst, arith, ℕ, ◌+◌, ◌≤◌, ◌<◌, List, Bool, true, false, Option, None, Some, Result, Ok, Err}
 use Rattle.std.specs.Prelude.{IsSome, IsTrue}
-use Rattle.usb_world.specs.declared.event.Due.{Due}
-use Rattle.usb_world.specs.declared.event.Due.TheVariants.{Changed, Show, Send, Receive, Clear}
+use Rattle.usb_world.specs.declared.event.Ask.{Ask}
 use Rattle.usb_world.specs.declared.types.BusFault.{BusFault}
 use Rattle.usb_world.specs.World.{World, Spends, to_come}
 use Rattle.usb_world.proofs.Interface.{spends_none, spends_then}
@@ -18,10 +17,12 @@ use Rattle.usb_serve.specs.declared.runs.Item.{Item}
 use Rattle.usb_serve.specs.declared.runs.RunFault.{RunFault}
 use Rattle.usb_serve.specs.Run.{Spent}
 use Rattle.usb_host.specs.HostCalls.{RoundTells}
-use Rattle.usb_serve.specs.RunSegments.{Arrives, Ran, idle, changed, Reaches, Rounds, none, more, Settled, Settles, Settling, Unsettled}
+use Rattle.usb_serve.specs.RunSegments as run
+use Rattle.usb_serve.specs.RunSegments.{Arrives, Ran, idle, Reaches, Rounds, none, more, Settled, Settles, Settling, Unsettled}
 use Rattle.usb_serve.specs.Transcript.{Makes, asked, last, Stops, in_round, at_event, in_item, in_last}
 use Rattle.usb_host.specs.HostCalls.{TransferTells}
 use Rattle.usb_serve.specs.Transfers.{Does, IsItemOf, StopsAt}
+use Rattle.usb_serve.proofs.AskedCalls.{Answered, silent, listed, sent, received, cleared, answered, Calls, no_call, sends, receives, clears, item_calls, stop_calls}
 
 -- Calls of the host
 
@@ -63,30 +64,29 @@ unsettled_called unsettled = called_then (rounds_called unsettled.rounds) (round
 transfer_called : {A : Type 0} {most : ℕ} {Did : Hosting → Result A HostFault → Hosting → Type 0} {a b : Hosting} {result : Result A HostFault} → TransferTells most Did a result b → Called a b
 transfer_called {A} {most} tells = record { most = most; went = tells.went }
 
-pub item_called : (due : Due) (item : Option Item) (a b : Hosting) → IsItemOf due item a b → Called a b
-item_called Changed item a b is = called_same a b is.1
-item_called Show item a b is = called_same a b is.1
-item_called (Send path bytes) item a b is = transfer_called is.2.call
-item_called (Receive path packets) item a b is = transfer_called is.2.call
-item_called (Clear path) item a b is = transfer_called is.2.call
+calls_called : {due : Option Ask} {a b : Hosting} → Calls due a b → Called a b
+calls_called {a = a} {b = b} (no_call same) = called_same a b same
+calls_called (sends path bytes result asks tells) = transfer_called tells
+calls_called (receives path packets result asks tells) = transfer_called tells
+calls_called (clears path result asks tells) = transfer_called tells
 
-pub stop_called : (due : Due) (fault : RunFault) (a b : Hosting) → StopsAt due fault a b → Called a b
-stop_called Changed fault a b stops = absurd stops
-stop_called Show fault a b stops = called_same a b stops.1
-stop_called (Send path bytes) fault a b stops = transfer_called stops.call
-stop_called (Receive path packets) fault a b stops = transfer_called stops.call
-stop_called (Clear path) fault a b stops = transfer_called stops.call
+pub item_called : (due : Option Ask) (item : Option Item) (a b : Hosting) → IsItemOf due item a b → Called a b
+item_called due item a b is = calls_called (item_calls (answered due item a b is))
+
+pub stop_called : (due : Option Ask) (fault : RunFault) (a b : Hosting) → StopsAt due fault a b → Called a b
+stop_called due fault a b stops = calls_called (stop_calls due fault a b stops)
 
 -- Joins
 
 pub ran_then : {a b c : Hosting} → Ran a b → Ran b c → Ran a c
 ran_then x idle = x
-ran_then x (changed {h} {k} before arrives) = changed {h = h} {k = k} (ran_then x before) arrives
+ran_then x (run.silent {h} {k} due before arrives is) =
+    run.silent {h = h} {k = k} due (ran_then x before) arrives is
 
-pub reaches_after : {a b c : Hosting} {result : Result (Option Due) BusFault} → Ran a b → Arrives b result c → Reaches a result c
+pub reaches_after : {a b c : Hosting} {result : Result (Option (Option Ask)) BusFault} → Ran a b → Arrives b result c → Reaches a result c
 reaches_after {b = b} before arrives = record { behind = b; ran = before; arrives = arrives }
 
-pub reaches_later : {a b c : Hosting} {result : Result (Option Due) BusFault} → Ran a b → Reaches b result c → Reaches a result c
+pub reaches_later : {a b c : Hosting} {result : Result (Option (Option Ask)) BusFault} → Ran a b → Reaches b result c → Reaches a result c
 reaches_later before reaches = record { behind = reaches.behind; ran = ran_then before reaches.ran; arrives = reaches.arrives }
 
 pub stops_after : {a b c : Hosting} {fault : RunFault} → Ran a b → Stops b fault c → Stops a fault c
@@ -95,27 +95,28 @@ stops_after before (at_event fault reaches) = at_event fault (reaches_later befo
 stops_after before (in_item due reaches stops) = in_item due (reaches_later before reaches) stops
 stops_after before (in_last reaches) = in_last (reaches_later before reaches)
 
--- an event that makes no item asked for nothing
-due_changed : (due : Due) (h k : Hosting) → IsItemOf due None h k → (due ≡ Changed) × (k ≡ h)
-due_changed Changed h k is = (refl, is.1)
-due_changed Show h k is = cc is.0
-due_changed (Send path bytes) h k is = cc is.1
-due_changed (Receive path packets) h k is = cc is.1
-due_changed (Clear path) h k is = cc is.1
+-- an event that makes no item leaves the host as it is
+silent_same : {due : Option Ask} {a b : Hosting} → Answered due None a b → b ≡ a
+silent_same (silent nothing same) = same
+silent_same (listed asks is same) = same
+silent_same (sent path bytes told asks is came) = cc is
+silent_same (received path packets told asks is came) = cc is
+silent_same (cleared path told asks is came) = cc is
 
 -- one event more that made no item
-pub ran_changed : {a b c : Hosting} (due : Due) (d : Hosting) → Ran a b → Arrives b (Ok (Some due)) c → IsItemOf due None c d → Ran a d
-ran_changed {a} {b} {c} due d before arrives is =
-    let plain = due_changed due c d is in
-    subst (Ran a) (sym plain.1) (changed {h = b} {k = c} before (subst (λ x. Arrives b (Ok (Some x)) c) plain.0 arrives))
+pub ran_silent : {a b c : Hosting} (due : Option Ask) (d : Hosting) → Ran a b → Arrives b (Ok (Some due)) c
+    → IsItemOf due None c d → Ran a d
+ran_silent {a} {b} {c} due d before arrives is =
+    let same = silent_same (answered due None c d is) in
+    subst (Ran a) (sym same) (run.silent {h = b} {k = c} due before arrives (subst (IsItemOf due None c) same is))
 
 -- an event behind settling, of a bus that stands for the host's world
-pub arrives_taken : (old mid new : Hosting) (result : Result (Option Due) BusFault) {w : World} {t : Option (List ℕ)} → Settles old mid → Settled mid → Agrees mid.entries mid.addresses → Rests mid new
+pub arrives_taken : (old mid new : Hosting) (result : Result (Option (Option Ask)) BusFault) {w : World} {t : Option (List ℕ)} → Settles old mid → Settled mid → Agrees mid.entries mid.addresses → Rests mid new
     → w ≡ mid.world → t ≡ mid.trace → TakesEvent w t result new.world new.trace → Arrives old result new
-arrives_taken old mid new result {w} {t} settles settled agrees rests same silent takes =
+arrives_taken old mid new result {w} {t} settles settled agrees rests same trace takes =
     let P : World → Type 0 = λ x. TakesEvent x mid.trace result new.world new.trace in
     let Q : Option (List ℕ) → Type 0 = λ x. TakesEvent w x result new.world new.trace in
-    record { mid = mid; settles = settles; settled = settled; comes = record { takes = subst P same (subst Q silent takes); rests = rests; agrees = agrees } }
+    record { mid = mid; settles = settles; settled = settled; comes = record { takes = subst P same (subst Q trace takes); rests = rests; agrees = agrees } }
 
 -- Counts
 
@@ -128,7 +129,7 @@ spent_then a b c (m, s) (n, t) = (m + n, spends_then m n a.world b.world c.world
 pub called_spent : {a b : Hosting} → Called a b → Spent a b
 called_spent calls = (calls.most, calls.went.spends)
 
-pub does_spent : (due : Due) (a b : Hosting) (result : Result (Option Item) RunFault) → Does due a result b → Spent a b
+pub does_spent : (due : Option Ask) (a b : Hosting) (result : Result (Option Item) RunFault) → Does due a result b → Spent a b
 does_spent due a b (Ok item) is = called_spent (item_called due item a b is)
 does_spent due a b (Err fault) stops = called_spent (stop_called due fault a b stops)
 
@@ -137,24 +138,24 @@ settling_spent a b (Ok done) settles = called_spent (settles_called settles)
 settling_spent a b (Err fault) unsettled = called_spent (unsettled_called unsettled)
 
 -- and an event behind it
-pub taken_spent : (a b : Hosting) (v : World) (result : Result (Option Due) BusFault) {w : World} {t s : Option (List ℕ)} → Spent a b → w ≡ b.world → TakesEvent w t result v s → (n : ℕ) × Spends n a.world v
+pub taken_spent : (a b : Hosting) (v : World) (result : Result (Option (Option Ask)) BusFault) {w : World} {t s : Option (List ℕ)} → Spent a b → w ≡ b.world → TakesEvent w t result v s → (n : ℕ) × Spends n a.world v
 taken_spent a b v result (m, spent) same takes = (m + 0, spends_then m 0 a.world b.world v spent (subst (λ w. Spends 0 w v) same takes.took.spends))
 
-pub taken_fewer : (a b : Hosting) (v : World) (due : Option Due) {w : World} {t s : Option (List ℕ)} → Spent a b → w ≡ b.world → TakesEvent w t (Ok due) v s → IsSome due → to_come v < to_come a.world
+pub taken_fewer : (a b : Hosting) (v : World) (due : Option (Option Ask)) {w : World} {t s : Option (List ℕ)} → Spent a b → w ≡ b.world → TakesEvent w t (Ok due) v s → IsSome due → to_come v < to_come a.world
 taken_fewer a b v None spent same takes some = absurd (cc some)
 taken_fewer a b v (Some due) (n, s) same takes some =
     let left = ap to_come same in
     let came = ap (λ (w : World). w.taken) same in
     omega (arith, left, came, s.events, s.onward, takes.took.spends.events, takes.took.ends.one)
 
-arrives_spent : {a b : Hosting} {result : Result (Option Due) BusFault} → Arrives a result b → Spent a b
+arrives_spent : {a b : Hosting} {result : Result (Option (Option Ask)) BusFault} → Arrives a result b → Spent a b
 arrives_spent {a} {b} arrives = spent_then a arrives.mid b (called_spent (settles_called arrives.settles)) (0, arrives.comes.takes.took.spends)
 
 ran_spent : {a b : Hosting} → Ran a b → Spent a b
 ran_spent {a} idle = spent_none a
-ran_spent {a} (changed {h} {k} before arrives) = spent_then a h k (ran_spent before) (arrives_spent arrives)
+ran_spent {a} (run.silent {h} {k} due before arrives is) = spent_then a h k (ran_spent before) (arrives_spent arrives)
 
-reaches_spent : {a b : Hosting} {result : Result (Option Due) BusFault} → Reaches a result b → Spent a b
+reaches_spent : {a b : Hosting} {result : Result (Option (Option Ask)) BusFault} → Reaches a result b → Spent a b
 reaches_spent {a} {b} reaches = spent_then a reaches.behind b (ran_spent reaches.ran) (arrives_spent reaches.arrives)
 
 pub makes_spent : {a b : Hosting} {item : Item} {over : Bool} → Makes a item over b → Spent a b

@@ -1,7 +1,7 @@
 -- A plan without events: no attempt is made, where rounds do nothing as long as there is nothing to do.
 use Rattle.std.proofs.Common.{◌≡◌, ◌≤◌, ℕ, refl, sym, subst, arith, List, [], Option, Some, Result, Ok, Err}
 use Rattle.std.specs.Prelude.{length}
-use Rattle.usb_world.specs.declared.event.Due.{Due}
+use Rattle.usb_world.specs.declared.event.Ask.{Ask}
 use Rattle.usb_world.specs.PlanData.{PlanData}
 use Rattle.usb_world.specs.World.{changes, root_row, to_come}
 use Rattle.usb_host.specs.declared.fault.HostFault.{HostFault}
@@ -21,7 +21,7 @@ pub record Void (h : Hosting) : Type 0 where
   pub few : h.world.attempts ≤ 0
   pub none : to_come h.world ≡ 0
 
-none_comes : (a b : Hosting) (due : Due) → Void a → Comes a (Ok (Some due)) b → ⊥
+none_comes : (a b : Hosting) (due : Option Ask) → Void a → Comes a (Ok (Some due)) b → ⊥
 none_comes a b due x comes = absurd (omega (arith, x.none, comes.takes.took.ends.one, comes.takes.took.spends.events))
 
 round_void : (a b : Hosting) (result : Result Round HostFault) → Void a → RoundTells a result b → Void b

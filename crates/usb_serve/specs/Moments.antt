@@ -1,8 +1,8 @@
 -- What is right of the items of a plan's run.
-use Rattle.std.specs.Prelude.{◌≤◌, ⊤, List, All, is_ok}
+use Rattle.std.specs.Prelude.{◌≤◌, ⊤, List, All, Option, Some, is_ok}
 use Rattle.std.specs.List.{AllByRecursion}
-use Rattle.usb_world.specs.declared.event.Due.{Due}
-use Rattle.usb_world.specs.declared.event.Due.TheVariants.{Show, Send, Receive, Clear}
+use Rattle.usb_world.specs.declared.event.Ask.{Ask}
+use Rattle.usb_world.specs.declared.event.Ask.TheVariants.{Show, Send, Receive, Clear}
 use Rattle.usb_world.specs.PlanData.{PlanData}
 use Rattle.usb_world.specs.Steps.{opening}
 use Rattle.usb_world.specs.World.{World}
@@ -18,11 +18,14 @@ use Rattle.usb_serve.specs.declared.runs.Report.{Report}
 
 -- what an item tells of the event that asked for it is so: of a listing the host had settled; the device at the path took the bytes that were to be sent,
 -- gave those that are told, or had its halts cleared
-abbrev pub TellsRight : Due → Item → Hosting → Hosting → Type 0
-TellsRight Show item old new = Settled new
-TellsRight (Send path bytes) (Sent to told) old new = Delivered path (is_ok told) bytes (table_in old) old.world (table_in new) new.world
-TellsRight (Receive path packets) (Received from told) old new = Collected path (is_ok told) packets (bytes_in told) (table_in old) old.world (table_in new) new.world
-TellsRight (Clear path) (Cleared at told) old new = Restarted path (is_ok told) (table_in old) old.world (table_in new) new.world
+abbrev pub TellsRight : Option Ask → Item → Hosting → Hosting → Type 0
+TellsRight (Some Show) item old new = Settled new
+TellsRight (Some (Send path bytes)) (Sent to told) old new =
+    Delivered path (is_ok told) bytes (table_in old) old.world (table_in new) new.world
+TellsRight (Some (Receive path packets)) (Received from told) old new =
+    Collected path (is_ok told) packets (bytes_in told) (table_in old) old.world (table_in new) new.world
+TellsRight (Some (Clear path)) (Cleared at told) old new =
+    Restarted path (is_ok told) (table_in old) old.world (table_in new) new.world
 TellsRight due item old new = ⊥
 
 -- What is plugged

@@ -1,7 +1,6 @@
 -- How a run goes up to its next item: the host settles, then an event comes.
 use Rattle.std.specs.Prelude.{◌≡◌, false, Option, None, Some, Result, Ok, Err}
-use Rattle.usb_world.specs.declared.event.Due.{Due}
-use Rattle.usb_world.specs.declared.event.Due.TheVariants.{Changed}
+use Rattle.usb_world.specs.declared.event.Ask.{Ask}
 use Rattle.usb_world.specs.declared.types.BusFault.{BusFault}
 use Rattle.usb_bus.specs.Traces.{TakesEvent}
 use Rattle.usb_table.specs.Listing.{Matches}
@@ -15,6 +14,7 @@ use Rattle.usb_host.specs.Progress.{Rests}
 use Rattle.usb_host.specs.Soundness.{Causes, IsAtRest, IsFairTo, IsSound}
 use Rattle.usb_serve.specs.declared.runs.RunFault.{RunFault}
 use Rattle.usb_serve.specs.Run.{round_fault}
+use Rattle.usb_serve.specs.Transfers.{IsItemOf}
 
 -- A host
 
@@ -80,25 +80,26 @@ pub record LeavesSettled (old new : Hosting) : Type 0 where
 -- Events
 
 -- the next event came, or none was left, or the bus told its fault; no line but the event's was written, and the host keeps what it had
-pub record Comes (old : Hosting) (result : Result (Option Due) BusFault) (new : Hosting) : Type 0 where
+pub record Comes (old : Hosting) (result : Result (Option (Option Ask)) BusFault) (new : Hosting) : Type 0 where
   pub takes : TakesEvent old.world old.trace result new.world new.trace
   pub rests : Rests old new
   pub agrees : Agrees old.entries old.addresses
 
 -- the host settled, and then the next event came, or none was left, or the bus told its fault
-pub record Arrives (old : Hosting) (result : Result (Option Due) BusFault) (new : Hosting) : Type 0 where
+pub record Arrives (old : Hosting) (result : Result (Option (Option Ask)) BusFault) (new : Hosting) : Type 0 where
   pub mid : Hosting
   pub settles : Settles old mid
   pub settled : Settled mid
   pub comes : Comes mid result new
 
--- events that ask nothing of the host, before each of which it settles
+-- events that make no item, before each of which the host settles
 pub data Ran (old : Hosting) : Hosting → Type 0 where
   idle : Ran old old
-  changed : {h k : Hosting} → Ran old h → Arrives h (Ok (Some Changed)) k → Ran old k
+  silent : {h k : Hosting} (due : Option Ask) → Ran old h → Arrives h (Ok (Some due)) k
+      → IsItemOf due None k k → Ran old k
 
 -- such events, and then one more, or none that was left, or the bus's fault
-pub record Reaches (old : Hosting) (result : Result (Option Due) BusFault) (new : Hosting) : Type 0 where
+pub record Reaches (old : Hosting) (result : Result (Option (Option Ask)) BusFault) (new : Hosting) : Type 0 where
   pub behind : Hosting
   pub ran : Ran old behind
   pub arrives : Arrives behind result new

@@ -2,7 +2,7 @@
 use Rattle.std.specs.Prelude.{◌≡◌, ℕ, List, [], ◌∷◌, ◌++◌, Bool, true, false, Option, None, Some, IsSome, Result, Ok, Err, OnOk, OnErr}
 use Rattle.std.specs.List.{concat}
 use Rattle.std.specs.Io.KnownBytes.{Appends}
-use Rattle.usb_world.specs.declared.event.Due.{Due}
+use Rattle.usb_world.specs.declared.event.Ask.{Ask}
 use Rattle.usb_world.specs.declared.types.BusFault.{BusFault}
 use Rattle.usb_bus.specs.Watch.{AppendsFront}
 use Rattle.usb_world.specs.Steps.{PutLine}
@@ -43,18 +43,18 @@ shown Run items item = item_text items item
 
 -- how the next item is made: an event asks for it, and the host does what the event asks and no more; the last one behind all events, and the run is over
 pub data Makes (old : Hosting) : Item → Bool → Hosting → Type 0 where
-  asked : {item : Item} {mid new : Hosting} (due : Due) → Reaches old (Ok (Some due)) mid → IsItemOf due (Some item) mid new → TellsRight due item mid new → Makes old item false new
+  asked : {item : Item} {mid new : Hosting} (due : Option Ask) → Reaches old (Ok (Some due)) mid → IsItemOf due (Some item) mid new → TellsRight due item mid new → Makes old item false new
   last : {new : Hosting} → Reaches old (Ok None) new → Settled new → Makes old (listing_of new) true new
 
 -- where a run stopped on the way to its next item, and with which fault: in a round, at an event, in what an event asked, or where memory was refused for the last listing
 pub data Stops (old : Hosting) : RunFault → Hosting → Type 0 where
   in_round : {behind new : Hosting} {fault : RunFault} → Ran old behind → Unsettled behind fault new → Stops old fault new
   at_event : {new : Hosting} (fault : BusFault) → Reaches old (Err fault) new → Stops old (run_fault fault) new
-  in_item : {mid new : Hosting} {fault : RunFault} (due : Due) → Reaches old (Ok (Some due)) mid → StopsAt due fault mid new → Stops old fault new
+  in_item : {mid new : Hosting} {fault : RunFault} (due : Option Ask) → Reaches old (Ok (Some due)) mid → StopsAt due fault mid new → Stops old fault new
   in_last : {new : Hosting} → Reaches old (Ok None) new → Stops old Memory new
 
 -- the next event
-abbrev pub NextEvent : Hosting → Result (Option Due) RunFault → Hosting → Type 0
+abbrev pub NextEvent : Hosting → Result (Option (Option Ask)) RunFault → Hosting → Type 0
 NextEvent old (Ok due) new = Arrives old (Ok due) new
 NextEvent old (Err fault) new = Stops old fault new
 

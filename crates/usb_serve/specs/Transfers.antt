@@ -1,8 +1,8 @@
 -- What a run makes of an event that has come, and what a transfer comes to.
-use Rattle.std.specs.Prelude.{◌≡◌, ℕ, List, length, Option, Some, None, Result, Ok, Err}
+use Rattle.std.specs.Prelude.{◌≡◌, ℕ, length, Option, Some, None, Result, Ok, Err}
 use Rattle.std.specs.Global.{Vec}
-use Rattle.usb_world.specs.declared.event.Due.{Due}
-use Rattle.usb_world.specs.declared.event.Due.TheVariants.{Changed, Show, Send, Receive, Clear}
+use Rattle.usb_world.specs.declared.event.Ask.{Ask}
+use Rattle.usb_world.specs.declared.event.Ask.TheVariants.{Show, Send, Receive, Clear}
 use Rattle.usb_pipe.specs.declared.fault.PipeFault.{PipeFault}
 use Rattle.usb_pipe.specs.declared.fault.PipeFault.TheVariants as pipe
 use Rattle.usb_host.specs.declared.fault.HostFault.{HostFault}
@@ -64,28 +64,33 @@ pub record TransferStops {A : Type 0} (Tells : Hosting → Result A HostFault �
 
 -- What a run makes of an event
 
--- a listing at once where the host is to list, and of a transfer to the device at a path what it came to
-abbrev pub IsItemOf : Due → Option Item → Hosting → Hosting → Type 0
-IsItemOf Changed item old new = (item ≡ None) × (new ≡ old)
-IsItemOf Show item old new = (item ≡ Some (listing_of new)) × (new ≡ old)
-IsItemOf (Send path bytes) item old new =
-    (told : Result (Unit {0}) TransferFault) × (item ≡ Some (Sent path (sent_count (length bytes) told))) × Transfers (SendTells path bytes) old told new
-IsItemOf (Receive path packets) item old new = (told : Result (Vec ℕ) TransferFault) × (item ≡ Some (Received path told)) × Transfers (ReceiveTells path packets) old told new
-IsItemOf (Clear path) item old new = (told : Result (Unit {0}) TransferFault) × (item ≡ Some (Cleared path told)) × Transfers (ClearTells path) old told new
+-- nothing of a change, a listing at once where the host is to list, and of a transfer to the device at a path what it came to
+abbrev pub IsItemOf : Option Ask → Option Item → Hosting → Hosting → Type 0
+IsItemOf None item old new = (item ≡ None) × (new ≡ old)
+IsItemOf (Some Show) item old new = (item ≡ Some (listing_of new)) × (new ≡ old)
+IsItemOf (Some (Send path bytes)) item old new =
+    (told : Result (Unit {0}) TransferFault) × (item ≡ Some (Sent path (sent_count (length bytes) told)))
+    × Transfers (SendTells path bytes) old told new
+IsItemOf (Some (Receive path packets)) item old new =
+    (told : Result (Vec ℕ) TransferFault) × (item ≡ Some (Received path told))
+    × Transfers (ReceiveTells path packets) old told new
+IsItemOf (Some (Clear path)) item old new =
+    (told : Result (Unit {0}) TransferFault) × (item ≡ Some (Cleared path told))
+    × Transfers (ClearTells path) old told new
 
 -- no item of it: memory was refused for a listing, or a transfer ended the run
-abbrev pub StopsAt : Due → RunFault → Hosting → Hosting → Type 0
-StopsAt Changed fault old new = ⊥
-StopsAt Show fault old new = (fault ≡ Memory) × (new ≡ old)
-StopsAt (Send path bytes) fault old new = TransferStops (SendTells path bytes) old fault new
-StopsAt (Receive path packets) fault old new = TransferStops (ReceiveTells path packets) old fault new
-StopsAt (Clear path) fault old new = TransferStops (ClearTells path) old fault new
+abbrev pub StopsAt : Option Ask → RunFault → Hosting → Hosting → Type 0
+StopsAt None fault old new = ⊥
+StopsAt (Some Show) fault old new = (fault ≡ Memory) × (new ≡ old)
+StopsAt (Some (Send path bytes)) fault old new = TransferStops (SendTells path bytes) old fault new
+StopsAt (Some (Receive path packets)) fault old new = TransferStops (ReceiveTells path packets) old fault new
+StopsAt (Some (Clear path)) fault old new = TransferStops (ClearTells path) old fault new
 
-abbrev pub Does : Due → Hosting → Result (Option Item) RunFault → Hosting → Type 0
+abbrev pub Does : Option Ask → Hosting → Result (Option Item) RunFault → Hosting → Type 0
 Does due old (Ok item) new = IsItemOf due item old new
 Does due old (Err fault) new = StopsAt due fault old new
 
--- the item of an event, or the fault in its place
-abbrev pub Gives : Due → Hosting → Result Item RunFault → Hosting → Type 0
-Gives due old (Ok item) new = IsItemOf due (Some item) old new
-Gives due old (Err fault) new = StopsAt due fault old new
+-- the item of what is asked, or the fault in its place
+abbrev pub Gives : Ask → Hosting → Result Item RunFault → Hosting → Type 0
+Gives ask old (Ok item) new = IsItemOf (Some ask) (Some item) old new
+Gives ask old (Err fault) new = StopsAt (Some ask) fault old new

@@ -24,7 +24,7 @@ use crate::transfer::{TransferFault, answered, counted};
 use std::alloc::{AllocError, AllocFailed, Global};
 use std::io::Write;
 use thiserror::Error;
-use usb_bus::{BusFault, Due, Plan, SimBus, Trace, Tracer, Untraced, Watched, untraced_fault};
+use usb_bus::{Ask, BusFault, Plan, SimBus, Trace, Tracer, Untraced, Watched, untraced_fault};
 use usb_host::{Host, HostFault, Round, Tree};
 use usb_port::PortPath;
 
@@ -354,7 +354,7 @@ fn item_of_events<T: Trace>(host: &mut Host<SimBus<T>>) -> Result<Option<Item>, 
 }
 
 /// Settles, and lets the next event come; None where none is left.
-fn next_due<T: Trace>(host: &mut Host<SimBus<T>>) -> Result<Option<Due>, RunFault>
+fn next_due<T: Trace>(host: &mut Host<SimBus<T>>) -> Result<Option<Option<Ask>>, RunFault>
     requires running { host.old.stopped ≡ false }
     ensures on { RunsOn (Knowing NextEvent) host.old result host.new }
     ensures spent { Spent host.old host.new }
@@ -366,18 +366,29 @@ fn next_due<T: Trace>(host: &mut Host<SimBus<T>>) -> Result<Option<Due>, RunFaul
     Ok(host.bus_mut().apply_next_event()?)
 }
 
-/// What the run makes of an event: a listing where the host is to list, and the answer of a transfer.
-fn item_of<T: Trace>(host: &mut Host<SimBus<T>>, due: Due) -> Result<Option<Item>, RunFault>
+/// What the run makes of an event: nothing of a change.
+fn item_of<T: Trace>(host: &mut Host<SimBus<T>>, due: Option<Ask>) -> Result<Option<Item>, RunFault>
     requires running { host.old.stopped ≡ false }
     ensures on { RunsOn (Does due) host.old result host.new }
     ensures owning { Owning host.old → Owning host.new }
 {
     match due {
-        Due::Changed => Ok(None),
-        Due::Show => Ok(Some(listing(host)?)),
-        Due::Send(path, bytes) => Ok(Some(send(host, path, bytes.as_slice())?)),
-        Due::Receive(path, packets) => Ok(Some(receive(host, path, packets)?)),
-        Due::Clear(path) => Ok(Some(clear(host, path)?)),
+        None => Ok(None),
+        Some(ask) => asked_item(host, ask),
+    }
+}
+
+/// What the run makes of what is asked: a listing where the host is to list, and the answer of a transfer.
+fn asked_item<T: Trace>(host: &mut Host<SimBus<T>>, ask: Ask) -> Result<Option<Item>, RunFault>
+    requires running { host.old.stopped ≡ false }
+    ensures on { RunsOn (Does (Some ask)) host.old result host.new }
+    ensures owning { Owning host.old → Owning host.new }
+{
+    match ask {
+        Ask::Show => Ok(Some(listing(host)?)),
+        Ask::Send(path, bytes) => Ok(Some(send(host, path, bytes.as_slice())?)),
+        Ask::Receive(path, packets) => Ok(Some(receive(host, path, packets)?)),
+        Ask::Clear(path) => Ok(Some(clear(host, path)?)),
     }
 }
 
@@ -388,7 +399,7 @@ fn send<T: Trace>(
     bytes: &[u8],
 ) -> Result<Item, RunFault>
     requires running { host.old.stopped ≡ false }
-    ensures on { RunsOn (Gives (Due.Send path bytes.now)) host.old result host.new }
+    ensures on { RunsOn (Gives (Ask.Send path bytes.now)) host.old result host.new }
     ensures owning { Owning host.old → Owning host.new }
 {
     let sent = answered(host.send(&path, bytes))?;
@@ -402,7 +413,7 @@ fn receive<T: Trace>(
     packets: u16,
 ) -> Result<Item, RunFault>
     requires running { host.old.stopped ≡ false }
-    ensures on { RunsOn (Gives (Due.Receive path packets)) host.old result host.new }
+    ensures on { RunsOn (Gives (Ask.Receive path packets)) host.old result host.new }
     ensures owning { Owning host.old → Owning host.new }
 {
     let received = answered(host.receive(&path, packets))?;
@@ -412,7 +423,7 @@ fn receive<T: Trace>(
 /// Clears the halts of the device at a path.
 fn clear<T: Trace>(host: &mut Host<SimBus<T>>, path: PortPath) -> Result<Item, RunFault>
     requires running { host.old.stopped ≡ false }
-    ensures on { RunsOn (Gives (Due.Clear path)) host.old result host.new }
+    ensures on { RunsOn (Gives (Ask.Clear path)) host.old result host.new }
     ensures owning { Owning host.old → Owning host.new }
 {
     let cleared = answered(host.clear_halt(&path))?;

@@ -1,9 +1,11 @@
 -- How lines are heard, one after the other, and what a question leaves.
-use Rattle.std.proofs.Common.{◌≡◌, ◌≢◌, ◌∙◌, inl, inr, ℕ, ◌-◌, ◌≤◌, List, [], ◌∷◌, ◌++◌, Option, Some, None, refl, sym, ap, subst, arith, append-nil}
+use Rattle.std.proofs.Common.{add-one, ◌≡◌, ◌≢◌, ◌∙◌, inl, inr, ℕ, ◌+◌, ◌-◌, ◌≤◌, ◌⊎◌, List, [], ◌∷◌, ◌++◌, Option, Some, None, refl, sym, ap, subst, arith, append-nil}
 use Rattle.std.specs.Prelude.{slice_set}
+use Rattle.std.proofs.lemmas.List.Elements.{All-nil}
 use Rattle.std.proofs.KnownBytes.{Appends-nil, Consumes-nil, Consumes-trans}
 use Rattle.std.specs.Io.KnownBytes.{Appends, Consumes}
 use Rattle.usb_bus.specs.Watch.{AppendsFront}
+use Rattle.usb_lines.specs.Lines.{IsUnbroken, ReadLine, ReadLong, ReadPart, ReadToEnd}
 use Rattle.usb_wire.specs.declared.answer.Answer.{Answer}
 use Rattle.usb_wire.specs.declared.answer.Answer.TheVariants as answer
 use Rattle.usb_wire.specs.declared.answer.Said.TheVariants.{Changed, Answered}
@@ -14,7 +16,7 @@ use Rattle.usb_wire.specs.declared.question.Question.{Question}
 use Rattle.usb_stream.specs.declared.fault.LiveFault.{LiveFault}
 use Rattle.usb_stream.specs.declared.fault.LiveFault.TheVariants.{LimitReached, Write}
 use Rattle.usb_stream.specs.declared.fault.LiveFault.TheVariants as fault
-use Rattle.usb_stream.specs.Stream.{AskedWell, AsksNoMore, AsksNothing, Heard, Kept, ReadSome, SaidLine, Says, Told, streams, questions}
+use Rattle.usb_stream.specs.Stream.{AskedWell, AsksNoMore, AsksNothing, Heard, Kept, ReadLines, ReadOne, SaidLine, Says, Told, WholeLines, counted_on, streams, questions}
 
 -- a status is a line: the end is none
 said_changed : (a : Asked) (roots : ℕ) (unread left : Option (List ℕ)) (number : ℕ) (status : List ℕ) → Says a roots unread left (Changed number status)
@@ -22,63 +24,162 @@ said_changed : (a : Asked) (roots : ℕ) (unread left : Option (List ℕ)) (numb
 said_changed a roots unread left number status (inl line) = line
 said_changed a roots unread left number status (inr end) = let is = end.is in cc
 
--- the lines so far tell these statuses
-pub record ToldSo (a : Asked) (roots : ℕ) (unread left : Option (List ℕ)) (old new : List (List ℕ)) : Type 0 where
+-- ---- lines that are counted
+
+counted_on-more : (lines more : ℕ) → counted_on (counted_on lines more) 1 ≡ counted_on lines (more + 1)
+counted_on-more lines more = sym (ap (counted_on lines) (add-one more))
+
+-- the lines so far tell these statuses, and are counted
+pub record ToldSo (a : Asked) (unread left : Option (List ℕ)) (old new : Kept) : Type 0 where
+  pub pushed : ℕ
   pub text : List ℕ
-  pub told : Told a roots old text new
+  pub told : Told a old.roots old.statuses pushed text new.statuses
   pub read : Consumes unread left text
+  pub lines : new.lines ≡ counted_on old.lines pushed
 
-pub told_none : (a : Asked) (roots : ℕ) (r : Option (List ℕ)) (old : List (List ℕ)) → ToldSo a roots r r old old
-told_none a roots r old = record { text = []; told = Told.none; read = Consumes-nil r }
+pub told_none : (a : Asked) (r : Option (List ℕ)) (k : Kept) → ToldSo a r r k k
+told_none a r k = record {
+  pushed = 0;
+  text = [];
+  told = Told.none;
+  read = Consumes-nil r;
+  lines = refl;
+}
 
-pub told_more : (a : Asked) (roots : ℕ) (r0 r1 r2 : Option (List ℕ)) (old mid : List (List ℕ)) (number : ℕ) (status : List ℕ) → ToldSo a roots r0 r1 old mid
-    → Says a roots r1 r2 (Changed number status) → ToldSo a roots r0 r2 old (slice_set mid (number - 1) status)
-told_more a roots r0 r1 r2 old mid number status so says =
-    let line = said_changed a roots r1 r2 number status says in
+told_more : (a : Asked) (fn l : Kept) (r0 r1 r2 : Option (List ℕ)) (number : ℕ) (status : List ℕ) → ToldSo a r0 r1 fn l
+    → Says a fn.roots r1 r2 (Changed number status)
+    → ToldSo a r0 r2 fn (record l { statuses = slice_set l.statuses (number - 1) status; lines = counted_on l.lines 1 })
+told_more a fn l r0 r1 r2 number status so says =
+    let line = said_changed a fn.roots r1 r2 number status says in
     record {
+      pushed = so.pushed + 1;
       text = so.text ++ (line.line ++ 10 ∷ []);
       told = Told.next line.line number status so.told line.unbroken line.may line.says;
       read = Consumes-trans r0 r1 r2 so.text (line.line ++ 10 ∷ []) so.read line.read;
+      lines = ap (λ n. counted_on n 1) so.lines ∙ counted_on-more fn.lines so.pushed;
     }
 
 pub hear_more : (a : Asked) (fn l n : Kept) (r0 r1 r2 : Option (List ℕ)) (number : ℕ) (status : List ℕ) (st : List (List ℕ))
-    → ToldSo a fn.roots r0 r1 fn.statuses l.statuses → l ≡ record fn { statuses = l.statuses } → n ≡ l
-    → Says a l.roots r1 r2 (Changed number status) → st ≡ slice_set n.statuses (number - 1) status → ToldSo a fn.roots r0 r2 fn.statuses st
+    → ToldSo a r0 r1 fn l → l ≡ record fn { statuses = l.statuses; lines = l.lines } → n ≡ record l { lines = counted_on l.lines 1 }
+    → Says a l.roots r1 r2 (Changed number status) → st ≡ slice_set n.statuses (number - 1) status
+    → ToldSo a r0 r2 fn (record n { statuses = st })
 hear_more a fn l n r0 r1 r2 number status st so same kept says is =
     let asked_of : Says a fn.roots r1 r2 (Changed number status) =
     subst (λ k. Says a k r1 r2 (Changed number status)) (ap (λ (k : Kept). k.roots) same) says in
-    subst (ToldSo a fn.roots r0 r2 fn.statuses) (sym (is ∙ ap (λ (k : Kept). slice_set k.statuses (number - 1) status) kept))
-    (told_more a fn.roots r0 r1 r2 fn.statuses l.statuses number status so asked_of)
+    let set : st ≡ slice_set l.statuses (number - 1) status =
+    is ∙ ap (λ (k : Kept). slice_set k.statuses (number - 1) status) kept in
+    let new : record n { statuses = st }
+    ≡ record l { statuses = slice_set l.statuses (number - 1) status; lines = counted_on l.lines 1 } =
+    ap (λ (k : Kept). record k { statuses = st }) kept ∙ ap (λ s. record l { statuses = s; lines = counted_on l.lines 1 }) set in
+    subst (ToldSo a r0 r2 fn) (sym new) (told_more a fn l r0 r1 r2 number status so asked_of)
 
-pub hear_same : (fn l n : Kept) (st : List (List ℕ)) → l ≡ record fn { statuses = l.statuses } → n ≡ l
-    → record n { statuses = st } ≡ record fn { statuses = st }
-hear_same fn l n st same kept = ap (λ (k : Kept). record k { statuses = st }) (kept ∙ same)
+pub hear_same : (fn l n : Kept) (st : List (List ℕ)) → l ≡ record fn { statuses = l.statuses; lines = l.lines }
+    → n ≡ record l { lines = counted_on l.lines 1 } → record n { statuses = st } ≡ record fn { statuses = st; lines = n.lines }
+hear_same fn l n st same kept =
+    ap (λ (k : Kept). record k { statuses = st; lines = n.lines }) (kept ∙ ap (λ (k : Kept). record k { lines = counted_on l.lines 1 }) same)
 
 -- a root port that there is
 pub number_within : (a : Asked) (roots number : ℕ) (status : List ℕ) (unread left : Option (List ℕ)) → Says a roots unread left (Changed number status)
     → (1 ≤ number) × (number ≤ roots)
 number_within a roots number status unread left says = let line = said_changed a roots unread left number status says in (line.may.1, line.may.2)
 
-pub heard_so : (a : Asked) (roots : ℕ) (r0 r1 r2 : Option (List ℕ)) (old new : List (List ℕ)) (got : Answer) → ToldSo a roots r0 r1 old new
-    → Says a roots r1 r2 (Answered got) → Heard a roots r0 r2 old got new
-heard_so a roots r0 r1 r2 old new got so says = record { text = so.text; mid = r1; told = so.told; read = so.read; answered = says }
+pub heard_so : (a : Asked) (fn l n : Kept) (r0 r1 r2 : Option (List ℕ)) (got : Answer) → ToldSo a r0 r1 fn l
+    → l ≡ record fn { statuses = l.statuses; lines = l.lines } → n ≡ record l { lines = counted_on l.lines 1 }
+    → Says a l.roots r1 r2 (Answered got) → Heard a fn.roots r0 r2 fn.statuses fn.lines got n.statuses n.lines
+heard_so a fn l n r0 r1 r2 got so same kept says =
+    subst (λ (k : Kept). Heard a fn.roots r0 r2 fn.statuses fn.lines got k.statuses k.lines) (sym kept) (record {
+      pushed = so.pushed;
+      text = so.text;
+      mid = r1;
+      told = so.told;
+      read = so.read;
+      answered = subst (λ k. Says a k r1 r2 (Answered got)) (ap (λ (k : Kept). k.roots) same) says;
+      lines = ap (λ m. counted_on m 1) so.lines ∙ counted_on-more fn.lines so.pushed;
+    })
 
-pub read_so : (a : Asked) (roots : ℕ) (r0 r1 r2 : Option (List ℕ)) (old new : List (List ℕ)) → ToldSo a roots r0 r1 old new → ReadSome r1 r2 → ReadSome r0 r2
-read_so a roots r0 r1 r2 old new so (more, read) = (so.text ++ more, Consumes-trans r0 r1 r2 so.text more so.read read)
+-- lines that tell statuses are whole
+whole_told : (a : Asked) (roots : ℕ) (old new : List (List ℕ)) (n : ℕ) (text : List ℕ) → Told a roots old n text new → WholeLines n text
+whole_told a roots old new n text Told.none = WholeLines.none
+whole_told a roots old new n text (Told.next line number status told unbroken may says) =
+    WholeLines.next line (whole_told a roots old _ _ _ told) unbroken
+
+pub read_all : (a : Asked) (r0 r1 : Option (List ℕ)) (fn l : Kept) → ToldSo a r0 r1 fn l → ReadLines r0 r1 fn.lines l.lines
+read_all a r0 r1 fn l so = record {
+  whole = so.pushed;
+  text = so.text;
+  are = whole_told a fn.roots fn.statuses l.statuses so.pushed so.text so.told;
+  part = [];
+  unbroken = All-nil _;
+  read = subst (Consumes r0 r1) (sym (append-nil so.text)) so.read;
+  lines = inl (refl, so.lines);
+}
+
+read_last : (a : Asked) (r0 r1 r2 : Option (List ℕ)) (fn l : Kept) (line : List ℕ) → ToldSo a r0 r1 fn l → IsUnbroken line
+    → Consumes r1 r2 (line ++ 10 ∷ []) ⊎ Consumes r1 r2 line → ReadLines r0 r2 fn.lines (counted_on l.lines 1)
+read_last a r0 r1 r2 fn l line so unbroken (inl whole) =
+    let all : List ℕ = so.text ++ (line ++ 10 ∷ []) in
+    record {
+      whole = so.pushed + 1;
+      text = all;
+      are = WholeLines.next line (whole_told a fn.roots fn.statuses l.statuses so.pushed so.text so.told) unbroken;
+      part = [];
+      unbroken = All-nil _;
+      read = subst (Consumes r0 r2) (sym (append-nil all)) (Consumes-trans r0 r1 r2 so.text (line ++ 10 ∷ []) so.read whole);
+      lines = inl (refl, ap (λ n. counted_on n 1) so.lines ∙ counted_on-more fn.lines so.pushed);
+    }
+read_last a r0 r1 r2 fn l line so unbroken (inr part) = record {
+  whole = so.pushed;
+  text = so.text;
+  are = whole_told a fn.roots fn.statuses l.statuses so.pushed so.text so.told;
+  part = line;
+  unbroken = unbroken;
+  read = Consumes-trans r0 r1 r2 so.text line so.read part;
+  lines = inr (ap (λ n. counted_on n 1) so.lines ∙ counted_on-more fn.lines so.pushed);
+}
+
+pub read_so : (a : Asked) (r0 r1 r2 : Option (List ℕ)) (fn l n : Kept) → ToldSo a r0 r1 fn l
+    → n ≡ record l { lines = counted_on l.lines 1 } → ReadOne r1 r2 → ReadLines r0 r2 fn.lines n.lines
+read_so a r0 r1 r2 fn l n so kept one =
+    subst (ReadLines r0 r2 fn.lines) (sym (ap (λ (k : Kept). k.lines) kept)) (read_last a r0 r1 r2 fn l one.line so one.unbroken one.read)
+
+-- ---- one line that says nothing
+
+pub one_whole : (r0 r1 : Option (List ℕ)) (line : List ℕ) → ReadLine r0 r1 line → ReadOne r0 r1
+one_whole r0 r1 line h = record { line = line; unbroken = h.unbroken; read = inl h.read }
+
+pub one_long : (r0 r1 : Option (List ℕ)) (line : List ℕ) → ReadLong r0 r1 line → ReadOne r0 r1
+one_long r0 r1 line h = record { line = line ++ h.more ∷ []; unbroken = h.unbroken; read = inr h.read }
+
+pub one_ended : (r0 r1 : Option (List ℕ)) → Consumes r0 r1 [] → ReadOne r0 r1
+one_ended r0 r1 h = record { line = []; unbroken = All-nil _; read = inr h }
+
+pub one_part : (r0 r1 : Option (List ℕ)) → ReadPart r0 r1 → ReadOne r0 r1
+one_part r0 r1 h = record { line = h.bytes; unbroken = h.unbroken; read = inr h.read }
+
+pub one_cut : (r0 r1 : Option (List ℕ)) → ReadToEnd r0 r1 → ReadOne r0 r1
+one_cut r0 r1 h = record { line = h.bytes; unbroken = h.unbroken; read = inr h.read }
 
 -- ---- a question
 
 nothing_of : (w : Option (List ℕ)) (line : List ℕ) → AppendsFront w w line
 nothing_of w line = record { gone = []; rest = line; split = refl; appended = Appends-nil w }
 
-none_read : (r : Option (List ℕ)) → ReadSome r r
-none_read r = ([], Consumes-nil r)
+none_read : (r : Option (List ℕ)) (k : Kept) → ReadLines r r k.lines k.lines
+none_read r k = record {
+  whole = 0;
+  text = [];
+  are = WholeLines.none;
+  part = [];
+  unbroken = All-nil _;
+  read = Consumes-nil r;
+  lines = inl (refl, refl);
+}
 
 pub at_limit : (q : Question) (r w : Option (List ℕ)) (k : Kept) → k.left ≡ 0 → AsksNoMore q (streams r r w w) k LimitReached (record k { fault = Some LimitReached })
 at_limit q r w k none = record {
   kept = refl;
   written = nothing_of w (question_line q ++ 10 ∷ []);
-  read = none_read r;
+  read = none_read r k;
   limit = λ _. (none, Consumes-nil r, Appends-nil w);
   spent = omega arith;
   roots = refl;
@@ -89,7 +190,7 @@ pub not_written : (q : Question) (r w0 w1 : Option (List ℕ)) (k : Kept) → Ap
 not_written q r w0 w1 k front some = record {
   kept = refl;
   written = front;
-  read = none_read r;
+  read = none_read r k;
   limit = λ (e : Write ≡ LimitReached). cc;
   spent = omega (arith, some);
   roots = refl;
@@ -107,9 +208,10 @@ one_gone fault.Gone other = refl
 one_gone Write other = refl
 one_gone LimitReached other = absurd (other refl)
 
-pub not_heard : (q : Question) (r0 r1 w0 w1 : Option (List ℕ)) (k : Kept) (f : LiveFault) (st : List (List ℕ)) → Appends w0 w1 (question_line q ++ 10 ∷ [])
-    → k.left ≢ 0 → f ≢ LimitReached → ReadSome r0 r1 → AsksNoMore q (streams r0 r1 w0 w1) k f (record k { left = k.left - 1; statuses = st; fault = Some f })
-not_heard q r0 r1 w0 w1 k f st gone some other read = record {
+pub not_heard : (q : Question) (r0 r1 w0 w1 : Option (List ℕ)) (k : Kept) (f : LiveFault) (st : List (List ℕ)) (lines : ℕ) → Appends w0 w1 (question_line q ++ 10 ∷ [])
+    → k.left ≢ 0 → f ≢ LimitReached → ReadLines r0 r1 k.lines lines
+    → AsksNoMore q (streams r0 r1 w0 w1) k f (record k { left = k.left - 1; statuses = st; lines = lines; fault = Some f })
+not_heard q r0 r1 w0 w1 k f st lines gone some other read = record {
   kept = refl;
   written = front_all w0 w1 (question_line q ++ 10 ∷ []) gone;
   read = read;
@@ -118,9 +220,10 @@ not_heard q r0 r1 w0 w1 k f st gone some other read = record {
   roots = refl;
 }
 
-pub heard_well : (q : Question) (r0 r1 w0 w1 : Option (List ℕ)) (k : Kept) (got : Answer) (st : List (List ℕ)) → Appends w0 w1 (question_line q ++ 10 ∷ [])
-    → k.left ≢ 0 → k.fault ≡ None → Heard (kind_asked q) k.roots r0 r1 k.statuses got st → AskedWell q (streams r0 r1 w0 w1) k got (record k { left = k.left - 1; statuses = st })
-heard_well q r0 r1 w0 w1 k got st gone some sound heard = record {
+pub heard_well : (q : Question) (r0 r1 w0 w1 : Option (List ℕ)) (k : Kept) (got : Answer) (st : List (List ℕ)) (lines : ℕ) → Appends w0 w1 (question_line q ++ 10 ∷ [])
+    → k.left ≢ 0 → k.fault ≡ None → Heard (kind_asked q) k.roots r0 r1 k.statuses k.lines got st lines
+    → AskedWell q (streams r0 r1 w0 w1) k got (record k { left = k.left - 1; statuses = st; lines = lines })
+heard_well q r0 r1 w0 w1 k got st lines gone some sound heard = record {
   written = gone;
   heard = heard;
   one = omega (arith, some);

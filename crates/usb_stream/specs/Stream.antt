@@ -1,5 +1,5 @@
 -- A bus behind a stream of lines: what a question reads and writes, and what is kept of that.
-use Rattle.std.specs.Prelude.{◌≡◌, ◌⊎◌, ℕ, ◌+◌, ◌-◌, ◌<◌, ◌≤◌, ◌&&◌, nat_le, nat_lt, Bool, true, false, if◌then◌else◌, List, [], ◌∷◌, ◌++◌, length, replicate, slice_index_or, slice_set, Option, Some, None, Result, Ok, Err}
+use Rattle.std.specs.Prelude.{◌≡◌, ◌⊎◌, ℕ, zero, suc, ◌+◌, ◌-◌, ◌^◌, min, ◌<◌, ◌≤◌, ◌&&◌, nat_le, nat_lt, Bool, true, false, if◌then◌else◌, List, [], ◌∷◌, ◌++◌, length, replicate, slice_index_or, slice_set, Option, Some, None, Result, Ok, Err}
 use Rattle.std.specs.Io.KnownBytes.{Appends, Consumes, IsAtEnd}
 use Rattle.arrayvec.specs.ArrayVec.{ArrayVec}
 use Rattle.usb_packet.specs.declared.Toggle.{Toggle}
@@ -88,16 +88,17 @@ outcome_for most (answer.Clear path) = Nothing
 
 -- ---- what is kept
 
--- how many root ports there are, their statuses as they were told last, how many more questions may be asked, and why
--- none is asked any more
+-- how many root ports there are, their statuses as they were told last, how many more questions may be asked, how many
+-- lines were read, and why nothing is asked any more
 pub record Kept : Type 0 where
   pub roots : ℕ
   pub statuses : List (List ℕ)
   pub left : ℕ
+  pub lines : ℕ
   pub fault : Option LiveFault
 
 abbrev pub kept_of : {R W : Type 0} → StreamBus R W → Kept
-kept_of b = record { roots = b.roots; statuses = b.statuses; left = b.left; fault = b.fault }
+kept_of b = record { roots = b.roots; statuses = b.statuses; left = b.left; lines = b.lines; fault = b.fault }
 
 -- the bytes that the reader of a bus has left, and those that its writer has, where they are known
 abbrev pub unread_of : {R W : Type 0} → (R → Option (List ℕ)) → StreamBus R W → Option (List ℕ)
@@ -118,12 +119,24 @@ pub record Streams : Type 0 where
 abbrev pub streams : Option (List ℕ) → Option (List ℕ) → Option (List ℕ) → Option (List ℕ) → Streams
 streams unread left before now = record { unread = unread; left = left; before = before; now = now }
 
--- lines that tell statuses of root ports were read, each is kept
-pub data Told (a : Asked) (roots : ℕ) (old : List (List ℕ)) : List ℕ → List (List ℕ) → Type 0 where
-  none : Told a roots old [] old
-  next : {text : List ℕ} {mid : List (List ℕ)} (line : List ℕ) (number : ℕ) (status : List ℕ) → Told a roots old text mid → IsUnbroken line
+-- so many lines more are counted, up to the greatest u64
+abbrev pub counted_on : ℕ → ℕ → ℕ
+counted_on lines zero = lines
+counted_on lines (suc more) = min (counted_on lines more + 1) (2 ^ 64 - 1)
+
+-- so many whole lines
+pub data WholeLines : ℕ → List ℕ → Type 0 where
+  none : WholeLines 0 []
+  next : {n : ℕ} {text : List ℕ} (line : List ℕ) → WholeLines n text → IsUnbroken line
+      → WholeLines (n + 1) (text ++ (line ++ 10 ∷ []))
+
+-- so many lines that tell statuses of root ports were read, each is kept
+pub data Told (a : Asked) (roots : ℕ) (old : List (List ℕ)) : ℕ → List ℕ → List (List ℕ) → Type 0 where
+  none : Told a roots old 0 [] old
+  next : {n : ℕ} {text : List ℕ} {mid : List (List ℕ)} (line : List ℕ) (number : ℕ) (status : List ℕ)
+      → Told a roots old n text mid → IsUnbroken line
       → MaySay a roots (Changed number status) → IsSaidLine line (Changed number status)
-      → Told a roots old (text ++ (line ++ 10 ∷ [])) (slice_set mid (number - 1) status)
+      → Told a roots old (n + 1) (text ++ (line ++ 10 ∷ [])) (slice_set mid (number - 1) status)
 
 -- a line was read that says this
 pub record SaidLine (a : Asked) (roots : ℕ) (unread left : Option (List ℕ)) (said : Said) : Type 0 where
@@ -143,22 +156,37 @@ pub record SaidEnd (a : Asked) (unread left : Option (List ℕ)) (said : Said) :
 abbrev pub Says : Asked → ℕ → Option (List ℕ) → Option (List ℕ) → Said → Type 0
 Says a roots unread left said = SaidLine a roots unread left said ⊎ SaidEnd a unread left said
 
--- statuses, and then the answer
-pub record Heard (a : Asked) (roots : ℕ) (unread left : Option (List ℕ)) (old : List (List ℕ)) (got : Answer) (new : List (List ℕ)) : Type 0 where
+-- statuses, and then the answer: each is a line, and is counted
+pub record Heard (a : Asked) (roots : ℕ) (unread left : Option (List ℕ)) (old : List (List ℕ)) (before : ℕ) (got : Answer)
+    (new : List (List ℕ)) (after : ℕ) : Type 0 where
+  pub pushed : ℕ
   pub text : List ℕ
   pub mid : Option (List ℕ)
-  pub told : Told a roots old text new
+  pub told : Told a roots old pushed text new
   pub read : Consumes unread mid text
   pub answered : Says a roots mid left (Answered got)
+  pub lines : after ≡ counted_on before (pushed + 1)
 
--- some bytes were read
-abbrev pub ReadSome : Option (List ℕ) → Option (List ℕ) → Type 0
-ReadSome unread left = (text : List ℕ) × Consumes unread left text
+-- lines were read, which are counted; the last of them perhaps in part
+pub record ReadLines (unread left : Option (List ℕ)) (old new : ℕ) : Type 0 where
+  pub whole : ℕ
+  pub text : List ℕ
+  pub are : WholeLines whole text
+  pub part : List ℕ
+  pub unbroken : IsUnbroken part
+  pub read : Consumes unread left (text ++ part)
+  pub lines : ((part ≡ []) × (new ≡ counted_on old whole)) ⊎ (new ≡ counted_on old (whole + 1))
+
+-- of a private function: one line was read, perhaps in part
+pub record ReadOne (unread left : Option (List ℕ)) : Type 0 where
+  pub line : List ℕ
+  pub unbroken : IsUnbroken line
+  pub read : Consumes unread left (line ++ 10 ∷ []) ⊎ Consumes unread left line
 
 -- a question went out as one line, one question less is left, and its answer was heard
 pub record AskedWell (q : Question) (s : Streams) (old : Kept) (got : Answer) (new : Kept) : Type 0 where
   pub written : Appends s.before s.now (question_line q ++ 10 ∷ [])
-  pub heard : Heard (kind_asked q) old.roots s.unread s.left old.statuses got new.statuses
+  pub heard : Heard (kind_asked q) old.roots s.unread s.left old.statuses old.lines got new.statuses new.lines
   pub one : new.left + 1 ≡ old.left
   pub roots : new.roots ≡ old.roots
   pub sound : new.fault ≡ None
@@ -176,7 +204,7 @@ questions fault.LimitReached = 0
 pub record AsksNoMore (q : Question) (s : Streams) (old : Kept) (f : LiveFault) (new : Kept) : Type 0 where
   pub kept : new.fault ≡ Some f
   pub written : AppendsFront s.before s.now (question_line q ++ 10 ∷ [])
-  pub read : ReadSome s.unread s.left
+  pub read : ReadLines s.unread s.left old.lines new.lines
   pub limit : f ≡ LimitReached → (old.left ≡ 0) × Consumes s.unread s.left [] × Appends s.before s.now []
   pub spent : new.left + questions f ≡ old.left
   pub roots : new.roots ≡ old.roots
@@ -248,7 +276,7 @@ status_at k port = if nat_lt 0 port && nat_le port 7 then slice_index_or k.statu
 
 -- before the hello all statuses are 0
 abbrev pub unasked : ℕ → Kept
-unasked limit = record { roots = 1; statuses = replicate 7 (replicate 4 0); left = limit; fault = None }
+unasked limit = record { roots = 1; statuses = replicate 7 (replicate 4 0); left = limit; lines = 0; fault = None }
 
 -- the answer to the hello is how many root ports there are, 1 to 7
 abbrev pub roots_if : ℕ → Kept → Kept

@@ -132,10 +132,14 @@ impl<R: Read, W: Write> Bus for StreamBus<R, W> {
             self.call(port, call);
         }
     }
+
+    ghost settled = { λ known bus. Prim.cc known };
+
+    ghost between = { λ known bus working. Prim.cc known };
 }
 
 impl<R: Read, W: Write> StreamBus<R, W> {
-    ghost use Rattle.usb_stream.specs.Stream.{AsksOnce, Calls, FailsOnce, Heard, Opens, ReadSome, Says, Tells, bus_fault, greeted, kept_of, streams};
+    ghost use Rattle.usb_stream.specs.Stream.{AsksOnce, Calls, FailsOnce, Heard, Opens, ReadLines, ReadOne, Says, Tells, bus_fault, counted_on, greeted, kept_of, streams};
     ghost use Rattle.usb_stream.specs.declared.fault.LiveFault.{LiveFault as AFault};
 
     /// Says the hello to a far end, which tells how many root ports there are; at most so many questions are asked in
@@ -187,7 +191,9 @@ impl<R: Read, W: Write> StreamBus<R, W> {
     }
 
     /// How many lines were read.
-    pub fn lines(&self) -> u64 {
+    pub fn lines(&self) -> u64
+        ensures { result ≡ (kept_of self.now).lines }
+    {
         self.lines
     }
 
@@ -307,11 +313,12 @@ impl<R: Read, W: Write> StreamBus<R, W> {
     fn hear(&mut self, asked: Asked) -> Result<Answer, LiveFault>
         ensures ok { IfOk result (λ got. Heard asked self.old.roots
             (R.remaining (inner_of self.old.reader)) (R.remaining (inner_of self.new.reader))
-            self.old.statuses got self.new.statuses) }
-        ensures err { IfErr result (λ f. (f ≢ LiveFault.LimitReached) × ReadSome
-            (R.remaining (inner_of self.old.reader)) (R.remaining (inner_of self.new.reader))) }
-        ensures same { kept_of self.new
-            ≡ record (kept_of self.old) { statuses = self.new.statuses } }
+            self.old.statuses self.old.lines got self.new.statuses self.new.lines) }
+        ensures err { IfErr result (λ f. (f ≢ LiveFault.LimitReached) × ReadLines
+            (R.remaining (inner_of self.old.reader)) (R.remaining (inner_of self.new.reader))
+            self.old.lines self.new.lines) }
+        ensures same { kept_of self.new ≡ record (kept_of self.old)
+            { statuses = self.new.statuses; lines = self.new.lines } }
         ensures writer { self.new.writer ≡ self.old.writer }
     {
         'lines: for _ in 0..65u8 {
@@ -330,9 +337,10 @@ impl<R: Read, W: Write> StreamBus<R, W> {
     fn next_said(&mut self, asked: Asked) -> Result<Said, LiveFault>
         ensures ok { IfOk result (Says asked self.old.roots (R.remaining (inner_of self.old.reader))
             (R.remaining (inner_of self.new.reader))) }
-        ensures err { IfErr result (λ f. (f ≢ LiveFault.LimitReached) × ReadSome
+        ensures err { IfErr result (λ f. (f ≢ LiveFault.LimitReached) × ReadOne
             (R.remaining (inner_of self.old.reader)) (R.remaining (inner_of self.new.reader))) }
-        ensures same { kept_of self.new ≡ kept_of self.old }
+        ensures same { kept_of self.new
+            ≡ record (kept_of self.old) { lines = counted_on self.old.lines 1 } }
         ensures writer { self.new.writer ≡ self.old.writer }
     {
         self.lines = self.lines.saturating_add(1);

@@ -8,8 +8,8 @@ use Rattle.usb_device.specs.declared.bulk.EndpointState.{EndpointState}
 use Rattle.usb_device.specs.Rows.{State}
 use Rattle.usb_device.specs.Tree.{Spot, path_to, reach, reach_on, state_on}
 use Rattle.usb_device.specs.View.{state_there}
-use Rattle.usb_world.specs.declared.event.Due.{Due}
-use Rattle.usb_world.specs.declared.event.Due.TheVariants.{Changed, Show, Send, Receive, Clear}
+use Rattle.usb_world.specs.declared.event.Ask.{Ask}
+use Rattle.usb_world.specs.declared.event.Ask.TheVariants.{Show, Send, Receive, Clear}
 use Rattle.usb_world.specs.declared.types.BusFault.{BusFault}
 use Rattle.usb_world.specs.Devices.{EachWas, Was}
 use Rattle.usb_world.specs.Paths.{address_of}
@@ -47,7 +47,7 @@ use Rattle.usb_serve.specs.declared.transfer.TransferFault.{TransferFault}
 use Rattle.usb_serve.specs.RunSegments.{Knows}
 use Rattle.usb_host.specs.HostCalls.{ClearTells, ReceiveTells, SendTells}
 use Rattle.usb_serve.specs.Transfers.{IsItemOf, Transfers, failed, sent_count, transfer_ended}
-use Rattle.usb_serve.proofs.Interface.{count_done, told_cleared, told_received, told_sent}
+use Rattle.usb_serve.proofs.Interface.{Answered, silent, listed, sent, received, cleared, answered, count_done, told_cleared, told_received, told_sent}
 use Rattle.usb_streams.specs.Stretches.{ToldItem}
 use Rattle.usb_streams.specs.Streams.{ClearsNoIn, ClearsNoOut, GaveNextBy, IsAtWork, Joins, StreamsAt, bytes_for, bytes_from, is_done}
 use Rattle.usb_streams.proofs.Bytes.{SinkStep, joins_none, step_none}
@@ -232,20 +232,20 @@ module _ (path : List ℕ) (t : ToldItem) (pipes left : Pipes) (s v : State) whe
 -- Hosts
 
 -- the accepted device at a path was listed there before an item, and moved what the item tells
-pub record MovesAt (path : List ℕ) (device : Accepted) (due : Due) (item : Item) (old new : Hosting) : Type 0 where
+pub record MovesAt (path : List ℕ) (device : Accepted) (due : Option Ask) (item : Item) (old new : Hosting) : Type 0 where
   pub listed : accepted_device_at path old.entries ≡ Some device
   pub moves : StreamsAt path (Moves path (record { due = due; asked = old; item = item }) (pipes_at path (table_in old)) (pipes_at path (table_in new))) old new
 
 module _ (path : List ℕ) (device : Accepted) (old new : Hosting) (at : accepted_device_at path new.entries ≡ Some device) where
   -- a listing
-  shown : (item : Item) → bytes_from path item ≡ [] → new ≡ old → MovesAt path device Show item old new
+  shown : (item : Item) → bytes_from path item ≡ [] → new ≡ old → MovesAt path device (Some Show) item old new
   shown item none same = record {
     listed = ap (λ (h : Hosting). accepted_device_at path h.entries) (sym same) ∙ at;
     moves = λ x v is on stands. record {
       before = v;
       on = ap (λ (h : Hosting). reach_on h.world.roots x) (sym same) ∙ on;
       stands = ap (λ (h : Hosting). state_on h.world.roots x) (sym same) ∙ stands;
-      so = unmoved path (record { due = Show; asked = old; item = item }) (pipes_at path (table_in old)) (pipes_at path (table_in new)) v v refl none
+      so = unmoved path (record { due = Some Show; asked = old; item = item }) (pipes_at path (table_in old)) (pipes_at path (table_in new)) v v refl none
           (ap (λ (h : Hosting). pipes_at path (table_in h)) same) refl;
     };
   }
@@ -254,7 +254,7 @@ module _ (path : List ℕ) (device : Accepted) (old new : Hosting) (at : accepte
   listed_before to through = ap (λ (es : Entries). accepted_device_at path es) (sym through.entries) ∙ at
 
   -- a transfer to another path
-  apart : (to : List ℕ) (due : Due) (item : Item) (So : State → State → Type 0) → ties (path_cmp to) path ≡ false → bytes_for path due ≡ [] → bytes_from path item ≡ [] → GoesThrough to (table_in old) (table_in new)
+  apart : (to : List ℕ) (due : Option Ask) (item : Item) (So : State → State → Type 0) → ties (path_cmp to) path ≡ false → bytes_for path due ≡ [] → bytes_from path item ≡ [] → GoesThrough to (table_in old) (table_in new)
       → EachWas (ChangesAt to So) old.world new.world → MovesAt path device due item old new
   apart to due item So away e f through each = record {
     listed = listed_before to through;
@@ -270,7 +270,7 @@ module _ (path : List ℕ) (device : Accepted) (old new : Hosting) (at : accepte
   }
 
   -- to the path itself
-  here : (due : Due) (item : Item) (So : State → State → Type 0) → GoesThrough path (table_in old) (table_in new) → EachWas (ChangesAt path So) old.world new.world
+  here : (due : Option Ask) (item : Item) (So : State → State → Type 0) → GoesThrough path (table_in old) (table_in new) → EachWas (ChangesAt path So) old.world new.world
       → ((x : Spot) (s v : State) → path ≡ path_to x → reach_on old.world.roots x ≡ true → reach_on new.world.roots x ≡ true → state_on new.world.roots x ≡ Some v → state_on old.world.roots x ≡ Some s → So s v
       → Moves path (record { due = due; asked = old; item = item }) (pipes_at path (table_in old)) (pipes_at path (table_in new)) s v)
       → MovesAt path device due item old new
@@ -290,7 +290,7 @@ module _ (path : List ℕ) (device : Accepted) (old new : Hosting) (at : accepte
         (eq-eqb (address_of s) pipe.target.addr (has ∙ sym (pipe_address device false (out_endpoint device) pipe is)), subst (λ p. FitsOut p s) e level.0)
     fits_out Absent s are has level pipe e = absurd are
 
-    sent_here : (bytes : List ℕ) (told : Result (Unit {0}) TransferFault) → Transfers (SendTells path bytes) old told new → MovesAt path device (Send path bytes) (item.Sent path (sent_count (length bytes) told)) old new
+    sent_here : (bytes : List ℕ) (told : Result (Unit {0}) TransferFault) → Transfers (SendTells path bytes) old told new → MovesAt path device (Some (Send path bytes)) (item.Sent path (sent_count (length bytes) told)) old new
     sent_here bytes told is =
         let hands = is.call.did running in
         let made : Item = item.Sent path (sent_count (length bytes) told) in
@@ -300,7 +300,7 @@ module _ (path : List ℕ) (device : Accepted) (old new : Hosting) (at : accepte
         let listed : accepted_device_at path old.entries ≡ Some device = listed_before path hands.through in
         let tells : transfer_ended (host_told hands.answer) ≡ Ok told = sym (ap transfer_ended hands.told) ∙ is.tells in
         let done : is_ok hands.answer ≡ is_ok (sent_count (length bytes) told) = ended_done hands.answer told tells ∙ count_done (length bytes) told in
-        here (Send path bytes) made (TookBytes (is_ok told) bytes) hands.through (told_sent path old new knows.sound still running bytes told is).took.each
+        here (Some (Send path bytes)) made (TookBytes (is_ok told) bytes) hands.through (told_sent path old new knows.sound still running bytes told is).took.each
         (λ x s v is_path was_on on stands stood took.
         let spec : v.spec ≡ s.spec = ap (λ (d : State). d.spec) took.rest in
         let reached : reach old.world.roots path ≡ true = ap (reach old.world.roots) is_path ∙ was_on in
@@ -308,7 +308,7 @@ module _ (path : List ℕ) (device : Accepted) (old new : Hosting) (at : accepte
         let has : address_of s ≡ device.address = held_address (table_in old) old.world path device s (knows.sound.owned.so still) listed reached there in
         let level : AreLevel before s = (knows.sound.level still path).level device s listed reached there in
         let are : ArePipesTo device (is_below_hub path) before = subst (λ f. ArePipesIf f (is_below_hub path) before) listed hands.through.fits in
-        moved path (record { due = Send path bytes; asked = old; item = made }) before left s v bytes [] (ap (λ (b : Bool). if b then bytes else []) (path_itself path)) refl
+        moved path (record { due = Some (Send path bytes); asked = old; item = made }) before left s v bytes [] (ap (λ (b : Bool). if b then bytes else []) (path_itself path)) refl
         (subst (λ d. Joins d bytes s.sink v.sink) (count_done (length bytes) told) (joins_sink (is_ok told) bytes s v took.joins))
         (λ none. subst (λ d. SinkStep d bytes (pipe_out before) (pipe_out left) s v) done
         (by_pipes bytes old.world new.world x s v on stands stood before left hands.answer (no_fault hands.answer told tells) single (fits_out before s are has level) hands.moves
@@ -317,30 +317,30 @@ module _ (path : List ℕ) (device : Accepted) (old new : Hosting) (at : accepte
         (ap (λ (d : State). d.place) took.rest) (ap (λ (d : State). d.bulk_in) took.rest))
         spec)
 
-    received_here : (packets : ℕ) (told : Result (Vec ℕ) TransferFault) → Transfers (ReceiveTells path packets) old told new → MovesAt path device (Receive path packets) (item.Received path told) old new
+    received_here : (packets : ℕ) (told : Result (Vec ℕ) TransferFault) → Transfers (ReceiveTells path packets) old told new → MovesAt path device (Some (Receive path packets)) (item.Received path told) old new
     received_here packets told is =
         let hands = is.call.did running in
         let before : Pipes = pipes_at path (table_in old) in
         let left : Pipes = pipes_at path (table_in new) in
-        here (Receive path packets) (item.Received path told) (GaveBy (bytes_in told) (pipe_in before) (pipe_in left)) hands.through (told_received path old new knows.sound still running packets told is).gave.each
+        here (Some (Receive path packets)) (item.Received path told) (GaveBy (bytes_in told) (pipe_in before) (pipe_in left)) hands.through (told_received path old new knows.sound still running packets told is).gave.each
         (λ x s v is_path was_on on stands stood gave.
         let kept = gave_sink (bytes_in told) (pipe_in before) (pipe_in left) s v gave in
-        moved path (record { due = Receive path packets; asked = old; item = item.Received path told }) before left s v [] (bytes_in told) refl (ap (λ (b : Bool). if b then bytes_in told else []) (path_itself path))
+        moved path (record { due = Some (Receive path packets); asked = old; item = item.Received path told }) before left s v [] (bytes_in told) refl (ap (λ (b : Bool). if b then bytes_in told else []) (path_itself path))
         (joins_none (is_ok told) [] s.sink v.sink refl kept.0)
         (λ none. step_none (is_ok told) (pipe_out before) (pipe_out left) s v (received_out before left packets old.world new.world hands.answer hands.moves) kept.0)
         (λ none. gave_by (bytes_in told) (pipe_in before) (pipe_in left) s v gave (received_in before left packets old.world new.world hands.answer hands.moves)) kept.1)
 
-    cleared_here : (told : Result (Unit {0}) TransferFault) → Transfers (ClearTells path) old told new → MovesAt path device (Clear path) (item.Cleared path told) old new
+    cleared_here : (told : Result (Unit {0}) TransferFault) → Transfers (ClearTells path) old told new → MovesAt path device (Some (Clear path)) (item.Cleared path told) old new
     cleared_here told is =
         let hands = is.call.did running in
         let single : new.world.shared ≡ false = (hands.keeps.worlds.addresses.kept (claims old.entries) knows.sound.owned).single in
         let before : Pipes = pipes_at path (table_in old) in
         let left : Pipes = pipes_at path (table_in new) in
-        here (Clear path) (item.Cleared path told) (HaltsCleared (is_ok told) before left) hands.through (told_cleared path old new knows.sound still running told is).each
+        here (Some (Clear path)) (item.Cleared path told) (HaltsCleared (is_ok told) before left) hands.through (told_cleared path old new knows.sound still running told is).each
         (λ x s v is_path was_on on stands stood cleared.
         let was : Was SameSettings old.world x v = hands.keeps.worlds.devices.same single x v on stands in
         let same : SameSettings x s v = subst (λ (d : State). SameSettings x d v) (one_stands old.world x s was.before stood was.stands) was.so in
-        moved path (record { due = Clear path; asked = old; item = item.Cleared path told }) before left s v [] [] refl refl
+        moved path (record { due = Some (Clear path); asked = old; item = item.Cleared path told }) before left s v [] [] refl refl
         (joins_none (is_ok told) [] s.sink v.sink refl cleared.sink)
         (λ works. step_none (is_ok told) (pipe_out before) (pipe_out left) s v
         (clears_alone (is_ok told) (pipe_out before) (pipe_out left) s.bulk_out v.bulk_out cleared.out (works refl) (cleared_out before left old.world new.world hands.answer hands.moves)).0 cleared.sink)
@@ -351,38 +351,46 @@ module _ (path : List ℕ) (device : Accepted) (old new : Hosting) (at : accepte
 
     -- whether it is to the path or to another
     sent_item : (to bytes : List ℕ) (told : Result (Unit {0}) TransferFault) → Transfers (SendTells to bytes) old told new → (tied : Bool) → ties (path_cmp to) path ≡ tied
-        → MovesAt path device (Send to bytes) (item.Sent to (sent_count (length bytes) told)) old new
+        → MovesAt path device (Some (Send to bytes)) (item.Sent to (sent_count (length bytes) told)) old new
     sent_item to bytes told is true tie =
-        subst (λ p. Transfers (SendTells p bytes) old told new → MovesAt path device (Send p bytes) (item.Sent p (sent_count (length bytes) told)) old new) (sym (path_tied to path tie)) (sent_here bytes told) is
+        subst (λ p. Transfers (SendTells p bytes) old told new → MovesAt path device (Some (Send p bytes)) (item.Sent p (sent_count (length bytes) told)) old new) (sym (path_tied to path tie)) (sent_here bytes told) is
     sent_item to bytes told is false away =
-        apart to (Send to bytes) (item.Sent to (sent_count (length bytes) told)) (TookBytes (is_ok told) bytes) away (ap (λ (b : Bool). if b then bytes else []) away) refl (is.call.did running).through
+        apart to (Some (Send to bytes)) (item.Sent to (sent_count (length bytes) told)) (TookBytes (is_ok told) bytes) away (ap (λ (b : Bool). if b then bytes else []) away) refl (is.call.did running).through
         (told_sent to old new knows.sound still running bytes told is).took.each
 
     received_item : (from : List ℕ) (packets : ℕ) (told : Result (Vec ℕ) TransferFault) → Transfers (ReceiveTells from packets) old told new → (tied : Bool) → ties (path_cmp from) path ≡ tied
-        → MovesAt path device (Receive from packets) (item.Received from told) old new
+        → MovesAt path device (Some (Receive from packets)) (item.Received from told) old new
     received_item from packets told is true tie =
-        subst (λ p. Transfers (ReceiveTells p packets) old told new → MovesAt path device (Receive p packets) (item.Received p told) old new) (sym (path_tied from path tie)) (received_here packets told) is
+        subst (λ p. Transfers (ReceiveTells p packets) old told new → MovesAt path device (Some (Receive p packets)) (item.Received p told) old new) (sym (path_tied from path tie)) (received_here packets told) is
     received_item from packets told is false away =
-        apart from (Receive from packets) (item.Received from told) (GaveBy (bytes_in told) (pipe_in (pipes_at from (table_in old))) (pipe_in (pipes_at from (table_in new)))) away refl
+        apart from (Some (Receive from packets)) (item.Received from told) (GaveBy (bytes_in told) (pipe_in (pipes_at from (table_in old))) (pipe_in (pipes_at from (table_in new)))) away refl
         (ap (λ (b : Bool). if b then bytes_in told else []) away) (is.call.did running).through (told_received from old new knows.sound still running packets told is).gave.each
 
-    cleared_item : (to : List ℕ) (told : Result (Unit {0}) TransferFault) → Transfers (ClearTells to) old told new → (tied : Bool) → ties (path_cmp to) path ≡ tied → MovesAt path device (Clear to) (item.Cleared to told) old new
-    cleared_item to told is true tie = subst (λ p. Transfers (ClearTells p) old told new → MovesAt path device (Clear p) (item.Cleared p told) old new) (sym (path_tied to path tie)) (cleared_here told) is
+    cleared_item : (to : List ℕ) (told : Result (Unit {0}) TransferFault) → Transfers (ClearTells to) old told new → (tied : Bool) → ties (path_cmp to) path ≡ tied → MovesAt path device (Some (Clear to)) (item.Cleared to told) old new
+    cleared_item to told is true tie = subst (λ p. Transfers (ClearTells p) old told new → MovesAt path device (Some (Clear p)) (item.Cleared p told) old new) (sym (path_tied to path tie)) (cleared_here told) is
     cleared_item to told is false away =
-        apart to (Clear to) (item.Cleared to told) (HaltsCleared (is_ok told) (pipes_at to (table_in old)) (pipes_at to (table_in new))) away refl refl (is.call.did running).through
+        apart to (Some (Clear to)) (item.Cleared to told) (HaltsCleared (is_ok told) (pipes_at to (table_in old)) (pipes_at to (table_in new))) away refl refl (is.call.did running).through
         (told_cleared to old new knows.sound still running told is).each
 
-    pub item_moves : (due : Due) (made : Item) → IsItemOf due (Some made) old new → MovesAt path device due made old new
-    item_moves Changed made is = absurd (cc is.0)
-    item_moves Show made is =
-        let e : made ≡ item.Listing new.entries new.world.taken = cc is.0 in
-        subst (λ (i : Item). MovesAt path device Show i old new) (sym e) (shown (item.Listing new.entries new.world.taken) refl is.1)
-    item_moves (Send to bytes) made is =
-        let e : made ≡ item.Sent to (sent_count (length bytes) is.0) = cc is.1 in
-        subst (λ (i : Item). MovesAt path device (Send to bytes) i old new) (sym e) (sent_item to bytes is.0 is.2 (ties (path_cmp to) path) refl)
-    item_moves (Receive from packets) made is =
-        let e : made ≡ item.Received from is.0 = cc is.1 in
-        subst (λ (i : Item). MovesAt path device (Receive from packets) i old new) (sym e) (received_item from packets is.0 is.2 (ties (path_cmp from) path) refl)
-    item_moves (Clear to) made is =
-        let e : made ≡ item.Cleared to is.0 = cc is.1 in
-        subst (λ (i : Item). MovesAt path device (Clear to) i old new) (sym e) (cleared_item to is.0 is.2 (ties (path_cmp to) path) refl)
+    pub item_moves : (due : Option Ask) (made : Item) → IsItemOf due (Some made) old new
+        → MovesAt path device due made old new
+    item_moves due made is = moves_as (answered due (Some made) old new is)
+      where
+        told_as : (asked : Option Ask) (told : Item) → due ≡ asked → Some made ≡ Some told
+            → MovesAt path device asked told old new → MovesAt path device due made old new
+        told_as asked told asks e so =
+            let same : made ≡ told = cc e in
+            subst (λ d. MovesAt path device d made old new) (sym asks)
+            (subst (λ (i : Item). MovesAt path device asked i old new) (sym same) so)
+
+        moves_as : Answered due (Some made) old new → MovesAt path device due made old new
+        moves_as (silent none same) = absurd (cc none)
+        moves_as (listed asks e same) =
+            let listing : Item = item.Listing new.entries new.world.taken in
+            told_as (Some Show) listing asks e (shown listing refl same)
+        moves_as (sent to bytes told asks e came) =
+            told_as (Some (Send to bytes)) _ asks e (sent_item to bytes told came (ties (path_cmp to) path) refl)
+        moves_as (received from packets told asks e came) = told_as (Some (Receive from packets)) _ asks e
+            (received_item from packets told came (ties (path_cmp from) path) refl)
+        moves_as (cleared to told asks e came) =
+            told_as (Some (Clear to)) _ asks e (cleared_item to told came (ties (path_cmp to) path) refl)

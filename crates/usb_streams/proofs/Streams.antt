@@ -3,8 +3,7 @@ use Rattle.std.proofs.Common.{◌≡◌, ◌⊎◌, inl, inr, ◌∙◌, refl, s
 use Rattle.usb_device.specs.Rows.{State}
 use Rattle.usb_device.specs.Tree.{Spot, path_to, reach, reach_on, state_on}
 use Rattle.usb_device.specs.View.{state_there}
-use Rattle.usb_world.specs.declared.event.Due.{Due}
-use Rattle.usb_world.specs.declared.event.Due.TheVariants.{Changed}
+use Rattle.usb_world.specs.declared.event.Ask.{Ask}
 use Rattle.usb_world.specs.Devices.{Was}
 use Rattle.usb_world.specs.World.{World}
 use Rattle.usb_enum.specs.declared.finding.Accepted.{Accepted}
@@ -26,13 +25,13 @@ use Rattle.usb_host.specs.HostCalls.{RoundTells}
 use Rattle.usb_serve.specs.RunSegments.{Comes, Knows, Settled}
 use Rattle.usb_serve.specs.Transcript.{AppendsText}
 use Rattle.usb_serve.specs.Transfers.{IsItemOf}
-use Rattle.usb_serve.proofs.Interface.{came_running, came_still, comes_onward}
-use Rattle.usb_streams.specs.Stretches.{LiesBetween, round, changed, last, wrote, Stretch, begun, further, more, ToldItem}
+use Rattle.usb_serve.proofs.Interface.{came_knows, came_running, came_still, comes_onward}
+use Rattle.usb_streams.specs.Stretches.{LiesBetween, round, silent, last, wrote, Stretch, begun, further, more, ToldItem}
 use Rattle.usb_streams.specs.Streams.{StartsAt, StoodAt, StoodOrFound, Streams, StreamsAt}
 use Rattle.usb_streams.proofs.Devices.{Moves, Stays, at_then, spares_stays, streams_move, streams_none, streams_stay}
 use Rattle.usb_streams.proofs.Items.{MovesAt, item_moves}
 use Rattle.usb_streams.proofs.Starts.{begun_place, new_in}
-use Rattle.usb_streams.proofs.Stretches.{between_knows, between_onward, came_knows, item_onward, stretch_knows}
+use Rattle.usb_streams.proofs.Stretches.{between_knows, between_onward, item_onward, stretch_knows}
 
 -- Where a device stands
 
@@ -76,7 +75,7 @@ stayed_stands path device told a b c stood stayed = record {
         record { before = was.before; on = was.on; stands = was.stands; so = spares_stays (pipes_at path (table_in b)) (pipes_at path (table_in c)) x was.before v stayed.pipes was.so }
 
 -- so does an item, by the bytes that it tells
-moved_stands : (path : List ℕ) (device : Accepted) (told : List ToldItem) (due : Due) (item : Item) (a b c : Hosting) → StoodAt path device told a b → MovesAt path device due item b c
+moved_stands : (path : List ℕ) (device : Accepted) (told : List ToldItem) (due : Option Ask) (item : Item) (a b c : Hosting) → StoodAt path device told a b → MovesAt path device due item b c
     → StoodAt path device (record { due = due; asked = b; item = item } ∷ told) a c
 moved_stands path device told due item a b c stood moves =
     let t : ToldItem = record { due = due; asked = b; item = item } in
@@ -90,7 +89,7 @@ moved_stands path device told due item a b c stood moves =
 -- Parts
 
 -- an event that comes leaves each device
-came_stays : (due : Option Due) (a b : Hosting) → Comes a (Ok due) b → (path : List ℕ) (device : Accepted) → accepted_device_at path b.entries ≡ Some device → StayedAt path device a b
+came_stays : (due : Option (Option Ask)) (a b : Hosting) → Comes a (Ok due) b → (path : List ℕ) (device : Accepted) → accepted_device_at path b.entries ≡ Some device → StayedAt path device a b
 came_stays due a b comes = (stay_event a b (ap (λ (h : Hosting). h.entries) comes.rests) (ap (λ (h : Hosting). h.pipes) comes.rests) comes.takes.exact).each
 
 -- and so does text that is written
@@ -116,7 +115,8 @@ between_bulk {a} {b} (round done tells) knows still path device at = pick ((tell
     pick : StayedAt path device a b ⊎ RenewedAt path device a b → StayedAt path device a b ⊎ ((done : Round) × RoundTells a (Ok done) b × RenewedAt path device a b)
     pick (inl stayed) = inl stayed
     pick (inr renewed) = inr (done, tells, renewed)
-between_bulk {a} {b} (changed comes) knows still path device at = inl (came_stays (Some Changed) a b comes path device at)
+between_bulk {a} {b} (silent due comes is) knows still path device at =
+    inl (came_stays (Some due) a b comes path device at)
 between_bulk {a} {b} (last comes) knows still path device at = inl (came_stays None a b comes path device at)
 between_bulk {a} {b} (wrote text puts) knows still path device at = inl (wrote_stays text a b puts path device at)
 
@@ -161,7 +161,7 @@ module _ (path : List ℕ) (device : Accepted) where
         all = refl;
       })
 
-  stood_more : {old h mid new : Hosting} {told : List ToldItem} (due : Due) (item : Item) → Settled h → Comes h (Ok (Some due)) mid → IsItemOf due (Some item) mid new → accepted_device_at path new.entries ≡ Some device
+  stood_more : {old h mid new : Hosting} {told : List ToldItem} (due : Option Ask) (item : Item) → Settled h → Comes h (Ok (Some due)) mid → IsItemOf due (Some item) mid new → accepted_device_at path new.entries ≡ Some device
       → (accepted_device_at path h.entries ≡ Some device → StoodOrFound path device told old h) → StoodOrFound path device (record { due = due; asked = mid; item = item } ∷ told) old new
   stood_more {old} {h} {mid} {new} {told} due item settled comes is at earlier = later (earlier stayed.listed)
     where

@@ -1,39 +1,23 @@
 -- What a host knows over a stretch, and a run as a stretch.
-use Rattle.std.proofs.Common.{◌≡◌, refl, sym, ap, subst, Bool, false, ℕ, List, [], ◌∷◌, Option, None, Some, Result, Ok}
-use Rattle.std.specs.Prelude.{is_some}
-use Rattle.usb_world.specs.declared.event.Due.{Due}
-use Rattle.usb_world.specs.declared.event.Due.TheVariants.{Changed, Show, Send, Receive, Clear}
-use Rattle.usb_address.proofs.Interface.{event_keeps}
-use Rattle.usb_host.specs.declared.fault.HostFault.{HostFault}
+use Rattle.std.proofs.Common.{◌≡◌, refl, sym, ap, subst, Bool, false, ℕ, List, [], ◌∷◌, Option, None, Some, Ok}
+use Rattle.usb_world.specs.declared.event.Ask.{Ask}
 use Rattle.usb_host.specs.declared.host.Round.{Round}
 use Rattle.usb_host.specs.Hosting.{Hosting}
-use Rattle.usb_host.specs.Soundness.{StaysSound}
-use Rattle.usb_host.proofs.Interface.{sound_event, sound_none}
 use Rattle.usb_serve.specs.declared.runs.Item.{Item}
 use Rattle.usb_serve.specs.declared.serving.Mode.{Mode}
 use Rattle.usb_serve.specs.Run.{listing_of}
 use Rattle.usb_host.specs.HostCalls.{RoundTells}
-use Rattle.usb_serve.specs.RunSegments.{Comes, Knows, Ran, idle, changed as ran_changed, Rounds, none, more as one_more, Settles}
+use Rattle.usb_serve.specs.RunSegments.{Knows, Ran, idle, silent as ran_silent, Rounds, none, more as one_more, Settles}
 use Rattle.usb_serve.specs.Transcript.{AppendsText, Makes, asked, last as run_last, Transcript, begun as run_begun, told as run_told, shown}
-use Rattle.usb_host.specs.HostCalls.{TransferTells}
 use Rattle.usb_serve.specs.Transfers.{IsItemOf}
-use Rattle.usb_serve.proofs.Interface.{Onward, called_onward, comes_onward, item_called, knows_then, puts_knows, puts_onward, round_called}
-use Rattle.usb_streams.specs.Stretches.{IsStretch, LiesBetween, round, changed, last, wrote, Stretch, begun, further, more, ToldItem}
+use Rattle.usb_serve.proofs.Interface.{Onward, came_knows, called_onward, comes_onward, item_called, item_stays, knows_then, puts_knows, puts_onward, round_called}
+use Rattle.usb_streams.specs.Stretches.{IsStretch, LiesBetween, round, silent, last, wrote, Stretch, begun, further, more, ToldItem}
 
 -- A part
 
-came_stays : (h k : Hosting) (due : Option Due) → Comes h (Ok due) k → StaysSound h k
-came_stays h k due comes =
-    let takes = comes.takes in
-    sound_event h k comes.agrees (ap (λ (x : Hosting). x.entries) comes.rests) (ap (λ (x : Hosting). x.pipes) comes.rests) takes.exact
-    (event_keeps h.world (Ok due) k.world takes.took takes.exact takes.kept takes.cut (λ reached none. cc (ap is_some none, takes.limit reached)))
-
-pub came_knows : (h k : Hosting) (due : Option Due) → Comes h (Ok due) k → Knows h → Knows k
-came_knows h k due comes s = knows_then h k (comes_onward comes) (came_stays h k due comes) s
-
 pub between_onward : {a b : Hosting} → LiesBetween a b → Onward a.world b.world
 between_onward (round done tells) = called_onward (round_called tells)
-between_onward (changed comes) = comes_onward comes
+between_onward (silent due comes is) = comes_onward comes
 between_onward (last comes) = comes_onward comes
 between_onward (wrote text puts) = puts_onward puts
 
@@ -42,21 +26,11 @@ round_knows {a} {b} tells s = knows_then a b (called_onward (round_called tells)
 
 pub between_knows : {a b : Hosting} → LiesBetween a b → Knows a → Knows b
 between_knows (round done tells) s = round_knows tells s
-between_knows {a} {b} (changed comes) s = came_knows a b (Some Changed) comes s
+between_knows {a} {b} (silent due comes is) s = came_knows a b (Some due) comes s
 between_knows {a} {b} (last comes) s = came_knows a b None comes s
 between_knows (wrote text puts) s = puts_knows puts s
 
-transfer_stays : {A : Type 0} {most : ℕ} {Did : Hosting → Result A HostFault → Hosting → Type 0} {a b : Hosting} {result : Result A HostFault} → TransferTells most Did a result b → StaysSound a b
-transfer_stays tells = tells.keeps.sound
-
-item_stays : (due : Due) (item : Option Item) (a b : Hosting) → IsItemOf due item a b → StaysSound a b
-item_stays Changed item a b is = subst (StaysSound a) (sym is.1) (sound_none a)
-item_stays Show item a b is = subst (StaysSound a) (sym is.1) (sound_none a)
-item_stays (Send path bytes) item a b is = transfer_stays is.2.call
-item_stays (Receive path packets) item a b is = transfer_stays is.2.call
-item_stays (Clear path) item a b is = transfer_stays is.2.call
-
-pub item_onward : (due : Due) (item : Option Item) (a b : Hosting) → IsItemOf due item a b → Onward a.world b.world
+pub item_onward : (due : Option Ask) (item : Option Item) (a b : Hosting) → IsItemOf due item a b → Onward a.world b.world
 item_onward due item a b is = called_onward (item_called due item a b is)
 
 -- A stretch
@@ -78,7 +52,8 @@ with_settling t settles = further (with_rounds t settles.rounds) (round settles.
 
 with_ran : {old a b : Hosting} {told : List ToldItem} → Stretch old told a → Ran a b → Stretch old told b
 with_ran t idle = t
-with_ran t (ran_changed {h} {k} before arrives) = further (with_settling (with_ran t before) arrives.settles) (changed arrives.comes)
+with_ran t (ran_silent {h} {k} due before arrives is) =
+    further (with_settling (with_ran t before) arrives.settles) (silent due arrives.comes is)
 
 with_item : {old h k new : Hosting} {items : List Item} {item : Item} {over : Bool} {text : List ℕ} → IsStretch items false old h → Makes h item over k → AppendsText text k new → IsStretch (item ∷ items) over old new
 with_item {text = text} s (asked {item} {mid} {new = k} due reaches is right) puts =

@@ -5,8 +5,8 @@ use Rattle.std.specs.List.{AllByRecursion}
 use Rattle.usb_port.specs.Order.{path_cmp}
 use Rattle.usb_device.specs.Rows.{State}
 use Rattle.usb_device.specs.Tree.{Spot, path_to, reach_on, state_on}
-use Rattle.usb_world.specs.declared.event.Due.{Due}
-use Rattle.usb_world.specs.declared.event.Due.TheVariants.{Changed, Show, Send, Receive, Clear}
+use Rattle.usb_world.specs.declared.event.Ask.{Ask}
+use Rattle.usb_world.specs.declared.event.Ask.TheVariants.{Send, Clear}
 use Rattle.usb_world.specs.Devices.{Was}
 use Rattle.usb_pipe.specs.declared.condition.Condition.TheVariants.{Ready}
 use Rattle.usb_pipe.specs.Bulk.{Bulk}
@@ -29,12 +29,9 @@ use Rattle.usb_streams.specs.Stretches.{ToldItem, Stretch}
 -- Bytes
 
 -- the bytes that an event asks the host to send to a path
-abbrev pub bytes_for : List ℕ → Due → List ℕ
-bytes_for path Changed = []
-bytes_for path Show = []
-bytes_for path (Send to bytes) = if is_at (path_cmp to) path then bytes else []
-bytes_for path (Receive from packets) = []
-bytes_for path (Clear at) = []
+abbrev pub bytes_for : List ℕ → Option Ask → List ℕ
+bytes_for path (Some (Send to bytes)) = if is_at (path_cmp to) path then bytes else []
+bytes_for path _ = []
 
 -- the bytes that an item tells as received from a path
 abbrev pub bytes_from : List ℕ → Item → List ℕ
@@ -84,7 +81,7 @@ IsFailedFront path (t ∷ told) front = ((is_done t.item ≡ false) × ((rest : 
 
 -- a clear of the path found its OUT pipe at work, if there was one, and left it alone
 abbrev pub ClearsNoOut : List ℕ → ToldItem → Type 0
-ClearsNoOut path t = t.due ≡ Clear path → IsAtWork (pipe_out (pipes_at path (table_in t.asked)))
+ClearsNoOut path t = t.due ≡ Some (Clear path) → IsAtWork (pipe_out (pipes_at path (table_in t.asked)))
 
 -- the sends that are told done are, end to end, what the sink got, with at most a front of a failed one behind them, and none where the pipe works still
 pub record TookSent (path : List ℕ) (told : List ToldItem) (left : Option Bulk) (s v : State) : Type 0 where
@@ -97,7 +94,7 @@ pub record TookSent (path : List ℕ) (told : List ToldItem) (left : Option Bulk
 
 -- a clear of the path found its IN pipe at work, if there was one, and left it alone
 abbrev pub ClearsNoIn : List ℕ → ToldItem → Type 0
-ClearsNoIn path t = t.due ≡ Clear path → IsAtWork (pipe_in (pipes_at path (table_in t.asked)))
+ClearsNoIn path t = t.due ≡ Some (Clear path) → IsAtWork (pipe_in (pipes_at path (table_in t.asked)))
 
 -- through a pipe that had got some number of bytes of the device's source these came, which are the next ones; the pipe has got so many more
 pub record GaveNext (bytes : List ℕ) (pipe left : Bulk) (s v : State) : Type 0 where

@@ -1,7 +1,6 @@
 -- Stretches of a run, with what was told in them.
-use Rattle.std.specs.Prelude.{◌≡◌, ℕ, Bool, true, false, None, Some, List, [], ◌∷◌, Ok, map}
-use Rattle.usb_world.specs.declared.event.Due.{Due}
-use Rattle.usb_world.specs.declared.event.Due.TheVariants.{Changed}
+use Rattle.std.specs.Prelude.{◌≡◌, ℕ, Bool, true, false, Option, None, Some, List, [], ◌∷◌, Ok, map}
+use Rattle.usb_world.specs.declared.event.Ask.{Ask}
 use Rattle.usb_host.specs.declared.host.Round.{Round}
 use Rattle.usb_host.specs.Hosting.{Hosting}
 use Rattle.usb_serve.specs.declared.runs.Item.{Item}
@@ -12,14 +11,15 @@ use Rattle.usb_serve.specs.Transfers.{IsItemOf}
 
 -- an event that asked for an item, the host that it asked, and the item
 pub record ToldItem : Type 0 where
-  pub due : Due
+  pub due : Option Ask
   pub asked : Hosting
   pub item : Item
 
--- what lies between two items: a round, an event that asks nothing of the host, that no event is left, or text that is written
+-- what lies between two items: a round, an event that makes no item, that no event is left, or text that is written
 pub data LiesBetween (old : Hosting) : Hosting → Type 0 where
   round : {new : Hosting} (done : Round) → RoundTells old (Ok done) new → LiesBetween old new
-  changed : {new : Hosting} → Comes old (Ok (Some Changed)) new → LiesBetween old new
+  silent : {new : Hosting} (due : Option Ask) → Comes old (Ok (Some due)) new → IsItemOf due None new new
+      → LiesBetween old new
   last : {new : Hosting} → Comes old (Ok None) new → LiesBetween old new
   wrote : {new : Hosting} (text : List ℕ) → AppendsText text old new → LiesBetween old new
 
@@ -28,7 +28,7 @@ pub data LiesBetween (old : Hosting) : Hosting → Type 0 where
 pub data Stretch (old : Hosting) : List ToldItem → Hosting → Type 0 where
   begun : Stretch old [] old
   further : {told : List ToldItem} {h new : Hosting} → Stretch old told h → LiesBetween h new → Stretch old told new
-  more : {told : List ToldItem} {h mid new : Hosting} (due : Due) (item : Item) → Stretch old told h → Settled h → Comes h (Ok (Some due)) mid
+  more : {told : List ToldItem} {h mid new : Hosting} (due : Option Ask) (item : Item) → Stretch old told h → Settled h → Comes h (Ok (Some due)) mid
       → IsItemOf due (Some item) mid new → Stretch old (record { due = due; asked = mid; item = item } ∷ told) new
 
 -- the items that events asked for, and behind them the last listing where the run is over

@@ -16,17 +16,15 @@ use Rattle.usb_pipe.proofs.Interface.{receive_leaves, who_receives}
 use Rattle.usb_enum.specs.declared.finding.Accepted.{Accepted}
 use Rattle.usb_table.specs.declared.fault.EndpointFault.{EndpointFault}
 use Rattle.usb_table.specs.declared.fault.EndpointFault.TheVariants.{Pipe}
-use Rattle.usb_table.specs.declared.pipes.Pipes.{Pipes}
-use Rattle.usb_table.specs.declared.pipes.Pipes.TheVariants.{Hub, Function, Absent}
 use Rattle.usb_table.specs.Deliveries.{GaveBytes, GaveBy, TransfersAt, Collected, bytes_in, pipe_in}
-use Rattle.usb_table.specs.Findings.{in_endpoint, accepted_device_at}
+use Rattle.usb_table.specs.Findings.{accepted_device_at}
 use Rattle.usb_table.specs.KnownPorts.{is_below_hub}
 use Rattle.usb_table.specs.Levels.{AreLevel, FitsIn, IsHeld, LevelAt}
-use Rattle.usb_table.specs.Pipes.{IsPipe, ArePipesIf, ArePipesTo}
 use Rattle.usb_table.specs.Table.{Table, pipes_at, ArePipesAt}
-use Rattle.usb_table.specs.Transfers.{ReceivedBy, PipesReceived, endpoint_answer}
+use Rattle.usb_table.specs.Transfers.{PipesReceived, ReceivedThrough, endpoint_answer}
 use Rattle.usb_table.proofs.MovedPipes.{known_left}
-use Rattle.usb_table.proofs.PathTransfers.{Reached, none_changes, changes_there, answers_there, done_through, not_bus}
+use Rattle.usb_table.proofs.PathTransfers.{Reached, answers_there, changes_there, done_through, levels_there, none_changes, not_bus}
+use Rattle.usb_table.proofs.ThroughPipes.{through_pipes}
 
 bytes_through : (answer : Result (Vec ℕ) PipeFault) (result : Result (Vec ℕ) EndpointFault) → result ≡ endpoint_answer answer → bytes_in answer ≡ bytes_in result
 bytes_through (Ok x) result e = sym (ap bytes_in e)
@@ -67,33 +65,30 @@ module _ (path : List ℕ) (packets : ℕ) (old new : Table) (before after : Wor
         there = reached answer left receives;
       }
 
-    module _ (result : Result (Vec ℕ) EndpointFault) (other : (why : BusFault) → result ≢ Err (Pipe (pipe_fault.Bus why))) where
-      by_pipe : (endpoint : Option (ℕ × ℕ)) (into left : Option Bulk) → IsPipe device true endpoint into → Reached path before (FitsIn into) → ReceivedBy into packets before result left after
-          → Gives (is_ok result) (bytes_in result) into left
-      by_pipe endpoint None left is fits x = not_asked result left _ x.0 x.2
-      by_pipe endpoint (Some pipe) None is fits x = absurd x
-      by_pipe None (Some pipe) (Some left) is fits x = absurd is
-      by_pipe (Some endpoint) (Some pipe) (Some left) is fits x =
-          let known : pipe_known x.answer left ≡ left = known_left x.answer left (not_bus x.answer result x.told other) in
-          subst (λ (b : Bool). Gives b (bytes_in result) (Some pipe) (Some left)) (done_through x.answer result x.told)
-          (subst (λ (bytes : List ℕ). Gives (is_ok x.answer) bytes (Some pipe) (Some left)) (bytes_through x.answer result x.told)
-          (through pipe (ap (λ (t : Target). t.addr) is.target) (subst (λ n. 1 ≤ n) (sym is.max) is.least) fits x.answer left known x.receives))
-
-      by_pipes : (pipes left : Pipes) → ArePipesTo device (is_below_hub path) pipes → Reached path before (AreLevel pipes) → PipesReceived pipes packets before result left after
-          → Gives (is_ok result) (bytes_in result) (pipe_in pipes) (pipe_in left)
-      by_pipes (Hub pipe) left are level x = not_asked result (pipe_in left) _ x.0 x.2
-      by_pipes (Function pipes) left are level x =
-          subst (λ (l : Pipes). Gives (is_ok result) (bytes_in result) pipes.into (pipe_in l)) (sym x.1)
-          (by_pipe (in_endpoint device) pipes.into x.0 are.2 (λ s on there. (level s on there).1) x.2)
-      by_pipes Absent left are level x = absurd are
-
-  pub received_collects : (result : Result (Vec ℕ) EndpointFault) → ((why : BusFault) → result ≢ Err (Pipe (pipe_fault.Bus why))) → IsHeld old before → LevelAt path old before → after.shared ≡ false → ArePipesAt path old
-      → PipesReceived (pipes_at path old) packets before result (pipes_at path new) after → Collected path (is_ok result) packets (bytes_in result) old before new after
-  received_collects result other held level single are x = let g = by_device (accepted_device_at path old.entries) refl are in record { gave = g.gave; there = g.there }
-    where
-      by_device : (found : Option Accepted) → accepted_device_at path old.entries ≡ found → ArePipesIf found (is_below_hub path) (pipes_at path old)
-          → Gives (is_ok result) (bytes_in result) (pipe_in (pipes_at path old)) (pipe_in (pipes_at path new))
-      by_device None e none =
-          let y = subst (λ (p : Pipes). PipesReceived p packets before result (pipes_at path new) after) none x in
-          subst (λ (p : Pipes). Gives (is_ok result) (bytes_in result) (pipe_in p) (pipe_in (pipes_at path new))) (sym none) (not_asked result (pipe_in (pipes_at path new)) _ y.0 y.2)
-      by_device (Some device) e to = by_pipes held single device e result other (pipes_at path old) (pipes_at path new) to (λ s on there. level.level device s e on there) x
+  pub received_collects : (result : Result (Vec ℕ) EndpointFault)
+      → ((why : BusFault) → result ≢ Err (Pipe (pipe_fault.Bus why))) → IsHeld old before
+      → LevelAt path old before → after.shared ≡ false → ArePipesAt path old
+      → PipesReceived (pipes_at path old) packets before result (pipes_at path new) after
+      → Collected path (is_ok result) packets (bytes_in result) old before new after
+  received_collects result other held level single are x =
+      let g =
+      through_pipes true (λ p. ReceivedThrough p packets) before result after
+      (accepted_device_at path old.entries) (is_below_hub path)
+      (λ p l. Reached path before (AreLevel p)
+      → Gives (is_ok result) (bytes_in result) (pipe_in p) (pipe_in l))
+      (λ pipes fault none told e same l.
+      subst (λ (o : Option Bulk). Gives (is_ok result) (bytes_in result) o (pipe_in pipes))
+      (sym none) (not_asked result (pipe_in pipes) fault e same))
+      (λ device endpoint pipe left other_way found is y l.
+      let known = known_left y.answer left (not_bus y.answer result y.told other) in
+      let fits : Reached path before (FitsIn (Some pipe)) =
+      λ s on there. (l s on there).1 in
+      let least = subst (λ n. 1 ≤ n) (sym is.max) is.least in
+      subst (λ (b : Bool). Gives b (bytes_in result) (Some pipe) (Some left))
+      (done_through y.answer result y.told)
+      (subst (λ (bytes : List ℕ). Gives (is_ok y.answer) bytes (Some pipe) (Some left))
+      (bytes_through y.answer result y.told)
+      (through held single device found pipe (ap (λ (t : Target). t.addr) is.target) least fits
+      y.answer left known y.receives)))
+      (pipes_at path old) (pipes_at path new) are x (levels_there path old before level are) in
+      record { gave = g.gave; there = g.there }

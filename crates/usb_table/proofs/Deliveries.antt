@@ -1,5 +1,5 @@
 -- Bytes that are sent through the pipes at a path are taken by the device there.
-use Rattle.std.proofs.Common.{◌≡◌, ◌≢◌, refl, sym, ap, subst, Bool, true, false, ℕ, ◌==◌, append-nil, List, [], Option, None, Some, Result, Ok, Err}
+use Rattle.std.proofs.Common.{◌≡◌, ◌≢◌, refl, sym, ap, subst, Bool, true, false, ℕ, ◌==◌, append-nil, List, [], Some, Result, Ok, Err}
 use Rattle.std.specs.Prelude.{is_ok, is_some}
 use Rattle.usb_device.specs.Rows.{State}
 use Rattle.usb_device.specs.Tree.{reach, Spot}
@@ -12,16 +12,14 @@ use Rattle.usb_pipe.specs.Leaves.{FitsSink, SendLeaves}
 use Rattle.usb_pipe.proofs.Interface.{send_leaves, who_sends}
 use Rattle.usb_enum.specs.declared.finding.Accepted.{Accepted}
 use Rattle.usb_table.specs.declared.fault.EndpointFault.{EndpointFault}
-use Rattle.usb_table.specs.declared.pipes.Pipes.{Pipes}
-use Rattle.usb_table.specs.declared.pipes.Pipes.TheVariants.{Hub, Function, Absent}
 use Rattle.usb_table.specs.Deliveries.{TookBytes, Delivered}
-use Rattle.usb_table.specs.Findings.{out_endpoint, accepted_device_at}
+use Rattle.usb_table.specs.Findings.{accepted_device_at}
 use Rattle.usb_table.specs.KnownPorts.{is_below_hub}
-use Rattle.usb_table.specs.Levels.{AreLevel, FitsOut, IsHeld, LevelAt}
-use Rattle.usb_table.specs.Pipes.{IsPipe, ArePipesIf, ArePipesTo}
+use Rattle.usb_table.specs.Levels.{AreLevel, IsHeld, LevelAt}
 use Rattle.usb_table.specs.Table.{Table, pipes_at, ArePipesAt}
-use Rattle.usb_table.specs.Transfers.{SentBy, PipesSent}
-use Rattle.usb_table.proofs.PathTransfers.{Reached, none_changes, changes_there, answers_there, done_through}
+use Rattle.usb_table.specs.Transfers.{PipesSent, SentThrough}
+use Rattle.usb_table.proofs.PathTransfers.{Reached, answers_there, changes_there, done_through, levels_there, none_changes}
+use Rattle.usb_table.proofs.ThroughPipes.{through_pipes}
 
 module _ (path bytes : List ℕ) (old new : Table) (before after : World) where
   none_taken : (s : State) → TookBytes false bytes s s
@@ -55,26 +53,21 @@ module _ (path bytes : List ℕ) (old new : Table) (before after : World) where
         there = reached answer left sends;
       }
 
-    by_pipe : (result : Result (Unit {0}) EndpointFault) (endpoint : Option (ℕ × ℕ)) (out left : Option Bulk) → IsPipe device false endpoint out → Reached path before (FitsOut out) → SentBy out bytes before result left after
-        → Delivered path (is_ok result) bytes old before new after
-    by_pipe result endpoint None left is fits x = not_sent result _ x.0 x.2
-    by_pipe result endpoint (Some pipe) None is fits x = absurd x
-    by_pipe result None (Some pipe) (Some left) is fits x = absurd is
-    by_pipe result (Some endpoint) (Some pipe) (Some left) is fits x =
-        subst (λ (b : Bool). Delivered path b bytes old before new after) (done_through x.answer result x.told)
-        (through pipe (ap (λ (t : Target). t.addr) is.target) fits x.answer left x.sends)
-
-    by_pipes : (result : Result (Unit {0}) EndpointFault) (pipes left : Pipes) → ArePipesTo device (is_below_hub path) pipes → Reached path before (AreLevel pipes) → PipesSent pipes bytes before result left after
-        → Delivered path (is_ok result) bytes old before new after
-    by_pipes result (Hub pipe) left are level x = not_sent result _ x.0 x.2
-    by_pipes result (Function pipes) left are level x = by_pipe result (out_endpoint device) pipes.out x.0 are.1 (λ s on there. (level s on there).0) x.2
-    by_pipes result Absent left are level x = absurd are
-
-  pub sent_delivers : (result : Result (Unit {0}) EndpointFault) → IsHeld old before → LevelAt path old before → after.shared ≡ false → ArePipesAt path old → PipesSent (pipes_at path old) bytes before result (pipes_at path new) after
+  pub sent_delivers : (result : Result (Unit {0}) EndpointFault) → IsHeld old before
+      → LevelAt path old before → after.shared ≡ false → ArePipesAt path old
+      → PipesSent (pipes_at path old) bytes before result (pipes_at path new) after
       → Delivered path (is_ok result) bytes old before new after
-  sent_delivers result held level single are x = by_device (accepted_device_at path old.entries) refl are
-    where
-      by_device : (found : Option Accepted) → accepted_device_at path old.entries ≡ found → ArePipesIf found (is_below_hub path) (pipes_at path old)
-          → Delivered path (is_ok result) bytes old before new after
-      by_device None e none = let y = subst (λ (p : Pipes). PipesSent p bytes before result (pipes_at path new) after) none x in not_sent result _ y.0 y.2
-      by_device (Some device) e to = by_pipes held single device e result (pipes_at path old) (pipes_at path new) to (λ s on there. level.level device s e on there) x
+  sent_delivers result held level single are x =
+      through_pipes false (λ p. SentThrough p bytes) before result after
+      (accepted_device_at path old.entries) (is_below_hub path)
+      (λ p l. Reached path before (AreLevel p)
+      → Delivered path (is_ok result) bytes old before new after)
+      (λ pipes fault none told e same l. not_sent result fault e same)
+      (λ device endpoint pipe left other found is y l.
+      let fits : Reached path before (FitsSink pipe) =
+      λ s on there. (l s on there).0 in
+      subst (λ (b : Bool). Delivered path b bytes old before new after)
+      (done_through y.answer result y.told)
+      (through held single device found pipe (ap (λ (t : Target). t.addr) is.target) fits
+      y.answer left y.sends))
+      (pipes_at path old) (pipes_at path new) are x (levels_there path old before level are)

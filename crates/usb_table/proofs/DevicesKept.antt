@@ -29,7 +29,7 @@ use Rattle.usb_world.specs.AttemptPackets.{IsSettled}
 use Rattle.usb_world.specs.PortRequests.{asks_no_port}
 use Rattle.usb_world.specs.RestingPorts.{AsksNothingOf}
 use Rattle.usb_world.specs.Steps.{Step, attempt, root_call, event, report, after, ready, with_attempt, Course, here, step}
-use Rattle.usb_world.specs.World.{World}
+use Rattle.usb_world.specs.World.{World, Failed}
 use Rattle.usb_world.proofs.Interface.{Cut, MadeOrNot, attempt_cases, cut_or_same, data_asks_nothing, each_in, each_joined, each_none, each_out, each_wider, made_here, made_is, made_whole, neither, ready_shared, settled_after, settled_course, settled_wider, unequal, unmade}
 use Rattle.usb_backlog.specs.Marks.{Few, KeepsAll, PortMark}
 use Rattle.usb_backlog.proofs.Interface.{KeepsStep, all_none, data_allows, keeps-attempt, keeps-chain}
@@ -39,20 +39,22 @@ use Rattle.usb_transaction.specs.Transactions.{in_attempt, setup_attempt}
 use Rattle.usb_transaction.specs.declared.target.Target.{Target}
 use Rattle.usb_transaction.proofs.Interface.{trail_settled, trail_unshared, transacted_unshared}
 use Rattle.usb_pipe.specs.declared.fault.PipeFault.{PipeFault}
-use Rattle.usb_pipe.specs.declared.fault.PipeFault.TheVariants as pipe
+use Rattle.usb_pipe.specs.declared.fault.PipeFault.TheVariants as pipe_fault
 use Rattle.usb_pipe.specs.Attempts.{TransferAttempts}
 use Rattle.usb_pipe.specs.Bulk.{Bulk, Sends, Receives, Clears, Cleared, halt_address}
+use Rattle.usb_pipe.specs.Control.{FaultAfter}
 use Rattle.usb_pipe.specs.End.{packet_target}
 use Rattle.usb_pipe.specs.Interrupt.{Interrupt, Polls}
 use Rattle.usb_pipe.specs.Moves.{SendsAt}
 use Rattle.usb_pipe.specs.Leaves.{WriteLeaves}
 use Rattle.usb_pipe.specs.Stages.{Writes}
 use Rattle.usb_pipe.proofs.Interface.{given_registers, harmless, poll_attempts, receive_attempts, send_attempts}
-use Rattle.usb_address.proofs.Interface.{Ran, in_kept, out_kept}
+use Rattle.usb_address.specs.Ownership.{KeepsAddresses}
+use Rattle.usb_address.proofs.Interface.{Ran, clears_keep, in_kept, keeps_none, out_kept, polls_keep, receives_keep, sends_keep}
 use Rattle.usb_hub.specs.Requests.{AllRest, Ordered}
 use Rattle.usb_hub.proofs.Interface.{each_leaves, order_elsewhere, write_backlog, write_rests, write_so}
 use Rattle.usb_enum.proofs.Interface.{ended}
-use Rattle.usb_table.specs.Transfers.{SameSettings, KeepsSettings}
+use Rattle.usb_table.specs.Transfers.{SameSettings, KeepsSettings, OnlyTransfers}
 use Rattle.usb_table.proofs.KeptPipes.{broken_or_not, ready_or_not, empty_or_not, none_or_some}
 
 -- Each device over such an attempt
@@ -121,6 +123,12 @@ step_stays a w far settled single = pick (attempt_cases a w)
 
 -- Over all attempts of a call
 
+-- what is left of all devices and ports
+pub record Spared (old new : World) : Type 0 where
+  pub ran : new.shared ≡ false → EachWas RanAs old new
+  pub rests : new.fault ≡ None → AllRest old new
+  pub backlog : new.fault ≡ None → KeepsAll old new
+
 abbrev IsFarStep : Step → Type 0
 IsFarStep (attempt a) = IsFar a
 IsFarStep (root_call c n) = ⊥
@@ -175,36 +183,32 @@ module _ (K : Step → World → Type 0) (far : (s : Step) (w : World) → K s w
       pick (made_whole h m u r) =
           each_then old g.mid new (course_stays g.course settled h).each (each_at g.mid (after (attempt g.last) g.mid) new r (each_far g.last g.mid (far (attempt g.last) g.mid g.is) m u))
 
-  module _ {A : Type 0} (old new : World) (settled : IsSettled old.roots) where
-    attempts_run : (result : Result A PipeFault) → TransferAttempts K old result new → new.shared ≡ false → EachWas RanAs old new
-    attempts_run result x = by_result result x
-      where
-        by_result : (result : Result A PipeFault) → TransferAttempts K old result new → new.shared ≡ false → EachWas RanAs old new
-        by_result (Ok y) x single = (course_stays (x.whole tt) settled single).each
-        by_result (Err pipe.Stalled) x single = (course_stays (x.whole tt) settled single).each
-        by_result (Err pipe.Busy) x single = (course_stays (x.whole tt) settled single).each
-        by_result (Err pipe.NoAnswer) x single = (course_stays (x.whole tt) settled single).each
-        by_result (Err pipe.Broken) x single = (course_stays (x.whole tt) settled single).each
-        by_result (Err (pipe.Bus fault)) x single = cut_stays old fault new (x.cut fault refl) settled single
-        by_result (Err pipe.Memory) x single = (course_stays (x.whole tt) settled single).each
+  -- they ran to their end, or the bus gave up
+  attempts_cases : {A : Type 0} (old : World) (result : Result A PipeFault) (new : World)
+      → TransferAttempts K old result new
+      → Course K old new ⊎ ((fault : BusFault) × GivenUp K old fault new)
+  attempts_cases old (Ok y) new x = inl (x.whole tt)
+  attempts_cases old (Err pipe_fault.Stalled) new x = inl (x.whole tt)
+  attempts_cases old (Err pipe_fault.Busy) new x = inl (x.whole tt)
+  attempts_cases old (Err pipe_fault.NoAnswer) new x = inl (x.whole tt)
+  attempts_cases old (Err pipe_fault.Broken) new x = inl (x.whole tt)
+  attempts_cases old (Err (pipe_fault.Bus fault)) new x = inr (fault, x.cut fault refl)
+  attempts_cases old (Err pipe_fault.Memory) new x = inl (x.whole tt)
 
-    attempts_rest : (result : Result A PipeFault) → TransferAttempts K old result new → new.fault ≡ None → AllRest old new
-    attempts_rest (Ok y) x sound p = course_rests p (x.whole tt) settled
-    attempts_rest (Err pipe.Stalled) x sound p = course_rests p (x.whole tt) settled
-    attempts_rest (Err pipe.Busy) x sound p = course_rests p (x.whole tt) settled
-    attempts_rest (Err pipe.NoAnswer) x sound p = course_rests p (x.whole tt) settled
-    attempts_rest (Err pipe.Broken) x sound p = course_rests p (x.whole tt) settled
-    attempts_rest (Err (pipe.Bus fault)) x sound p = let told = (x.cut fault refl).refused.ends.told in absurd (cc (told, sound))
-    attempts_rest (Err pipe.Memory) x sound p = course_rests p (x.whole tt) settled
-
-    attempts_backlog : (result : Result A PipeFault) → TransferAttempts K old result new → new.fault ≡ None → KeepsAll old new
-    attempts_backlog (Ok y) x sound = course_backlog (x.whole tt) settled
-    attempts_backlog (Err pipe.Stalled) x sound = course_backlog (x.whole tt) settled
-    attempts_backlog (Err pipe.Busy) x sound = course_backlog (x.whole tt) settled
-    attempts_backlog (Err pipe.NoAnswer) x sound = course_backlog (x.whole tt) settled
-    attempts_backlog (Err pipe.Broken) x sound = course_backlog (x.whole tt) settled
-    attempts_backlog (Err (pipe.Bus fault)) x sound = let told = (x.cut fault refl).refused.ends.told in absurd (cc (told, sound))
-    attempts_backlog (Err pipe.Memory) x sound = course_backlog (x.whole tt) settled
+  attempts_spare : {A : Type 0} (old : World) (result : Result A PipeFault) (new : World)
+      → IsSettled old.roots → TransferAttempts K old result new → Spared old new
+  attempts_spare old result new settled x = elim (attempts_cases old result new x) [
+    | inl c ↦ record {
+      ran = λ single. (course_stays c settled single).each;
+      rests = λ sound p. course_rests p c settled;
+      backlog = λ sound. course_backlog c settled;
+    }
+    | inr g ↦ record {
+      ran = λ single. cut_stays old g.0 new g.1 settled single;
+      rests = λ sound. let told = g.1.refused.ends.told in absurd (cc (told, sound));
+      backlog = λ sound. let told = g.1.refused.ends.told in absurd (cc (told, sound));
+    }
+  ]
 
 -- The calls of pipes
 
@@ -217,107 +221,105 @@ only_far t ep far s w e = subst IsFarStep (sym e) (into (record { kind = refl; p
 sends_far : (t : Target) (ep : ℕ) (first : Toggle) (bytes : List ℕ) (old : World) → ep ≢ 0 → (s : Step) (w : World) → SendsAt t ep first bytes old s w → IsFarStep s
 sends_far t ep first bytes old far s w x = subst IsFarStep (sym x.is) (out _ _ (record { kind = refl; payload = refl }) (far_number ep far))
 
-pub settings_none : (w : World) → KeepsSettings w w
-settings_none w = record { same = λ single. each_none SameSettings (λ j s. (refl, refl)) w }
-
-pub settings_then : (old mid new : World) → (new.shared ≡ false → mid.shared ≡ false) → KeepsSettings old mid → KeepsSettings mid new → KeepsSettings old new
-settings_then old mid new before x y = record {
-  same = λ single. each_joined SameSettings SameSettings SameSettings (λ j s t v h k. (k.0 ∙ h.0, k.1 ∙ h.1)) old mid new (x.same (before single)) (y.same single);
+spared_none : (w : World) → Spared w w
+spared_none w = record {
+  ran = λ single. each_itself w;
+  rests = λ sound x. here w;
+  backlog = λ sound. all_none w;
 }
 
-same_stays : (old new : World) → new ≡ old → KeepsSettings old new
-same_stays old new e = subst (KeepsSettings old) (sym e) (settings_none old)
+pub polls_spare : (pipe : Interrupt) → pipe.ep ≢ 0 → (old : World)
+    (result : Result (Option (ArrayVec ℕ)) PipeFault) (left : Interrupt) (new : World)
+    → IsSettled old.roots → Polls pipe old result left new → Spared old new
+polls_spare pipe far old result left new settled x =
+    attempts_spare (IsOnly (in_attempt pipe.target pipe.ep)) (only_far pipe.target pipe.ep far) old
+    result new settled (poll_attempts pipe result left old new x)
 
-ran_stays : (old new : World) → (new.shared ≡ false → EachWas RanAs old new) → KeepsSettings old new
-ran_stays old new ran = record { same = λ single. each_wider RanAs SameSettings (λ j s v k. (k.0, k.1)) old new (ran single) }
+spared_if : {old new : World} → IsSettled old.roots ⊎ (new ≡ old)
+    → (IsSettled old.roots → Spared old new) → Spared old new
+spared_if {old} (inl settled) spared = spared settled
+spared_if {old} (inr same) spared = subst (Spared old) (sym same) (spared_none old)
 
-same_rests : (old new : World) → new ≡ old → AllRest old new
-same_rests old new e x = subst (λ v. Course (AsksNothingOf x) old v) (sym e) (here old)
+-- What each leaves, with the addresses
 
-same_backlog : (old new : World) → new ≡ old → KeepsAll old new
-same_backlog old new e = subst (KeepsAll old) (sym e) (all_none old)
+only_transfers : (old new : World) → KeepsAddresses old new → Spared old new → OnlyTransfers old new
+only_transfers old new addresses x = record {
+  addresses = addresses;
+  devices = record {
+    same = λ single.
+        each_wider RanAs SameSettings (λ j s v k. (k.0, k.1)) old new (x.ran single);
+  };
+  rests = x.rests;
+  backlog = x.backlog;
+}
 
-pub polls_run : (pipe : Interrupt) → pipe.ep ≢ 0 → (old : World) (result : Result (Option (ArrayVec ℕ)) PipeFault) (left : Interrupt) (new : World) → IsSettled old.roots → Polls pipe old result left new → new.shared ≡ false
-    → EachWas RanAs old new
-polls_run pipe far old result left new settled x =
-    attempts_run (IsOnly (in_attempt pipe.target pipe.ep)) (only_far pipe.target pipe.ep far) old new settled result (poll_attempts pipe result left old new x)
+spares_none : (w : World) → OnlyTransfers w w
+spares_none w = only_transfers w w (keeps_none w) (spared_none w)
 
-pub polls_stay : (pipe : Interrupt) → pipe.ep ≢ 0 → (old : World) (result : Result (Option (ArrayVec ℕ)) PipeFault) (left : Interrupt) (new : World) → IsSettled old.roots → Polls pipe old result left new → KeepsSettings old new
-polls_stay pipe far old result left new settled x = ran_stays old new (polls_run pipe far old result left new settled x)
+pub same_spares : (old new : World) → new ≡ old → OnlyTransfers old new
+same_spares old new e = subst (OnlyTransfers old) (sym e) (spares_none old)
 
-pub polls_rest : (pipe : Interrupt) → pipe.ep ≢ 0 → (old : World) (result : Result (Option (ArrayVec ℕ)) PipeFault) (left : Interrupt) (new : World) → IsSettled old.roots → Polls pipe old result left new → new.fault ≡ None → AllRest old new
-polls_rest pipe far old result left new settled x sound =
-    attempts_rest (IsOnly (in_attempt pipe.target pipe.ep)) (only_far pipe.target pipe.ep far) old new settled result (poll_attempts pipe result left old new x) sound
+pub polls_only : (pipe : Interrupt) → pipe.ep ≢ 0 → (old : World)
+    (result : Result (Option (ArrayVec ℕ)) PipeFault) (left : Interrupt) (new : World)
+    → IsSettled old.roots → Polls pipe old result left new → OnlyTransfers old new
+polls_only pipe far old result left new settled x =
+    only_transfers old new (polls_keep pipe far old result left new x)
+    (polls_spare pipe far old result left new settled x)
 
-pub polls_backlog : (pipe : Interrupt) → pipe.ep ≢ 0 → (old : World) (result : Result (Option (ArrayVec ℕ)) PipeFault) (left : Interrupt) (new : World) → IsSettled old.roots → Polls pipe old result left new → new.fault ≡ None → KeepsAll old new
-polls_backlog pipe far old result left new settled x sound =
-    attempts_backlog (IsOnly (in_attempt pipe.target pipe.ep)) (only_far pipe.target pipe.ep far) old new settled result (poll_attempts pipe result left old new x) sound
+-- what a call through a bulk pipe leaves of all devices and ports; the bus tells its own fault
+pub record PipeKeeps {A : Type 0} (old : World) (answer : Result A PipeFault) (new : World)
+    : Type 0 where
+  pub worlds : OnlyTransfers old new
+  pub told : (fault : BusFault) → answer ≡ Err (pipe_fault.Bus fault) → Failed fault new
 
--- a call that makes no attempt changes nothing; for another the ports are settled
-moved_or_same : (bytes : List ℕ) (pipe : Bulk) (old : World) (result : Result (Unit {0}) PipeFault) (left : Bulk) (new : World) → Sends bytes pipe old result left new → IsSettled old.roots ⊎ (new ≡ old)
-moved_or_same bytes pipe old result left new x = elim (broken_or_not pipe.condition) [
-  | inl broken ↦ inr (x.broken broken).world_kept
-  | inr works ↦ elim (empty_or_not bytes) [
-    | inl nothing ↦ inr (x.nothing works nothing).world_kept
-    | inr more ↦ inl (x.moved works more).settled
+module _ (bytes : List ℕ) (pipe : Bulk) (far : pipe.ep ≢ 0) (old : World)
+    (answer : Result (Unit {0}) PipeFault) (left : Bulk) (new : World)
+    (x : Sends bytes pipe old answer left new) where
+  -- a call that makes no attempt changes nothing; for another the ports are settled
+  moved_or_same : IsSettled old.roots ⊎ (new ≡ old)
+  moved_or_same = elim (broken_or_not pipe.condition) [
+    | inl broken ↦ inr (x.broken broken).world_kept
+    | inr works ↦ elim (empty_or_not bytes) [
+      | inl nothing ↦ inr (x.nothing works nothing).world_kept
+      | inr more ↦ inl (x.moved works more).settled
+    ]
   ]
-]
 
-came_or_same : (wanted : ℕ) (pipe : Bulk) (old : World) (result : Result (Vec ℕ) PipeFault) (left : Bulk) (new : World) → Receives wanted pipe old result left new → IsSettled old.roots ⊎ (new ≡ old)
-came_or_same wanted pipe old result left new x = elim (broken_or_not pipe.condition) [
-  | inl broken ↦ inr (x.broken broken).2
-  | inr works ↦ elim (none_or_some wanted) [
-    | inl nothing ↦ inr (x.nothing works nothing).2
-    | inr more ↦ inl (x.moved works more).settled
+  pub send_keeps : PipeKeeps old answer new
+  send_keeps =
+      let t = packet_target pipe.target pipe.max in
+      let a = send_attempts bytes pipe answer left old new x in
+      record {
+        worlds = only_transfers old new (sends_keep bytes pipe old answer left new x)
+            (spared_if moved_or_same
+            (λ settled. attempts_spare (SendsAt t pipe.ep pipe.toggle bytes old)
+            (sends_far t pipe.ep pipe.toggle bytes old far) old answer new settled a));
+        told = λ fault e. (a.cut fault e).refused.ends;
+      }
+
+module _ (wanted : ℕ) (pipe : Bulk) (far : pipe.ep ≢ 0) (old : World)
+    (answer : Result (Vec ℕ) PipeFault) (left : Bulk) (new : World)
+    (x : Receives wanted pipe old answer left new) where
+  came_or_same : IsSettled old.roots ⊎ (new ≡ old)
+  came_or_same = elim (broken_or_not pipe.condition) [
+    | inl broken ↦ inr (x.broken broken).2
+    | inr works ↦ elim (none_or_some wanted) [
+      | inl nothing ↦ inr (x.nothing works nothing).2
+      | inr more ↦ inl (x.moved works more).settled
+    ]
   ]
-]
 
-pub sends_stay : (bytes : List ℕ) (pipe : Bulk) → pipe.ep ≢ 0 → (old : World) (result : Result (Unit {0}) PipeFault) (left : Bulk) (new : World) → Sends bytes pipe old result left new → KeepsSettings old new
-sends_stay bytes pipe far old result left new x = elim (moved_or_same bytes pipe old result left new x) [
-  | inl settled ↦
-      ran_stays old new
-      (attempts_run (SendsAt (packet_target pipe.target pipe.max) pipe.ep pipe.toggle bytes old) (sends_far (packet_target pipe.target pipe.max) pipe.ep pipe.toggle bytes old far) old new settled result
-      (send_attempts bytes pipe result left old new x))
-  | inr same ↦ same_stays old new same
-]
-
-pub sends_rest : (bytes : List ℕ) (pipe : Bulk) → pipe.ep ≢ 0 → (old : World) (result : Result (Unit {0}) PipeFault) (left : Bulk) (new : World) → Sends bytes pipe old result left new → new.fault ≡ None → AllRest old new
-sends_rest bytes pipe far old result left new x sound = elim (moved_or_same bytes pipe old result left new x) [
-  | inl settled ↦
-      attempts_rest (SendsAt (packet_target pipe.target pipe.max) pipe.ep pipe.toggle bytes old) (sends_far (packet_target pipe.target pipe.max) pipe.ep pipe.toggle bytes old far) old new settled result
-      (send_attempts bytes pipe result left old new x) sound
-  | inr same ↦ same_rests old new same
-]
-
-pub sends_backlog : (bytes : List ℕ) (pipe : Bulk) → pipe.ep ≢ 0 → (old : World) (result : Result (Unit {0}) PipeFault) (left : Bulk) (new : World) → Sends bytes pipe old result left new → new.fault ≡ None → KeepsAll old new
-sends_backlog bytes pipe far old result left new x sound = elim (moved_or_same bytes pipe old result left new x) [
-  | inl settled ↦
-      attempts_backlog (SendsAt (packet_target pipe.target pipe.max) pipe.ep pipe.toggle bytes old) (sends_far (packet_target pipe.target pipe.max) pipe.ep pipe.toggle bytes old far) old new settled result
-      (send_attempts bytes pipe result left old new x) sound
-  | inr same ↦ same_backlog old new same
-]
-
-pub receives_stay : (wanted : ℕ) (pipe : Bulk) → pipe.ep ≢ 0 → (old : World) (result : Result (Vec ℕ) PipeFault) (left : Bulk) (new : World) → Receives wanted pipe old result left new → KeepsSettings old new
-receives_stay wanted pipe far old result left new x = elim (came_or_same wanted pipe old result left new x) [
-  | inl settled ↦
-      ran_stays old new
-      (attempts_run (IsOnly (in_attempt (packet_target pipe.target pipe.max) pipe.ep)) (only_far (packet_target pipe.target pipe.max) pipe.ep far) old new settled result (receive_attempts wanted pipe result left old new x))
-  | inr same ↦ same_stays old new same
-]
-
-pub receives_rest : (wanted : ℕ) (pipe : Bulk) → pipe.ep ≢ 0 → (old : World) (result : Result (Vec ℕ) PipeFault) (left : Bulk) (new : World) → Receives wanted pipe old result left new → new.fault ≡ None → AllRest old new
-receives_rest wanted pipe far old result left new x sound = elim (came_or_same wanted pipe old result left new x) [
-  | inl settled ↦
-      attempts_rest (IsOnly (in_attempt (packet_target pipe.target pipe.max) pipe.ep)) (only_far (packet_target pipe.target pipe.max) pipe.ep far) old new settled result (receive_attempts wanted pipe result left old new x) sound
-  | inr same ↦ same_rests old new same
-]
-
-pub receives_backlog : (wanted : ℕ) (pipe : Bulk) → pipe.ep ≢ 0 → (old : World) (result : Result (Vec ℕ) PipeFault) (left : Bulk) (new : World) → Receives wanted pipe old result left new → new.fault ≡ None → KeepsAll old new
-receives_backlog wanted pipe far old result left new x sound = elim (came_or_same wanted pipe old result left new x) [
-  | inl settled ↦
-      attempts_backlog (IsOnly (in_attempt (packet_target pipe.target pipe.max) pipe.ep)) (only_far (packet_target pipe.target pipe.max) pipe.ep far) old new settled result (receive_attempts wanted pipe result left old new x) sound
-  | inr same ↦ same_backlog old new same
-]
+  pub receive_keeps : PipeKeeps old answer new
+  receive_keeps =
+      let t = packet_target pipe.target pipe.max in
+      let a = receive_attempts wanted pipe answer left old new x in
+      record {
+        worlds = only_transfers old new (receives_keep wanted pipe far old answer left new x)
+            (spared_if came_or_same
+            (λ settled. attempts_spare (IsOnly (in_attempt t pipe.ep)) (only_far t pipe.ep far) old
+            answer new settled a));
+        told = λ fault e. (a.cut fault e).refused.ends;
+      }
 
 -- CLEAR_FEATURE(ENDPOINT_HALT)
 
@@ -408,25 +410,41 @@ cleared_stays pipe old result left new x = record {
       (each_leaves pipe.target request (harmless (halt_address pipe.ep pipe.is_in)) (clear_length (halt_address pipe.ep pipe.is_in)) result old new (cleared_ordered pipe old result left new x) single);
 }
 
-pub clears_stay : (pipe : Bulk) (old : World) (result : Result (Unit {0}) PipeFault) (left : Bulk) (new : World) → Clears pipe old result left new → KeepsSettings old new
-clears_stay pipe old result left new x = elim (ready_or_not pipe.condition) [
-  | inl ready ↦ same_stays old new (x.ready ready).world_kept
-  | inr not ↦ cleared_stays pipe old result left new (x.sent not)
+clears_told : (pipe : Bulk) (old : World) (answer : Result (Unit {0}) PipeFault) (left : Bulk)
+    (new : World) → Clears pipe old answer left new → (fault : BusFault)
+    → answer ≡ Err (pipe_fault.Bus fault) → Failed fault new
+clears_told pipe old (Ok done) left new x fault e = absurd (cc e)
+clears_told pipe old (Err why) left new x fault e = elim (ready_or_not pipe.condition) [
+  | inl ready ↦ let is = (x.ready ready).answer in absurd (cc is)
+  | inr not ↦
+      let is : why ≡ pipe_fault.Bus fault = cc e in
+      subst (λ y. FaultAfter 1 old y new) is (x.sent not).ends
 ]
 
-pub clears_rest : (pipe : Bulk) (old : World) (result : Result (Unit {0}) PipeFault) (left : Bulk) (new : World) → Clears pipe old result left new → new.fault ≡ None → AllRest old new
-clears_rest pipe old result left new x sound = elim (ready_or_not pipe.condition) [
-  | inl ready ↦ same_rests old new (x.ready ready).world_kept
+clears_only : (pipe : Bulk) (old : World) (answer : Result (Unit {0}) PipeFault) (left : Bulk)
+    (new : World) → Clears pipe old answer left new → OnlyTransfers old new
+clears_only pipe old answer left new x = elim (ready_or_not pipe.condition) [
+  | inl ready ↦ same_spares old new (x.ready ready).world_kept
   | inr not ↦
-      (cleared_ordered pipe old result left new (x.sent not)).rests (clear_asks_no_port (halt_address pipe.ep pipe.is_in)) (ended 2 result old new (x.sent not).ends sound)
+      let sent = x.sent not in
+      let ordered = cleared_ordered pipe old answer left new sent in
+      let which = halt_address pipe.ep pipe.is_in in
+      record {
+        addresses = clears_keep pipe old answer left new x;
+        devices = cleared_stays pipe old answer left new sent;
+        rests = λ sound.
+            ordered.rests (clear_asks_no_port which) (ended 2 answer old new sent.ends sound);
+        backlog = λ sound.
+            ordered.backlog (clear_sets_none which) (ended 2 answer old new sent.ends sound);
+      }
 ]
 
-pub clears_backlog : (pipe : Bulk) (old : World) (result : Result (Unit {0}) PipeFault) (left : Bulk) (new : World) → Clears pipe old result left new → new.fault ≡ None → KeepsAll old new
-clears_backlog pipe old result left new x sound = elim (ready_or_not pipe.condition) [
-  | inl ready ↦ same_backlog old new (x.ready ready).world_kept
-  | inr not ↦
-      (cleared_ordered pipe old result left new (x.sent not)).backlog (clear_sets_none (halt_address pipe.ep pipe.is_in)) (ended 2 result old new (x.sent not).ends sound)
-]
+pub clear_keeps : (pipe : Bulk) (old : World) (answer : Result (Unit {0}) PipeFault) (left : Bulk)
+    (new : World) → Clears pipe old answer left new → PipeKeeps old answer new
+clear_keeps pipe old answer left new x = record {
+  worlds = clears_only pipe old answer left new x;
+  told = clears_told pipe old answer left new x;
+}
 
 -- no address was held twice before
 write_single : (t : Target) (request : Setup) (result : Result (Unit {0}) PipeFault) (old new : World) → IsSettled old.roots → Writes t request old result new → new.shared ≡ false → old.shared ≡ false

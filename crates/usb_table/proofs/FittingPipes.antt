@@ -95,17 +95,6 @@ pub record Moves (address : ℕ) (ends : Type 0) (pipes left : Pipes) (j : Spot)
   pub same : address_of v ≡ address_of s
   pub itself : ends → (address_of s == address) ≡ true → AreLevel pipes s → AreLevel left v
 
-pub moves_none : (address : ℕ) (ends : Type 0) (pipes : Pipes) (j : Spot) (s : State) → Moves address ends pipes pipes j s s
-moves_none address ends pipes j s = record { others = λ h. refl; same = refl; itself = λ e at f. f }
-
-pub moves_then : (address : ℕ) (ends : Type 0) (first second third : Pipes) (j : Spot) (s u v : State)
-    → Moves address ends first second j s u → Moves address ends second third j u v → Moves address ends first third j s v
-moves_then address ends first second third j s u v x y = record {
-  others = λ h. y.others (ap (λ n. n == address) x.same ∙ h) ∙ x.others h;
-  same = y.same ∙ x.same;
-  itself = λ e at f. y.itself e (ap (λ n. n == address) x.same ∙ at) (x.itself e at f);
-}
-
 -- where the answer is not the bus's own
 known_itself : {A : Type 0} (ends : Type 0) (answer : Result A PipeFault) (left : Bulk) (s : State) (Fits : Bulk → State → Type 0) → (ends → pipe_known answer left ≡ left) → ends → Fits (pipe_known answer left) s → Fits left s
 known_itself ends answer left s Fits is e f = subst (λ (b : Bulk). Fits b s) (is e) f

@@ -1,7 +1,7 @@
 -- A poll of a hub leaves its status pipe level, tells of its ports, and is answered where the hub is reached.
 use Rattle.std.proofs.Common.{◌≡◌, ◌≢◌, ◌∙◌, refl, sym, ap, subst, Bool, true, false, ℕ, ◌≤◌, ◌&&◌, eq-eqb}
 use Rattle.std.proofs.lemmas.Option.{same_Some}
-use Rattle.std.specs.Prelude.{List, ◌||◌, not, Option, Some, None, IfSome, is_some, option_map, Result, Ok, Err, IsOk, if◌then◌else◌}
+use Rattle.std.specs.Prelude.{List, ◌||◌, not, Option, Some, None, IfSome, is_some, option_map, Result, Ok, Err, IsOk, MatchResult, if◌then◌else◌}
 use Rattle.arrayvec.specs.ArrayVec.{ArrayVec}
 use Rattle.usb_device.specs.Rows.{State}
 use Rattle.usb_device.specs.Spec.{Spec}
@@ -17,6 +17,8 @@ use Rattle.usb_world.specs.RestingPorts.{AsksNothingOf}
 use Rattle.usb_world.specs.Steps.{Course, here, attempt, ready}
 use Rattle.usb_world.specs.World.{World}
 use Rattle.usb_world.proofs.Interface.{course_then, data_asks_nothing, each_none, equal_same}
+use Rattle.usb_bus.specs.Traces.{WentOn}
+use Rattle.usb_transaction.specs.Transactions.{Worked, transaction_bound}
 use Rattle.usb_transaction.specs.declared.target.Target.{Target}
 use Rattle.usb_transaction.specs.Answerer.{Answerer}
 use Rattle.usb_transaction.specs.Leaves.{is_at}
@@ -25,31 +27,30 @@ use Rattle.usb_transaction.specs.Failures.{NoThreeDamaged, Listens}
 use Rattle.usb_transaction.proofs.Interface.{trail_settled}
 use Rattle.usb_pipe.specs.declared.fault.PipeFault.{PipeFault}
 use Rattle.usb_pipe.specs.declared.fault.PipeFault.TheVariants as why
+use Rattle.usb_pipe.specs.Control.{FaultAfter}
 use Rattle.usb_pipe.specs.Interrupt.{Interrupt, Polls}
 use Rattle.usb_pipe.specs.Leaves.{IsNoBusFault, PollLeaves, PollTells, ToldOf}
 use Rattle.usb_pipe.specs.Failures.{WhyPolling}
 use Rattle.usb_pipe.proofs.Interface.{poll_tells, polling_why, who_polls}
 use Rattle.usb_hub.specs.CallFailures.{NoHubFailed}
 use Rattle.usb_enum.specs.declared.finding.Accepted.{Accepted}
-use Rattle.usb_enum.specs.declared.finding.Finding.{Finding}
-use Rattle.usb_enum.specs.declared.finding.Finding.TheVariants.{Device, Refused}
 use Rattle.usb_enum.specs.Device.{configuration_of}
 use Rattle.usb_enum.proofs.Interface.{each_joint}
 use Rattle.usb_table.specs.declared.pipes.Pipes.{Pipes}
 use Rattle.usb_table.specs.declared.pipes.Pipes.TheVariants.{Hub, Function, Absent}
-use Rattle.usb_table.specs.Findings.{accepted_device_of, accepted_device_at}
+use Rattle.usb_table.specs.Findings.{accepted_device_at}
 use Rattle.usb_table.specs.KnownPorts.{is_below_hub}
-use Rattle.usb_table.specs.Levels.{FitsStatus, AreLevel, LevelAt, IsHeld, KeepsLevel, BitsOf, HubTold, Heard, KeepsPolled, SparesBulk}
-use Rattle.usb_table.specs.Listing.{finding_at, entry_address}
-use Rattle.usb_table.specs.Pipes.{IsStatusPipe, ArePipesTo}
+use Rattle.usb_table.specs.Levels.{FitsStatus, AreLevel, LevelAt, IsHeld, KeepsLevel, BitsOf, HubTold, Heard, KeepsPolled, TablePolls, SparesBulk}
+use Rattle.usb_table.specs.Listing.{entry_address}
+use Rattle.usb_table.specs.Pipes.{IsStatusPipe, ArePipesIf, ArePipesTo}
 use Rattle.usb_table.specs.Table.{Table, pipes_at, GoesThrough}
-use Rattle.usb_table.specs.Transfers.{PipesPolled, PolledThrough, OnlyTransfers}
+use Rattle.usb_table.specs.Transfers.{NotPolled, OnlyTransfers, PipesPolled, PollTook, PolledThrough}
 use Rattle.usb_table.proofs.Endpoints.{status_end}
 use Rattle.usb_table.proofs.FittingPipes.{Moves, poll_moves}
-use Rattle.usb_table.proofs.Levels.{address_found, are_pipes_of, held_address, one_path, moved_levels, single, still_levels}
+use Rattle.usb_table.proofs.Levels.{address_found, held_address, one_path, moved_levels, single, still_levels}
 use Rattle.usb_table.proofs.MovedPipes.{EachMoves}
 use Rattle.usb_table.proofs.SparedBulk.{spares-changes, spares-same}
-use Rattle.usb_table.proofs.DevicesKept.{RanAs, polls_run}
+use Rattle.usb_table.proofs.DevicesKept.{RanAs, polls_only, polls_spare, same_spares}
 
 -- INs ask nothing of any port
 
@@ -60,11 +61,9 @@ trail_rests x {a} kind (Trail.next w t m) settled = course_then (attempt a) (tra
 -- A poll of the hub at a path
 
 module _ (path : List ℕ) (device : Accepted) (pipe rest : Interrupt) (old new : Table) (before after : World) (result : Result (Option (ArrayVec ℕ)) PipeFault)
-    (goes : GoesThrough path old new) (keeps : OnlyTransfers before after) (found : finding_at path old.entries ≡ Some (Device device)) (was : pipes_at path old ≡ Hub pipe) (left : pipes_at path new ≡ Hub rest)
+    (goes : GoesThrough path old new) (stands : accepted_device_at path old.entries ≡ Some device)
+    (was : pipes_at path old ≡ Hub pipe) (left : pipes_at path new ≡ Hub rest)
     (are : IsStatusPipe device (is_below_hub path) pipe) (x : PolledThrough pipe before result rest after) where
-  stands : accepted_device_at path old.entries ≡ Some device
-  stands = ap accepted_device_of found
-
   endpoint : (pipe.ep ≡ 1) × (1 ≤ pipe.target.max)
   endpoint = subst (λ o. IfSome o (λ e. (e.0 ≡ 1) × (1 ≤ e.1))) are.endpoint (status_end (configuration_of device))
 
@@ -78,7 +77,10 @@ module _ (path : List ℕ) (device : Accepted) (pipe rest : Interrupt) (old new 
   leaves = poll_tells pipe result rest before after endpoint.0 endpoint.1 x.settled x.polls
 
   ran : after.shared ≡ false → EachWas RanAs before after
-  ran = polls_run pipe far before result rest after x.settled x.polls
+  ran = (polls_spare pipe far before result rest after x.settled x.polls).ran
+
+  keeps : OnlyTransfers before after
+  keeps = polls_only pipe far before result rest after x.settled x.polls
 
   moves : EachMoves device.address (IsOk result) (Hub pipe) (Hub rest) before after
   moves unshared =
@@ -218,31 +220,68 @@ module _ (path : List ℕ) (device : Accepted) (pipe rest : Interrupt) (old new 
 
 -- Whatever stands there
 
--- no hub stands there
-none_polled : (path : List ℕ) (old new : Table) (before after : World) (result : Result (Option (ArrayVec ℕ)) PipeFault) → GoesThrough path old new → OnlyTransfers before after → ((device : Accepted) → accepted_device_at path old.entries ≡ Some device → is_some device.hub ≡ true → ⊥)
-    → pipes_at path new ≡ pipes_at path old → after ≡ before → KeepsPolled path old before result new after
-none_polled path old new before after result goes keeps none same still = record {
-  levels = still_levels path (IsOk result) old new before after goes same still keeps;
-  told = λ held level d e hub ok. absurd (none d e hub);
-  why = λ held level three d e hub heard. absurd (none d e hub);
-  spares = λ held level. subst (EachWas SparesBulk before) (sym still) (each_none SparesBulk (λ j s. spares-same j s s refl) before);
-}
-
-module _ (path : List ℕ) (old new : Table) (before after : World) (result : Result (Option (ArrayVec ℕ)) PipeFault) (goes : GoesThrough path old new) (keeps : OnlyTransfers before after) where
-  polled_to : (device : Accepted) (pipes left : Pipes) → finding_at path old.entries ≡ Some (Device device) → pipes_at path old ≡ pipes → pipes_at path new ≡ left → ArePipesTo device (is_below_hub path) pipes → PipesPolled pipes before result left after
+module _ (path : List ℕ) (old new : Table) (before after : World)
+    (result : Result (Option (ArrayVec ℕ)) PipeFault) (goes : GoesThrough path old new) where
+  -- no hub stands there
+  none_polled : ((device : Accepted) → accepted_device_at path old.entries ≡ Some device
+      → is_some device.hub ≡ true → ⊥)
+      → NotPolled (pipes_at path old) before result (pipes_at path new) after
       → KeepsPolled path old before result new after
-  polled_to device (Hub pipe) left e was is are x = hub_polled path device pipe x.0 old new before after result goes keeps e was (is ∙ x.1) are.1 x.2
+  none_polled none x = record {
+    levels =
+        still_levels path (IsOk result) old new before after goes x.1 x.2
+        (same_spares before after x.2);
+    told = λ held level d e hub ok. absurd (none d e hub);
+    why = λ held level three d e hub heard. absurd (none d e hub);
+    spares = λ held level.
+        rw x.2 (each_none SparesBulk (λ j s. spares-same j s s refl) before);
+  }
+
+  polled_to : (device : Accepted) (pipes left : Pipes)
+      → accepted_device_at path old.entries ≡ Some device → pipes_at path old ≡ pipes
+      → pipes_at path new ≡ left → ArePipesTo device (is_below_hub path) pipes
+      → PipesPolled pipes before result left after → KeepsPolled path old before result new after
+  polled_to device (Hub pipe) left e was is are x =
+      hub_polled path device pipe x.0 old new before after result goes e was (is ∙ x.1) are.1 x.2
   polled_to device (Function pipes) left e was is are x =
-      none_polled path old new before after result goes keeps (λ d f hub. absurd (cc (same_Some device d (sym (ap accepted_device_of e) ∙ f), hub, are.0))) (is ∙ x.1 ∙ sym was) x.2
+      none_polled (λ d f hub. absurd (cc (same_Some device d (sym e ∙ f), hub, are.0)))
+      (x.0, is ∙ x.1 ∙ sym was, x.2)
   polled_to device Absent left e was is are x = absurd are
 
-  pub polled_levels : (finding : Finding) → finding_at path old.entries ≡ Some finding → PipesPolled (pipes_at path old) before result (pipes_at path new) after → KeepsPolled path old before result new after
-  polled_levels (Device device) e x = polled_to device (pipes_at path old) (pipes_at path new) e refl refl (are_pipes_of path old (Device device) goes.fits e) x
-  polled_levels (Refused cause) e x =
-      let none : pipes_at path old ≡ Absent = are_pipes_of path old (Refused cause) goes.fits e in
-      let y = subst (λ (p : Pipes). PipesPolled p before result (pipes_at path new) after) none x in
-      none_polled path old new before after result goes keeps (λ d f hub. absurd (cc (sym (ap accepted_device_of e) ∙ f))) (y.1 ∙ sym none) y.2
+  polled_by : (found : Option Accepted) → accepted_device_at path old.entries ≡ found
+      → ArePipesIf found (is_below_hub path) (pipes_at path old)
+      → PipesPolled (pipes_at path old) before result (pipes_at path new) after
+      → KeepsPolled path old before result new after
+  polled_by None e none x =
+      let y = subst (λ p. PipesPolled p before result (pipes_at path new) after) none x in
+      none_polled (λ d f hub. absurd (cc (sym e ∙ f))) (y.0, y.1 ∙ sym none, y.2)
+  polled_by (Some device) e are x =
+      polled_to device (pipes_at path old) (pipes_at path new) e refl refl are x
 
-  -- where nothing stands
-  pub unpolled : finding_at path old.entries ≡ None → pipes_at path new ≡ pipes_at path old → after ≡ before → KeepsPolled path old before result new after
-  unpolled e same still = none_polled path old new before after result goes keeps (λ d f hub. absurd (cc (sym (ap accepted_device_of e) ∙ f))) same still
+-- a packet that came took an attempt
+
+took_by : (old : World) (result : Result (Option (ArrayVec ℕ)) PipeFault) (new : World)
+    → MatchResult result (λ _. Worked 1 old new) (λ fault. FaultAfter 0 old fault new)
+    → PollTook old result new
+took_by old (Ok None) new ends = tt
+took_by old (Ok (Some packet)) new ends = ends
+took_by old (Err fault) new ends = ends
+
+polled_took : (pipes left : Pipes) (old : World) (result : Result (Option (ArrayVec ℕ)) PipeFault)
+    (new : World) → PipesPolled pipes old result left new → PollTook old result new
+polled_took (Hub pipe) left old result new x = took_by old result new x.2.polls.ends
+polled_took (Function pipes) left old result new x = rw x.0 tt
+polled_took Absent left old result new x = rw x.0 tt
+
+pub table_polls : (path : List ℕ) (old new : Table) (before after : World)
+    (text now : Option (List ℕ)) (result : Result (Option (ArrayVec ℕ)) PipeFault)
+    → GoesThrough path old new
+    → WentOn transaction_bound before text after now
+    → PipesPolled (pipes_at path old) before result (pipes_at path new) after
+    → TablePolls path old before text result new after now
+table_polls path old new before after text now result goes went x = record {
+  went = went;
+  took = polled_took (pipes_at path old) (pipes_at path new) before result after x;
+  polled = x;
+  keeps = polled_by path old new before after result goes _ refl goes.fits x;
+}

@@ -23,7 +23,8 @@ use Rattle.usb_enum.specs.declared.finding.Finding.TheVariants.{Refused}
 use Rattle.usb_table.specs.declared.pipes.Pipes.{Pipes}
 use Rattle.usb_table.specs.Table.{Table}
 use Rattle.usb_table.specs.Entries.{Entries, Rises, has_at, is_at_or_below}
-use Rattle.usb_table.specs.Keys.{Standing, Standings, Slots, PathKeys, AddressKeys, key_of_path, key_of_address, under, values_by_path, findings, finding_under, entries_of, address_in, with_address, without_address}
+use Rattle.usb_table.specs.declared.entry.Entry.{Entry}
+use Rattle.usb_table.specs.Keys.{Standings, Slots, PathKeys, AddressKeys, key_of_path, key_of_address, under, values_by_path, findings, finding_under, entries_of, address_in, with_address, without_address}
 
 -- Tests of keys
 
@@ -99,10 +100,10 @@ found_at found = listed_at (Refused Silent) found
 pub none_at : (found : Slots) (path : List ℕ) (paths : PathKeys) → key_of_path paths path ≡ None → lookup (is_at (path_cmp path)) (entries_of found paths) ≡ None
 none_at found = listed_none (Refused Silent) found
 
-pub found_in : (standings : Standings) (key : ℕ) (s : Standing) → standings key ≡ Some s → findings standings key ≡ Some s.finding
-found_in standings key s stands = ap (option_map (λ (t : Standing). t.finding)) stands
+pub found_in : (standings : Standings) (key : ℕ) (s : Entry) → standings key ≡ Some s → findings standings key ≡ Some s.finding
+found_in standings key s stands = ap (option_map (λ (t : Entry). t.finding)) stands
 
-some_by : (o : Option Standing) → IsSome (option_map (λ (t : Standing). t.finding) o) → IsSome o
+some_by : (o : Option Entry) → IsSome (option_map (λ (t : Entry). t.finding) o) → IsSome o
 some_by None h = absurd cc
 some_by (Some s) h = refl
 

@@ -19,11 +19,9 @@ use Rattle.usb_table.specs.declared.pipes.Pipes.{Pipes}
 use Rattle.usb_table.specs.Entries.{Entries}
 use Rattle.usb_table.specs.Findings.{accepted_device_of, accepted_device_at}
 use Rattle.usb_table.specs.Keys.{address_in}
-use Rattle.usb_table.specs.KnownPorts.{is_below_hub}
 use Rattle.usb_table.specs.Levels.{AreLevel, LevelAt, AllLevel, IsHeld, KeepsLevel}
 use Rattle.usb_table.specs.Listing.{finding_at, entry_address}
-use Rattle.usb_table.specs.Pipes.{ArePipesIf, ArePipesOf}
-use Rattle.usb_table.specs.Table.{Table, pipes_at, ArePipesAt, GoesThrough}
+use Rattle.usb_table.specs.Table.{Table, pipes_at, GoesThrough}
 use Rattle.usb_table.specs.Transfers.{OnlyTransfers}
 use Rattle.usb_table.proofs.FittingPipes.{Moves, still_level}
 use Rattle.usb_table.proofs.Paths.{path_itself, path_tied}
@@ -36,10 +34,6 @@ device_address (Some (Refused cause)) device e = absurd (cc e)
 
 pub address_found : (path : List ℕ) (entries : Entries) (device : Accepted) → accepted_device_at path entries ≡ Some device → entry_address path entries ≡ Some device.address
 address_found path entries device e = device_address (finding_at path entries) device e
-
--- the pipes at a path are those to what was found there
-pub are_pipes_of : (path : List ℕ) (table : Table) (finding : Finding) → ArePipesAt path table → finding_at path table.entries ≡ Some finding → ArePipesOf finding (is_below_hub path) (pipes_at path table)
-are_pipes_of path table finding are e = subst (λ (found : Option Finding). ArePipesIf (accepted_device_of found) (is_below_hub path) (pipes_at path table)) e are
 
 -- a path is none that starts at no port of the root
 at_some_port : (table : Table) (w : World) (path : List ℕ)

@@ -7,8 +7,8 @@ pub mod FittingPipes
 pub mod Ranges
 pub mod RemovedEntries
 pub mod Interface
-pub mod TransferCounts
-pub mod TransferFrames
+pub mod TransferLeaves
+pub mod ThroughPipes
 pub mod KeptPipes
 pub mod Keys
 pub mod Levels

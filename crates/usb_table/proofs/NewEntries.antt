@@ -19,9 +19,8 @@ use Rattle.usb_table.specs.declared.indexes.Indexes.{Indexes}
 use Rattle.usb_table.specs.declared.pipes.Pipes.TheVariants.{Absent}
 use Rattle.usb_table.specs.Entries.{Entries, has_at, is_at_or_below}
 use Rattle.usb_table.specs.Findings.{address_found, has_address, HasNewAddress}
-use Rattle.usb_table.specs.Keys.{Standing, Standings, Slots, PathKeys, AddressKeys, key_of_path, key_of_address, findings, pipings, values_by_path, entries_of, table_of, address_in, AreIndexes, ArePiped, UpdatesAddress, Enters}
-use Rattle.usb_table.specs.KnownPorts.{is_below_hub}
-use Rattle.usb_table.specs.Pipes.{ArePipesOf}
+use Rattle.usb_table.specs.declared.entry.Entry.{Entry}
+use Rattle.usb_table.specs.Keys.{IsPiped, Standings, Slots, PathKeys, AddressKeys, key_of_path, key_of_address, findings, pipings, values_by_path, entries_of, table_of, address_in, AreIndexes, ArePiped, UpdatesAddress, Enters}
 use Rattle.usb_table.proofs.Keys.{number_tied, number_itself, same_or_not, found_at, entries-has_at, values_by_path-insert, agree, some_address, none_or, found_in, same_table}
 use Rattle.usb_table.proofs.Paths.{path_tied, path_itself}
 
@@ -128,30 +127,30 @@ came_at : (before : PathKeys) (path : List ℕ) (key : ℕ) (q : List ℕ) (k : 
 came_at before path key q k true tie h = inl (sym (path_tied path q tie), cc h)
 came_at before path key q k false tie h = inr h
 
-pub come_piped : (old new : Standings) (before after : PathKeys) (path : List ℕ) (key : ℕ) (s : Standing) → ArePiped old before
+pub come_piped : (old new : Standings) (before after : PathKeys) (path : List ℕ) (key : ℕ) (s : Entry) → ArePiped old before
     → ((q : List ℕ) → key_of_path after q ≡ cond (is_at (path_cmp path) q) (Some key) (key_of_path before q))
     → ((q : List ℕ) (k : ℕ) → key_of_path before q ≡ Some k → k ≢ key) → new key ≡ Some s → ((k : ℕ) → k ≢ key → new k ≡ old k)
-    → ArePipesOf s.finding (is_below_hub path) s.pipes → ArePiped new after
+    → IsPiped path s → ArePiped new after
 come_piped old new before after path key s piped path_keys apart changed others fits q k t at stands = elim (came_at before path key q k (is_at (path_cmp path) q) refl (sym (path_keys q) ∙ at)) [
   | inl here ↦
       let same : s ≡ t = same_Some s t (sym changed ∙ ap new (sym here.1) ∙ stands) in
-      subst (λ (x : Standing). ArePipesOf x.finding (is_below_hub q) x.pipes) same (subst (λ (r : List ℕ). ArePipesOf s.finding (is_below_hub r) s.pipes) (sym here.0) fits)
+      subst (IsPiped q) same (subst (λ (r : List ℕ). IsPiped r s) (sym here.0) fits)
   | inr there ↦ piped q k t there (sym (others k (apart q k there)) ∙ stands)
 ]
 
 -- An entry comes, with its pipes
 
-module _ (old new : Standings) (before after : Indexes) (path : List ℕ) (key : ℕ) (s : Standing)
+module _ (old new : Standings) (before after : Indexes) (path : List ℕ) (key : ℕ) (s : Entry)
     (are : AreIndexes (findings old) before.by_path.entries before.by_address.entries) (piped : ArePiped old before.by_path.entries) (vacant : old key ≡ None)
-    (changed : new key ≡ Some s) (others : (k : ℕ) → k ≢ key → new k ≡ old k) (fits : ArePipesOf s.finding (is_below_hub path) s.pipes)
+    (changed : new key ≡ Some s) (others : (k : ℕ) → k ≢ key → new k ≡ old k) (fits : IsPiped path s)
     (away : key_of_path before.by_path.entries path ≡ None)
     (free : IfSome (address_found s.finding) (λ a. key_of_address before.by_address.entries a ≡ None))
     (enters : Enters path (address_found s.finding) key before after) where
   finding_vacant : findings old key ≡ None
-  finding_vacant = ap (option_map (λ (t : Standing). t.finding)) vacant
+  finding_vacant = ap (option_map (λ (t : Entry). t.finding)) vacant
 
   finding_others : (k : ℕ) → k ≢ key → findings new k ≡ findings old k
-  finding_others k ne = ap (option_map (λ (t : Standing). t.finding)) (others k ne)
+  finding_others k ne = ap (option_map (λ (t : Entry). t.finding)) (others k ne)
 
   key_apart : (q : List ℕ) (k : ℕ) → key_of_path before.by_path.entries q ≡ Some k → k ≢ key
   key_apart = apart (findings old) (findings new) before after path key s.finding are finding_vacant (found_in new key s changed) finding_others away free enters
@@ -167,7 +166,7 @@ module _ (old new : Standings) (before after : Indexes) (path : List ℕ) (key :
   came_table =
       same_table _ _ _ _
       (come_listed (Refused Silent) (findings old) (findings new) before.by_path.entries after.by_path.entries path key s.finding enters.paths enters.rises key_apart (found_in new key s changed) finding_others)
-      (come_listed Absent (pipings old) (pipings new) before.by_path.entries after.by_path.entries path key s.pipes enters.paths enters.rises key_apart (ap (option_map (λ (t : Standing). t.pipes)) changed) (λ k ne. ap (option_map (λ (t : Standing). t.pipes)) (others k ne)))
+      (come_listed Absent (pipings old) (pipings new) before.by_path.entries after.by_path.entries path key s.pipes enters.paths enters.rises key_apart (ap (option_map (λ (t : Entry). t.pipes)) changed) (λ k ne. ap (option_map (λ (t : Entry). t.pipes)) (others k ne)))
 
 -- What is told of the entries, as the keys have it
 

@@ -1,5 +1,5 @@
 -- A transfer through the pipes to the device at a path changes no device but the one that is reached there.
-use Rattle.std.proofs.Common.{◌≡◌, ◌≢◌, ◌∙◌, refl, sym, ap, subst, true, false, ℕ, ◌==◌, eq-eqb, List, Some}
+use Rattle.std.proofs.Common.{◌≡◌, ◌≢◌, ◌∙◌, refl, sym, ap, subst, true, false, ℕ, ◌==◌, eq-eqb, List, Option, None, Some}
 use Rattle.std.specs.Prelude.{Result, Ok, Err, is_ok, option_map}
 use Rattle.usb_device.specs.Rows.{State}
 use Rattle.usb_device.specs.Tree.{reach, Spot, path_to, reach_on, state_on}
@@ -18,15 +18,28 @@ use Rattle.usb_table.specs.declared.fault.EndpointFault.{EndpointFault}
 use Rattle.usb_table.specs.declared.fault.EndpointFault.TheVariants.{Pipe}
 use Rattle.usb_table.specs.Deliveries.{ChangesAt}
 use Rattle.usb_table.specs.Findings.{accepted_device_at}
-use Rattle.usb_table.specs.Levels.{IsHeld}
+use Rattle.usb_table.specs.Levels.{AreLevel, IsHeld, LevelAt}
 use Rattle.usb_table.specs.Listing.{entry_address}
-use Rattle.usb_table.specs.Table.{Table}
+use Rattle.usb_table.specs.KnownPorts.{is_below_hub}
+use Rattle.usb_table.specs.Pipes.{ArePipesIf}
+use Rattle.usb_table.specs.Table.{Table, ArePipesAt, pipes_at}
 use Rattle.usb_table.specs.Transfers.{endpoint_answer}
 use Rattle.usb_table.proofs.Levels.{address_found, by_decision, held_address, one_path}
 
 -- what is so of the device that is reached at a path
 abbrev pub Reached : List ℕ → World → (State → Type 0) → Type 0
 Reached path w So = (s : State) → reach w.roots path ≡ true → state_there w.roots path ≡ Some s → So s
+
+-- it is as far as the pipes at the path
+module _ (path : List ℕ) (table : Table) (w : World) (level : LevelAt path table w) where
+  levels_by : (found : Option Accepted) → accepted_device_at path table.entries ≡ found
+      → ArePipesIf found (is_below_hub path) (pipes_at path table)
+      → Reached path w (AreLevel (pipes_at path table))
+  levels_by None e none s on there = rw none tt
+  levels_by (Some device) e are s on there = level.level device s e on there
+
+  pub levels_there : ArePipesAt path table → Reached path w (AreLevel (pipes_at path table))
+  levels_there = levels_by (accepted_device_at path table.entries) refl
 
 -- nothing was tried
 pub none_changes : (path : List ℕ) (So : State → State → Type 0) (old new : World) → new ≡ old → Reached path old (λ s. So s s) → EachWas (ChangesAt path So) old new

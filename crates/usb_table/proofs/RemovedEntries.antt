@@ -11,7 +11,8 @@ use Rattle.usb_enum.specs.declared.finding.Finding.{Finding}
 use Rattle.usb_enum.specs.declared.finding.Finding.TheVariants.{Refused}
 use Rattle.usb_table.specs.declared.pipes.Pipes.TheVariants.{Absent}
 use Rattle.usb_table.specs.Findings.{address_found}
-use Rattle.usb_table.specs.Keys.{Standing, Standings, Slots, PathKeys, AddressKeys, key_of_path, key_of_address, findings, pipings, values_by_path, table_of, address_in, AreIndexes, ArePiped, UpdatesAddress}
+use Rattle.usb_table.specs.declared.entry.Entry.{Entry}
+use Rattle.usb_table.specs.Keys.{Standings, Slots, PathKeys, AddressKeys, key_of_path, key_of_address, findings, pipings, values_by_path, table_of, address_in, AreIndexes, ArePiped, UpdatesAddress}
 use Rattle.usb_table.specs.Table.{removed}
 use Rattle.usb_table.proofs.Keys.{number_tied, number_itself, same_or_not, values_by_path-remove, agree, found_in, same_table}
 use Rattle.usb_table.proofs.Paths.{path_tied, path_itself}
@@ -119,17 +120,17 @@ module _ (paths left : PathKeys) (first : List ℕ) (key : ℕ) (left_at : (q : 
 
 -- An entry goes, with its pipes
 
-module _ (old new : Standings) (paths left : PathKeys) (addresses rest : AddressKeys) (first : List ℕ) (key : ℕ) (s : Standing)
+module _ (old new : Standings) (paths left : PathKeys) (addresses rest : AddressKeys) (first : List ℕ) (key : ℕ) (s : Entry)
     (are : AreIndexes (findings old) paths addresses) (piped : ArePiped old paths) (held : old key ≡ Some s)
     (gone : new key ≡ None) (others : (k : ℕ) → k ≢ key → new k ≡ old k)
     (was : key_of_path paths first ≡ Some key)
     (path_keys : (q : List ℕ) → key_of_path left q ≡ cond (is_at (path_cmp first) q) None (key_of_path paths q))
     (address_keys : UpdatesAddress (address_found s.finding) None addresses rest) where
   finding_gone : findings new key ≡ None
-  finding_gone = ap (option_map (λ (t : Standing). t.finding)) gone
+  finding_gone = ap (option_map (λ (t : Entry). t.finding)) gone
 
   finding_others : (k : ℕ) → k ≢ key → findings new k ≡ findings old k
-  finding_others k ne = ap (option_map (λ (t : Standing). t.finding)) (others k ne)
+  finding_others k ne = ap (option_map (λ (t : Entry). t.finding)) (others k ne)
 
   key_left : (q : List ℕ) (k : ℕ) → key_of_path left q ≡ Some k → (key_of_path paths q ≡ Some k) × (k ≢ key)
   key_left = left_at (findings old) (findings new) paths left addresses rest first key s.finding are (found_in old key s held) finding_gone finding_others was path_keys address_keys
@@ -144,4 +145,4 @@ module _ (old new : Standings) (paths left : PathKeys) (addresses rest : Address
   gone_table is rises =
       same_table _ _ _ _
       (go_listed paths left first key key_left (Refused Silent) (findings old) (findings new) is rises finding_others)
-      (go_listed paths left first key key_left Absent (pipings old) (pipings new) is rises (λ k ne. ap (option_map (λ (t : Standing). t.pipes)) (others k ne)))
+      (go_listed paths left first key key_left Absent (pipings old) (pipings new) is rises (λ k ne. ap (option_map (λ (t : Entry). t.pipes)) (others k ne)))

@@ -8,22 +8,19 @@ use Rattle.usb_port.specs.Order.{path_cmp}
 use Rattle.usb_enum.specs.declared.cause.Cause.TheVariants.{Silent}
 use Rattle.usb_enum.specs.declared.finding.Finding.{Finding}
 use Rattle.usb_enum.specs.declared.finding.Finding.TheVariants.{Refused}
+use Rattle.usb_table.specs.declared.entry.Entry.{Entry}
 use Rattle.usb_table.specs.declared.indexes.Indexes.{Indexes}
 use Rattle.usb_table.specs.declared.pipes.Pipes.{Pipes}
 use Rattle.usb_table.specs.declared.pipes.Pipes.TheVariants.{Absent}
 use Rattle.usb_table.specs.Entries.{Entries}
-use Rattle.usb_table.specs.Findings.{address_found}
+use Rattle.usb_table.specs.Findings.{IsSoundFinding, address_found}
 use Rattle.usb_table.specs.KnownPorts.{is_below_hub}
 use Rattle.usb_table.specs.Pipes.{ArePipesOf}
 use Rattle.usb_table.specs.Table.{Table}
 
--- what stands at a port
-pub record Standing : Type 0 where
-  pub finding : Finding
-  pub pipes : Pipes
-
+-- what stands under each key
 abbrev pub Standings : Type 0
-Standings = ℕ → Option Standing
+Standings = ℕ → Option Entry
 
 -- what is found under each key
 abbrev pub Slots : Type 0
@@ -76,10 +73,16 @@ pub record AreIndexes (found : Slots) (paths : PathKeys) (addresses : AddressKey
   pub named : (key : ℕ) → IsSome (found key) → (path : List ℕ) × (key_of_path paths path ≡ Some key)
   pub addressed : (address key : ℕ) → (key_of_address addresses address ≡ Some key) ↔ (address_in (found key) ≡ Some address)
 
--- under each path's key stand the pipes to what was found
+-- an entry at a path: a finding such as an enumeration gives, and the pipes to it
+abbrev pub IsPiped : List ℕ → Entry → Type 0
+IsPiped path entry =
+    IsSoundFinding entry.finding × ArePipesOf entry.finding (is_below_hub path) entry.pipes
+
+-- under each path's key stands one
 abbrev pub ArePiped : Standings → PathKeys → Type 0
 ArePiped standings paths =
-    (path : List ℕ) (key : ℕ) (s : Standing) → key_of_path paths path ≡ Some key → standings key ≡ Some s → ArePipesOf s.finding (is_below_hub path) s.pipes
+    (path : List ℕ) (key : ℕ) (s : Entry) → key_of_path paths path ≡ Some key
+    → standings key ≡ Some s → IsPiped path s
 
 -- the keys of addresses, where one with a key comes or goes
 abbrev pub with_address : Option ℕ → ℕ → AddressKeys → AddressKeys

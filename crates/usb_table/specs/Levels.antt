@@ -1,5 +1,6 @@
 -- That the pipes to a device are as far as the endpoints at their other ends.
-use Rattle.std.specs.Prelude.{◌≡◌, ◌≤◌, ⊤, ℕ, List, true, false, Option, Some, None, is_some, Result, IsOk}
+use Rattle.std.specs.Prelude.{◌≡◌, ◌≤◌, ⊤, ℕ, ◌*◌, List, length, true, false, Option, Some, None, is_some, Result, IsOk, IfErr}
+use Rattle.std.specs.Global.{Vec}
 use Rattle.std.specs.BTreeMap.{is_at}
 use Rattle.arrayvec.specs.ArrayVec.{ArrayVec}
 use Rattle.usb_port.specs.Order.{path_cmp}
@@ -12,8 +13,11 @@ use Rattle.usb_device.specs.View.{state_there}
 use Rattle.usb_world.specs.Devices.{EachWas}
 use Rattle.usb_world.specs.Steps.{ready}
 use Rattle.usb_world.specs.World.{World}
+use Rattle.usb_bus.specs.Traces.{WentOn}
 use Rattle.usb_transaction.specs.Failures.{NoThreeDamaged, Listens}
+use Rattle.usb_transaction.specs.Transactions.{transaction_bound}
 use Rattle.usb_pipe.specs.Bulk.{Bulk}
+use Rattle.usb_pipe.specs.Control.{write_bound}
 use Rattle.usb_pipe.specs.Interrupt.{Interrupt}
 use Rattle.usb_pipe.specs.Leaves.{FitsSink, FitsSource, PollTells}
 use Rattle.usb_pipe.specs.declared.fault.PipeFault.{PipeFault}
@@ -28,7 +32,8 @@ use Rattle.usb_table.specs.Findings.{accepted_device_at}
 use Rattle.usb_table.specs.KnownPorts.{is_below_hub}
 use Rattle.usb_table.specs.Listing.{entry_address}
 use Rattle.usb_table.specs.Table.{Table, pipes_at}
-use Rattle.usb_table.specs.Transfers.{OnlyTransfers}
+use Rattle.usb_table.specs.declared.fault.EndpointFault.{EndpointFault}
+use Rattle.usb_table.specs.Transfers.{EndpointTold, OnlyTransfers, PipesCleared, PipesPolled, PipesReceived, PipesSent, PollTook}
 
 -- The pipes to one device
 
@@ -117,3 +122,42 @@ pub record KeepsPolled (path : List ℕ) (old : Table) (before : World) (result 
   pub told : IsHeld old before → LevelAt path old before → (device : Accepted) → accepted_device_at path old.entries ≡ Some device → is_some device.hub ≡ true → IsOk result → HubTold path before result after
   pub why : IsHeld old before → LevelAt path old before → NoThreeDamaged before → (device : Accepted) → accepted_device_at path old.entries ≡ Some device → is_some device.hub ≡ true → Heard path device after → NoHubFailed result
   pub spares : IsHeld old before → LevelAt path old before → EachWas SparesBulk before after
+
+-- What one call of the table is, over a bus that does what its world does
+
+-- a transfer: how many attempts it made at most and the text of its steps, why it failed, what it
+-- did through the pipes at the path, and what it left of all others
+pub record Transferred {A : Type 0} (n : ℕ)
+    (So : Pipes → World → Result A EndpointFault → Pipes → World → Type 0) (path : List ℕ)
+    (old : Table) (before : World) (text : Option (List ℕ)) (result : Result A EndpointFault)
+    (new : Table) (after : World) (now : Option (List ℕ)) : Type 0 where
+  pub went : WentOn n before text after now
+  pub told : IfErr result (λ fault. EndpointTold fault after)
+  pub did : So (pipes_at path old) before result (pipes_at path new) after
+  pub keeps : KeepsMoved path old before new after
+
+-- a call of this answer
+abbrev pub Call : Type 0 → Type 1
+Call A =
+    Table → World → Option (List ℕ) → Result A EndpointFault → Table → World → Option (List ℕ)
+    → Type 0
+
+abbrev pub TableSends : List ℕ → List ℕ → Call (Unit {0})
+TableSends path bytes =
+    Transferred (transaction_bound * length bytes) (λ pipes. PipesSent pipes bytes) path
+
+abbrev pub TableReceives : List ℕ → ℕ → Call (Vec ℕ)
+TableReceives path packets =
+    Transferred (transaction_bound * packets) (λ pipes. PipesReceived pipes packets) path
+
+abbrev pub TableClears : List ℕ → Call (Unit {0})
+TableClears = Transferred (2 * write_bound) PipesCleared
+
+-- a poll of the hub at the path
+pub record TablePolls (path : List ℕ) (old : Table) (before : World) (text : Option (List ℕ))
+    (result : Result (Option (ArrayVec ℕ)) PipeFault) (new : Table) (after : World)
+    (now : Option (List ℕ)) : Type 0 where
+  pub went : WentOn transaction_bound before text after now
+  pub took : PollTook before result after
+  pub polled : PipesPolled (pipes_at path old) before result (pipes_at path new) after
+  pub keeps : KeepsPolled path old before result new after

@@ -1,6 +1,6 @@
 -- What transfers to the devices of the table leave.
 use Rattle.usb_device.specs.Tree.{Spot}
-use Rattle.std.specs.Prelude.{◌≡◌, ⊤, ℕ, ◌*◌, List, length, Bool, true, false, ◌||◌, Option, Some, None, is_some, Result, Ok, Err, IfSome, MatchResult}
+use Rattle.std.specs.Prelude.{◌≡◌, ⊤, ℕ, ◌*◌, List, length, Bool, true, false, not, ◌||◌, Option, Some, None, is_some, Result, Ok, Err, IfSome, MatchResult}
 use Rattle.std.specs.Global.{Vec}
 use Rattle.std.specs.Int.{div_ceil}
 use Rattle.arrayvec.specs.ArrayVec.{ArrayVec}
@@ -50,7 +50,7 @@ EndpointTold (Pipe fault) w = PipeTold fault w
 abbrev pub PollTook : World → Result (Option (ArrayVec ℕ)) PipeFault → World → Type 0
 PollTook old result new = MatchResult result (λ got. IfSome got (λ packet. Worked 1 old new)) (λ fault. FaultAfter 0 old fault new)
 
--- Through a pipe, if there is one
+-- Through one pipe
 
 pub record SentThrough (pipe : Bulk) (bytes : List ℕ) (old : World) (result : Result (Unit {0}) EndpointFault) (left : Bulk) (new : World) : Type 0 where
   pub answer : Result (Unit {0}) PipeFault
@@ -58,25 +58,35 @@ pub record SentThrough (pipe : Bulk) (bytes : List ℕ) (old : World) (result : 
   pub count : Spends (transaction_bound * div_ceil (length bytes) pipe.max) old new
   pub sends : Sends bytes pipe old answer left new
 
-abbrev pub SentBy : Option Bulk → List ℕ → World → Result (Unit {0}) EndpointFault → Option Bulk → World → Type 0
-SentBy None bytes old result left new = NotTried NoEndpoint None old result left new
-SentBy (Some pipe) bytes old result None new = ⊥
-SentBy (Some pipe) bytes old result (Some left) new = SentThrough pipe bytes old result left new
-
 pub record ReceivedThrough (pipe : Bulk) (packets : ℕ) (old : World) (result : Result (Vec ℕ) EndpointFault) (left : Bulk) (new : World) : Type 0 where
   pub answer : Result (Vec ℕ) PipeFault
   pub told : result ≡ endpoint_answer answer
   pub count : Spends (transaction_bound * packets) old new
   pub receives : Receives packets pipe old answer left new
 
-abbrev pub ReceivedBy : Option Bulk → ℕ → World → Result (Vec ℕ) EndpointFault → Option Bulk → World → Type 0
-ReceivedBy None packets old result left new = NotTried NoEndpoint None old result left new
-ReceivedBy (Some pipe) packets old result None new = ⊥
-ReceivedBy (Some pipe) packets old result (Some left) new = ReceivedThrough pipe packets old result left new
-
 pub record ClearedThrough (pipe : Bulk) (old : World) (answer : Result (Unit {0}) PipeFault) (left : Bulk) (new : World) : Type 0 where
   pub count : Spends write_bound old new
   pub clears : Clears pipe old answer left new
+
+-- Through the pipe of one way, if there is one
+
+-- what a call through one pipe did
+abbrev pub PipeDid : Type 0 → Type 1
+PipeDid A = Bulk → World → Result A EndpointFault → Bulk → World → Type 0
+
+abbrev pub ThroughIf : {A : Type 0} → PipeDid A → Option Bulk → World → Result A EndpointFault
+    → Option Bulk → World → Type 0
+ThroughIf So None old result left new = NotTried NoEndpoint None old result left new
+ThroughIf So (Some pipe) old result None new = ⊥
+ThroughIf So (Some pipe) old result (Some left) new = So pipe old result left new
+
+abbrev pub SentBy : Option Bulk → List ℕ → World → Result (Unit {0}) EndpointFault → Option Bulk
+    → World → Type 0
+SentBy pipe bytes = ThroughIf (λ p. SentThrough p bytes) pipe
+
+abbrev pub ReceivedBy : Option Bulk → ℕ → World → Result (Vec ℕ) EndpointFault → Option Bulk
+    → World → Type 0
+ReceivedBy pipe packets = ThroughIf (λ p. ReceivedThrough p packets) pipe
 
 -- no pipe needs no clearing
 abbrev pub ClearedBy : Option Bulk → World → Result (Unit {0}) PipeFault → Option Bulk → World → Type 0
@@ -119,19 +129,32 @@ PipesPolled (Hub pipe) old result left new = (rest : Interrupt) × (left ≡ Hub
 PipesPolled (Function pipes) old result left new = NotPolled (Function pipes) old result left new
 PipesPolled Absent old result left new = NotPolled Absent old result left new
 
--- bytes are sent to the bulk OUT endpoint of a function
-abbrev pub PipesSent : Pipes → List ℕ → World → Result (Unit {0}) EndpointFault → Pipes → World → Type 0
-PipesSent (Hub pipe) bytes old result left new = NotTried NoEndpoint (Hub pipe) old result left new
-PipesSent (Function pipes) bytes old result left new =
-    (out : Option Bulk) × (left ≡ Function (record pipes { out = out })) × SentBy pipes.out bytes old result out new
-PipesSent Absent bytes old result left new = NotTried NoDevice Absent old result left new
+-- the pipe of one way, and with it the one of the other way
+abbrev pub one_side : Bool → BulkPipes → Option Bulk
+one_side false pipes = pipes.out
+one_side true pipes = pipes.into
 
--- packets are received from the bulk IN endpoint of a function
+abbrev pub both_sides : Bool → Option Bulk → Option Bulk → BulkPipes
+both_sides false pipe other = record { out = pipe; into = other }
+both_sides true pipe other = record { out = other; into = pipe }
+
+-- a call goes through the pipe of one way to a function
+abbrev pub PipesThrough : {A : Type 0} → Bool → PipeDid A → Pipes → World → Result A EndpointFault
+    → Pipes → World → Type 0
+PipesThrough is_in So (Hub pipe) old result left new =
+    NotTried NoEndpoint (Hub pipe) old result left new
+PipesThrough is_in So (Function pipes) old result left new =
+    (pipe : Option Bulk) × (left ≡ Function (both_sides is_in pipe (one_side (not is_in) pipes)))
+    × ThroughIf So (one_side is_in pipes) old result pipe new
+PipesThrough is_in So Absent old result left new = NotTried NoDevice Absent old result left new
+
+-- bytes are sent to its bulk OUT endpoint
+abbrev pub PipesSent : Pipes → List ℕ → World → Result (Unit {0}) EndpointFault → Pipes → World → Type 0
+PipesSent pipes bytes = PipesThrough false (λ p. SentThrough p bytes) pipes
+
+-- packets are received from its bulk IN endpoint
 abbrev pub PipesReceived : Pipes → ℕ → World → Result (Vec ℕ) EndpointFault → Pipes → World → Type 0
-PipesReceived (Hub pipe) packets old result left new = NotTried NoEndpoint (Hub pipe) old result left new
-PipesReceived (Function pipes) packets old result left new =
-    (into : Option Bulk) × (left ≡ Function (record pipes { into = into })) × ReceivedBy pipes.into packets old result into new
-PipesReceived Absent packets old result left new = NotTried NoDevice Absent old result left new
+PipesReceived pipes packets = PipesThrough true (λ p. ReceivedThrough p packets) pipes
 
 -- the halts of a function's bulk endpoints are cleared
 abbrev pub PipesCleared : Pipes → World → Result (Unit {0}) EndpointFault → Pipes → World → Type 0

@@ -7,13 +7,17 @@ ghost use Rattle.usb_enum.specs.Device.{configuration_of};
 ghost use Rattle.usb_pipe.specs.Bulk.{bulk_made};
 ghost use Rattle.usb_pipe.specs.Control.{write_bound};
 ghost use Rattle.usb_table.specs.Findings.{IsSoundDevice, at_full_speed};
-ghost use Rattle.usb_table.specs.Pipes.{ArePipesTo, IsPipe, IsStatusPipe, both_made};
+ghost use Rattle.usb_transaction.specs.Transactions.{transaction_bound};
+ghost use Rattle.usb_table.specs.Deliveries.{pipe_in, pipe_out};
+ghost use Rattle.usb_table.specs.Pipes.{ArePipesTo, IsPipe, IsStatusPipe, both_made, pipes_made};
 ghost use Rattle.usb_table.specs.Pipes.{new_pipes_to, new_status, new_bulk};
 ghost use Rattle.usb_table.specs.declared.pipes.Pipes.TheVariants.{Hub};
-ghost use Rattle.usb_table.specs.Transfers.{SentBy, ReceivedBy, ClearedBy, ClearedInTurn};
+ghost use Rattle.usb_table.specs.Transfers.{ClearedBy, ClearedInTurn};
+ghost use Rattle.usb_table.specs.Transfers.{PipesPolled, PipesSent, PipesReceived, PipesCleared};
 
 use crate::EndpointFault;
 use crate::target::target_to;
+use arrayvec::ArrayVec;
 use std::alloc::Global;
 use usb_bus::Bus;
 use usb_enum::Accepted;
@@ -83,42 +87,79 @@ fn bulk_pipe(device: &Accepted, endpoint: Option<(u8, u8)>, is_in: bool) -> Opti
     }
 }
 
-/// Sends bytes through a pipe, if there is one.
-pub(crate) fn send_through<B: Bus>(
-    pipe: &mut Option<BulkPipe>,
-    bus: &mut B,
-    bytes: &[u8],
-) -> Result<(), EndpointFault>
-    requires { IfSome pipe.old (λ p. p.is_in ≡ false) }
-    ensures made { option_map bulk_made pipe.new ≡ option_map bulk_made pipe.old }
-    ensures traced { B.modelled ≡ true
-        → Traced (B.world bus.old) (B.trace bus.old) (B.world bus.new) (B.trace bus.new) }
-    ensures sent { B.modelled ≡ true
-        → SentBy pipe.old bytes.now (B.world bus.old) result pipe.new (B.world bus.new) }
-{
-    match pipe {
-        Some(pipe) => Ok(pipe.send(bus, bytes)?),
-        None => Err(EndpointFault::NoEndpoint),
+impl Pipes {
+    /// Asks a hub's status endpoint once; `None` of anything else.
+    pub fn poll<B: Bus>(&mut self, bus: &mut B) -> Result<Option<ArrayVec<u8, 64>>, PipeFault>
+        ensures made { pipes_made self.new ≡ pipes_made self.old }
+        ensures went { B.modelled ≡ true → Went B.world B.trace transaction_bound bus.old bus.new }
+        ensures polled { B.modelled ≡ true
+            → PipesPolled self.old (B.world bus.old) result self.new (B.world bus.new) }
+    {
+        match self {
+            Pipes::Hub(pipe) => pipe.poll(bus),
+            Pipes::Function(_) | Pipes::Absent => Ok(None),
+        }
     }
-}
 
-/// Receives packets through a pipe, if there is one.
-pub(crate) fn receive_through<B: Bus>(
-    pipe: &mut Option<BulkPipe>,
-    alloc: Global,
-    bus: &mut B,
-    packets: u16,
-) -> Result<Vec<u8>, EndpointFault>
-    requires { IfSome pipe.old (λ p. p.is_in ≡ true) }
-    ensures made { option_map bulk_made pipe.new ≡ option_map bulk_made pipe.old }
-    ensures traced { B.modelled ≡ true
-        → Traced (B.world bus.old) (B.trace bus.old) (B.world bus.new) (B.trace bus.new) }
-    ensures received { B.modelled ≡ true
-        → ReceivedBy pipe.old packets (B.world bus.old) result pipe.new (B.world bus.new) }
-{
-    match pipe {
-        Some(pipe) => Ok(pipe.receive(alloc, bus, packets)?),
-        None => Err(EndpointFault::NoEndpoint),
+    /// Sends bytes to a function's bulk OUT endpoint.
+    pub fn send<B: Bus>(&mut self, bus: &mut B, bytes: &[u8]) -> Result<(), EndpointFault>
+        requires { IfSome (pipe_out self.old) (λ pipe. pipe.is_in ≡ false) }
+        ensures made { pipes_made self.new ≡ pipes_made self.old }
+        ensures traced { B.modelled ≡ true
+            → Traced (B.world bus.old) (B.trace bus.old) (B.world bus.new) (B.trace bus.new) }
+        ensures sent { B.modelled ≡ true
+            → PipesSent self.old bytes.now (B.world bus.old) result self.new (B.world bus.new) }
+    {
+        match self {
+            Pipes::Function(
+                BulkPipes {
+                    out: Some(pipe),
+                    ..
+                },
+            ) => Ok(pipe.send(bus, bytes)?),
+            Pipes::Function(_) | Pipes::Hub(_) => Err(EndpointFault::NoEndpoint),
+            Pipes::Absent => Err(EndpointFault::NoDevice),
+        }
+    }
+
+    /// Receives packets from a function's bulk IN endpoint.
+    pub fn receive<B: Bus>(
+        &mut self,
+        alloc: Global,
+        bus: &mut B,
+        packets: u16,
+    ) -> Result<Vec<u8>, EndpointFault>
+        requires { IfSome (pipe_in self.old) (λ pipe. pipe.is_in ≡ true) }
+        ensures made { pipes_made self.new ≡ pipes_made self.old }
+        ensures traced { B.modelled ≡ true
+            → Traced (B.world bus.old) (B.trace bus.old) (B.world bus.new) (B.trace bus.new) }
+        ensures received { B.modelled ≡ true
+            → PipesReceived self.old packets (B.world bus.old) result self.new (B.world bus.new) }
+    {
+        match self {
+            Pipes::Function(
+                BulkPipes {
+                    into: Some(pipe),
+                    ..
+                },
+            ) => Ok(pipe.receive(alloc, bus, packets)?),
+            Pipes::Function(_) | Pipes::Hub(_) => Err(EndpointFault::NoEndpoint),
+            Pipes::Absent => Err(EndpointFault::NoDevice),
+        }
+    }
+
+    /// Clears the halts of a function's bulk endpoints.
+    pub fn clear_halt<B: Bus>(&mut self, bus: &mut B) -> Result<(), EndpointFault>
+        ensures made { pipes_made self.new ≡ pipes_made self.old }
+        ensures went { B.modelled ≡ true → Went B.world B.trace (2 * write_bound) bus.old bus.new }
+        ensures cleared { B.modelled ≡ true
+            → PipesCleared self.old (B.world bus.old) result self.new (B.world bus.new) }
+    {
+        match self {
+            Pipes::Function(pipes) => pipes.clear_halt(bus),
+            Pipes::Hub(_) => Err(EndpointFault::NoEndpoint),
+            Pipes::Absent => Err(EndpointFault::NoDevice),
+        }
     }
 }
 

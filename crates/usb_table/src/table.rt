@@ -1,12 +1,9 @@
 //! What stands at each port.
-ghost use Rattle.std.specs.Prelude.{◌≡◌, ◌*◌, ℕ, List, length, false, true, option_copied};
+ghost use Rattle.std.specs.Prelude.{◌≡◌, ℕ, List, false, true, option_copied};
 ghost use Rattle.std.specs.Prelude.{IfSome, IfNone, IfOk, IfErr, OnOk, OnErr};
 ghost use Rattle.std.specs.BTreeMap.{is_at};
 ghost use Rattle.std.specs.Map.{lookup};
 ghost use Rattle.usb_port.specs.Order.{path_cmp};
-ghost use Rattle.usb_bus.specs.Traces.{Went};
-ghost use Rattle.usb_pipe.specs.Control.{write_bound};
-ghost use Rattle.usb_transaction.specs.Transactions.{transaction_bound};
 ghost use Rattle.usb_table.specs.Entries.{Rises, has_at};
 ghost use Rattle.usb_table.specs.Findings.{IsSoundFinding, is_hub, is_waiting};
 ghost use Rattle.usb_table.specs.Findings.{HasNewAddress, HasDevice, HasNoDevice};
@@ -14,10 +11,8 @@ ghost use Rattle.usb_table.specs.Kinds.{fits};
 ghost use Rattle.usb_table.specs.KnownPorts.{IsAskable, known_port};
 ghost use Rattle.usb_table.specs.NextEntries.{IsNext, IsLast};
 ghost use Rattle.usb_table.specs.Table.{ArePipesAt, GoesThrough, TakesOut};
-ghost use Rattle.usb_table.specs.Table.{empty, entered, pipes_at};
-ghost use Rattle.usb_table.specs.Levels.{KeepsPolled, KeepsMoved};
-ghost use Rattle.usb_table.specs.Transfers.{PollTook, EndpointTold};
-ghost use Rattle.usb_table.specs.Transfers.{PipesPolled, PipesSent, PipesReceived, PipesCleared};
+ghost use Rattle.usb_table.specs.Table.{empty, entered};
+ghost use Rattle.usb_table.specs.Levels.{TablePolls, TableSends, TableReceives, TableClears};
 
 use crate::entry::Entry;
 use crate::found::address_number;
@@ -196,15 +191,12 @@ impl DeviceTable {
         hub: &PortPath,
     ) -> Result<Option<ArrayVec<u8, 64>>, PipeFault>
         ensures through { GoesThrough hub.now self.old self.new }
-        ensures went { B.modelled ≡ true → Went B.world B.trace transaction_bound bus.old bus.new }
-        ensures ends { B.modelled ≡ true → PollTook (B.world bus.old) result (B.world bus.new) }
-        ensures polled { B.modelled ≡ true → PipesPolled (pipes_at hub.now self.old)
-            (B.world bus.old) result (pipes_at hub.now self.new) (B.world bus.new) }
-        ensures keeps { B.modelled ≡ true
-            → KeepsPolled hub.now self.old (B.world bus.old) result self.new (B.world bus.new) }
+        ensures polls { B.modelled ≡ true → TablePolls hub.now
+            self.old (B.world bus.old) (B.trace bus.old) result
+            self.new (B.world bus.new) (B.trace bus.new) }
     {
         match self.indexes.by_path.get(hub) {
-            Some(key) => self.entries[*key].poll(bus),
+            Some(key) => self.entries[*key].pipes.poll(bus),
             None => Ok(None),
         }
     }
@@ -222,17 +214,12 @@ impl DeviceTable {
         bytes: &[u8],
     ) -> Result<(), EndpointFault>
         ensures through { GoesThrough path.now self.old self.new }
-        ensures went { B.modelled ≡ true
-            → Went B.world B.trace (transaction_bound * length bytes.now) bus.old bus.new }
-        ensures told { B.modelled ≡ true
-            → IfErr result (λ fault. EndpointTold fault (B.world bus.new)) }
-        ensures sent { B.modelled ≡ true → PipesSent (pipes_at path.now self.old) bytes.now
-            (B.world bus.old) result (pipes_at path.now self.new) (B.world bus.new) }
-        ensures keeps { B.modelled ≡ true
-            → KeepsMoved path.now self.old (B.world bus.old) self.new (B.world bus.new) }
+        ensures sends { B.modelled ≡ true → TableSends path.now bytes.now
+            self.old (B.world bus.old) (B.trace bus.old) result
+            self.new (B.world bus.new) (B.trace bus.new) }
     {
         match self.indexes.by_path.get(path) {
-            Some(key) => self.entries[*key].send(bus, bytes),
+            Some(key) => self.entries[*key].pipes.send(bus, bytes),
             None => Err(EndpointFault::NoDevice),
         }
     }
@@ -252,17 +239,12 @@ impl DeviceTable {
         packets: u16,
     ) -> Result<Vec<u8>, EndpointFault>
         ensures through { GoesThrough path.now self.old self.new }
-        ensures went { B.modelled ≡ true
-            → Went B.world B.trace (transaction_bound * packets) bus.old bus.new }
-        ensures told { B.modelled ≡ true
-            → IfErr result (λ fault. EndpointTold fault (B.world bus.new)) }
-        ensures received { B.modelled ≡ true → PipesReceived (pipes_at path.now self.old) packets
-            (B.world bus.old) result (pipes_at path.now self.new) (B.world bus.new) }
-        ensures keeps { B.modelled ≡ true
-            → KeepsMoved path.now self.old (B.world bus.old) self.new (B.world bus.new) }
+        ensures receives { B.modelled ≡ true → TableReceives path.now packets
+            self.old (B.world bus.old) (B.trace bus.old) result
+            self.new (B.world bus.new) (B.trace bus.new) }
     {
         match self.indexes.by_path.get(path) {
-            Some(key) => self.entries[*key].receive(alloc, bus, packets),
+            Some(key) => self.entries[*key].pipes.receive(alloc, bus, packets),
             None => Err(EndpointFault::NoDevice),
         }
     }
@@ -276,16 +258,12 @@ impl DeviceTable {
     /// speed or has no bulk endpoint; `Pipe` with those of `BulkPipe::clear_halt`.
     pub fn clear_halt<B: Bus>(&mut self, bus: &mut B, path: &PortPath) -> Result<(), EndpointFault>
         ensures through { GoesThrough path.now self.old self.new }
-        ensures went { B.modelled ≡ true → Went B.world B.trace (2 * write_bound) bus.old bus.new }
-        ensures told { B.modelled ≡ true
-            → IfErr result (λ fault. EndpointTold fault (B.world bus.new)) }
-        ensures cleared { B.modelled ≡ true → PipesCleared (pipes_at path.now self.old)
-            (B.world bus.old) result (pipes_at path.now self.new) (B.world bus.new) }
-        ensures keeps { B.modelled ≡ true
-            → KeepsMoved path.now self.old (B.world bus.old) self.new (B.world bus.new) }
+        ensures clears { B.modelled ≡ true → TableClears path.now
+            self.old (B.world bus.old) (B.trace bus.old) result
+            self.new (B.world bus.new) (B.trace bus.new) }
     {
         match self.indexes.by_path.get(path) {
-            Some(key) => self.entries[*key].clear_halt(bus),
+            Some(key) => self.entries[*key].pipes.clear_halt(bus),
             None => Err(EndpointFault::NoDevice),
         }
     }

@@ -325,7 +325,6 @@ module _ (t : Target) (ep : ℕ) (awaited : Toggle) (old new : World) (settled :
 
   pub asks_in : (result : Result (List ℕ) TransFault) → Transacted (heard_as awaited) (in_attempt t ep) old result new → IfOk result (λ bytes. length bytes ≤ t.max) → AsksIn t ep awaited old result new
   asks_in result x short = record {
-    settled = settled;
     heard = x;
     ends = ends_of (heard_as awaited) (in_attempt t ep) old new result x;
     short = short;
@@ -369,7 +368,6 @@ module _ (t : Target) (ep : ℕ) (toggle : Toggle) (bytes : List ℕ) (old new :
 
   pub sends_out : (result : Result (List ℕ) TransFault) → Transacted heard_when_sent (out_attempt t ep toggle bytes) old result new → SendsOut t ep toggle bytes old result new
   sends_out result x = record {
-    settled = settled;
     heard = x;
     ends = ends_of heard_when_sent (out_attempt t ep toggle bytes) old new result x;
     nothing = brings_nothing heard_when_sent (out_attempt t ep toggle bytes) sent_empty old new result x;
@@ -394,7 +392,6 @@ module _ (t : Target) (bytes : List ℕ) (old new : World) (eight : length bytes
 
   pub sets_up : (result : Result (List ℕ) TransFault) → Transacted set_up_as (setup_attempt t bytes) old result new → SetupEnds old result new → SetsUp t bytes old result new
   sets_up result x ends = record {
-    settled = settled;
     heard = x;
     ends = ends;
     nothing = brings_nothing set_up_as (setup_attempt t bytes) set_up_empty old new result x;
@@ -417,7 +414,6 @@ module _ (t : Target) (ep : ℕ) (toggle : Toggle) (old new : World) (least : 1 
 
   pub polls_in : (result : Result (Option (List ℕ)) TransFault) → Polled toggle (in_attempt t ep) old result new → IfOk result (λ got. IfSome got (λ bytes. length bytes ≤ t.max)) → PollsIn t ep toggle old result new
   polls_in result x short = record {
-    settled = settled;
     heard = x;
     ends = poll_ends toggle (in_attempt t ep) old new result x;
     short = short;

@@ -8,7 +8,6 @@ use Rattle.usb_world.specs.declared.types.BusFault.{BusFault}
 use Rattle.usb_world.specs.declared.types.Outcome.{Outcome}
 use Rattle.usb_world.specs.declared.types.Outcome.TheVariants.{Nak, Stall}
 use Rattle.usb_world.specs.World.{World, Made, Spends, Attempted, IsAttempt, FitsMaximum}
-use Rattle.usb_world.specs.AttemptPackets.{IsSettled}
 use Rattle.usb_world.specs.Steps.{attempt, after, AttemptFails}
 use Rattle.usb_world.proofs.Interface.{spends_none, spends_then, spends_wider}
 use Rattle.usb_bus.specs.Traces.{Attempts, Traced, still, attempted, WentOn}
@@ -25,12 +24,13 @@ use Rattle.usb_transaction.proofs.LastOutcomes.{heard_moved}
 -- One more attempt, and what the host got
 
 pub record Once (a : Attempt) (mid : World) (before : Option (List ℕ)) (o : Outcome) (new : World) (now : Option (List ℕ)) : Type 0 where
-  pub settled : IsSettled mid.roots
   pub fits : IsAttempt a
   pub made : Attempts a mid before (Ok o) new now
 
-pub once : {a b : Attempt} {mid new : World} {o : Outcome} {before now : Option (List ℕ)} → b ≡ a → IsSettled mid.roots → IsAttempt b → Attempts b mid before (Ok o) new now → Once a mid before o new now
-once {mid = mid} {new = new} {o = o} {before = before} {now = now} is settled fits x = subst (λ y. Once y mid before o new now) is (record { settled = settled; fits = fits; made = x })
+pub once : {a b : Attempt} {mid new : World} {o : Outcome} {before now : Option (List ℕ)} → b ≡ a
+    → IsAttempt b → Attempts b mid before (Ok o) new now → Once a mid before o new now
+once {mid = mid} {new = new} {o = o} {before = before} {now = now} is fits x =
+    subst (λ y. Once y mid before o new now) is (record { fits = fits; made = x })
 
 one_more : {a : Attempt} {old mid new : World} {outcomes : List Outcome} {o : Outcome} {before now : Option (List ℕ)} → Trail a old outcomes mid → Once a mid before o new now → Trail a old (o ∷ outcomes) new
 one_more {a} {old} {mid} {new} {outcomes} {o} t one =
@@ -91,24 +91,15 @@ cut_off {fault = fault} {mid = mid} {new = new} is g fits x = record {
 
 -- A loop of tries: how it stands, with what it wrote
 
--- if a later world of the call remembers nothing, so did the first; each attempt tells it of the world before it
-abbrev pub SettledSince : World → World → Type 0
-SettledSince old now = IsSettled now.roots → IsSettled old.roots
-
 pub record Stands (hear : Outcome → HeardOutcome) (a : Attempt) (t : Tries) (old : World) (first : Option (List ℕ)) (now : World) (text : Option (List ℕ)) : Type 0 where
   pub few : t.errors < 3
   pub calm : t.waits < 256
   pub going : Going hear a t.errors t.waits old now
-  pub since : SettledSince old now
   pub traced : Traced old first now text
 
 pub stands_new : {hear : Outcome → HeardOutcome} {a : Attempt} {text : Option (List ℕ)} (t : Tries) (w : World) → t ≡ record { errors = 0; waits = 0 } → Stands hear a t w text w text
-stands_new {hear} {a} {text} t w is = subst (λ x. Stands hear a x w text w text) (sym is) (record { few = omega arith; calm = omega arith; going = going_none w; since = λ h. h; traced = still })
-
--- what a transaction tells, of worlds that remember nothing
-pub record Told (hear : Outcome → HeardOutcome) (a : Attempt) (old : World) (result : Result (List ℕ) TransFault) (new : World) : Type 0 where
-  pub settled : IsSettled old.roots
-  pub heard : Transacted hear a old result new
+stands_new {hear} {a} {text} t w is = subst (λ x. Stands hear a x w text w text) (sym is)
+    (record { few = omega arith; calm = omega arith; going = going_none w; traced = still })
 
 -- a NAK or a repeat
 abbrev pub IsWait : HeardOutcome → Type 0
@@ -131,15 +122,18 @@ module _ {hear : Outcome → HeardOutcome} {a : Attempt} {t : Tries} {old mid : 
     traced = attempted b r fits s.traced x;
   }
 
-  pub told_cut : {b : Attempt} {fault : BusFault} {new : World} {now : Option (List ℕ)} → b ≡ a → IsAttempt b → IsSettled mid.roots → Attempts b mid before (Err fault) new now → Told hear a old (Err (Bus fault)) new
-  told_cut {fault = fault} {new = new} is fits settled x = record { settled = s.since settled; heard = cut_off is s.going fits x }
+  pub told_cut : {b : Attempt} {fault : BusFault} {new : World} {now : Option (List ℕ)} → b ≡ a
+      → IsAttempt b → Attempts b mid before (Err fault) new now
+      → Transacted hear a old (Err (Bus fault)) new
+  told_cut is fits x = cut_off is s.going fits x
 
   module _ {o : Outcome} {new : World} {now : Option (List ℕ)} (one : Once a mid before o new now) where
     pub stands_error : (u : Tries) → Lost ≡ hear o → u ≡ record t { errors = t.errors + 1 } → u.errors < 3 → Stands hear a u old first new now
     stands_error u lost is few =
         let two : t.errors + 1 < 3 = subst (λ x. x.errors < 3) is few in
         subst (λ x. Stands hear a x old first new now) (sym is)
-        (record { few = two; calm = s.calm; going = going_error t.errors t.waits two s.calm s.going one lost; since = λ h. s.since one.settled; traced = attempted a (Ok o) one.fits s.traced one.made })
+        (record { few = two; calm = s.calm; going = going_error t.errors t.waits two s.calm s.going
+            one lost; traced = attempted a (Ok o) one.fits s.traced one.made })
 
     pub stands_waited : (h : HeardOutcome) (u : Tries) → h ≡ hear o → IsWait h → u ≡ record t { errors = 0; waits = t.waits + 1 } → u.waits < 256 → Stands hear a u old first new now
     stands_waited h u heard wait is calm =
@@ -150,40 +144,45 @@ module _ {hear : Outcome → HeardOutcome} {a : Attempt} {t : Tries} {old mid : 
           few = omega arith;
           calm = less;
           going = going_more 0 (t.waits + 1) s.going one w.on (w.none t.errors) (w.more t.waits) (omega arith) less (omega (arith, s.few));
-          since = λ h. s.since one.settled;
           traced = attempted a (Ok o) one.fits s.traced one.made;
         })
 
     ended : (result : Result (List ℕ) TransFault) → Tells hear result o s.going.outcomes → Ended hear a old result new
     ended result tells = record { outcomes = s.going.outcomes; last = o; trail = one_more s.going.trail one; onward = s.going.onward; tells = tells }
 
-    pub told_moved : (bytes : ArrayVec ℕ) → hear o ≡ Moved bytes → Told hear a old (Ok bytes.items) new
-    told_moved bytes is = record { settled = s.since one.settled; heard = ended (Ok bytes.items) is }
+    pub told_moved : (bytes : ArrayVec ℕ) → hear o ≡ Moved bytes
+        → Transacted hear a old (Ok bytes.items) new
+    told_moved bytes is = ended (Ok bytes.items) is
 
-    pub told_stalled : o ≡ Stall → Told hear a old (Err Stalled) new
-    told_stalled is = record { settled = s.since one.settled; heard = ended (Err Stalled) is }
+    pub told_stalled : o ≡ Stall → Transacted hear a old (Err Stalled) new
+    told_stalled is = ended (Err Stalled) is
 
     -- the third error running
-    pub told_silent : (u : Tries) → Lost ≡ hear o → u ≡ record t { errors = t.errors + 1 } → u.errors ≡ 3 → Told hear a old (Err NoAnswer) new
-    told_silent u lost is third = record { settled = s.since one.settled; heard = ended (Err NoAnswer) (third_error t.errors t.waits s.going lost (ap (λ x. x.errors) (sym is) ∙ third)) }
+    pub told_silent : (u : Tries) → Lost ≡ hear o → u ≡ record t { errors = t.errors + 1 }
+        → u.errors ≡ 3 → Transacted hear a old (Err NoAnswer) new
+    told_silent u lost is third =
+        let counted = ap (λ x. x.errors) (sym is) ∙ third in
+        ended (Err NoAnswer) (third_error t.errors t.waits s.going lost counted)
 
     -- the 256th wait
-    pub told_busy : (h : HeardOutcome) (u : Tries) → h ≡ hear o → IsWait h → u ≡ record t { errors = 0; waits = t.waits + 1 } → u.waits ≡ 256 → Told hear a old (Err Busy) new
+    pub told_busy : (h : HeardOutcome) (u : Tries) → h ≡ hear o → IsWait h
+        → u ≡ record t { errors = 0; waits = t.waits + 1 } → u.waits ≡ 256
+        → Transacted hear a old (Err Busy) new
     unfolding waits_in
-    told_busy h u heard wait is full = record {
-      settled = s.since one.settled;
-      heard = ended (Err Busy) ((subst Waits heard (waits_of h wait)).more (waits_in hear s.going.outcomes) ∙ ap (λ n. n + 1) s.going.waited ∙ ap (λ x. x.waits) (sym is) ∙ full);
-    }
+    told_busy h u heard wait is full =
+        let one_wait = (subst Waits heard (waits_of h wait)).more (waits_in hear s.going.outcomes)
+            in
+        let counted = ap (λ n. n + 1) s.going.waited ∙ ap (λ x. x.waits) (sym is) ∙ full in
+        ended (Err Busy) (one_wait ∙ counted)
 
 -- a poll that a NAK ended
-pub record Waited (toggle : Toggle) (a : Attempt) (old new : World) : Type 0 where
-  pub settled : IsSettled old.roots
-  pub heard : Waiting toggle a old new
-
-pub told_waiting : {toggle : Toggle} {a : Attempt} {t : Tries} {o : Outcome} {old mid new : World} {first before now : Option (List ℕ)} → Stands (polled_as toggle) a t old first mid before → Once a mid before o new now → o ≡ Nak → Waited toggle a old new
+pub told_waiting : {toggle : Toggle} {a : Attempt} {t : Tries} {o : Outcome} {old mid new : World}
+    {first before now : Option (List ℕ)} → Stands (polled_as toggle) a t old first mid before
+    → Once a mid before o new now → o ≡ Nak → Waiting toggle a old new
 told_waiting {toggle} {a} {t} {o} {old} {mid} {new} s one is = record {
-  settled = s.since one.settled;
-  heard = record { outcomes = s.going.outcomes; trail = subst (λ x. Trail a old (x ∷ s.going.outcomes) new) is (one_more s.going.trail one); onward = s.going.onward };
+  outcomes = s.going.outcomes;
+  trail = subst (λ x. Trail a old (x ∷ s.going.outcomes) new) is (one_more s.going.trail one);
+  onward = s.going.onward;
 }
 
 -- Setup data: three attempts at most
@@ -199,12 +198,15 @@ pub record SetUpStands (a : Attempt) (n : ℕ) (old : World) (first : Option (Li
   pub spends : Spends n old now
   pub going : n < 3 → Going set_up_as a n 0 old now
   pub ended : n ≡ 3 → Ended set_up_as a old (Err NoAnswer) now
-  pub since : SettledSince old now
-  pub settled : 0 < n → IsSettled old.roots
   pub traced : Traced old first now text
 
 pub set_up_new : {a : Attempt} {text : Option (List ℕ)} (w : World) → SetUpStands a 0 w text w text
-set_up_new w = record { spends = spends_none w; going = λ n. going_none w; ended = λ e. absurd (omega (arith, e)); since = λ h. h; settled = λ few. absurd (omega (arith, few)); traced = still }
+set_up_new w = record {
+  spends = spends_none w;
+  going = λ n. going_none w;
+  ended = λ e. absurd (omega (arith, e));
+  traced = still;
+}
 
 module _ {a : Attempt} {n : ℕ} {old mid : World} {first before : Option (List ℕ)} (few : n < 3) (s : SetUpStands a n old first mid before) where
   pub set_up_went : {b : Attempt} {r : Result Outcome BusFault} {new : World} {now : Option (List ℕ)} → IsAttempt b → Attempts b mid before r new now → WentOn 3 old first new now
@@ -218,16 +220,17 @@ module _ {a : Attempt} {n : ℕ} {old mid : World} {first before : Option (List 
     spends = spends_then n 1 old mid new s.spends one.made.counts.spends;
     going = λ more. going_error n 0 more (omega arith) (s.going few) one (set_up_lost o not);
     ended = λ third. set_up_ended (Err NoAnswer) one (third_error n 0 (s.going few) (set_up_lost o not) third);
-    since = λ h. s.since one.settled;
-    settled = λ some. s.since one.settled;
     traced = attempted a (Ok o) one.fits s.traced one.made;
   }
 
-  pub set_up_told : {o : Outcome} {new : World} {now : Option (List ℕ)} → Once a mid before o new now → acks o ≡ true → Told set_up_as a old (Ok []) new
-  set_up_told {o} one is = record { settled = s.since one.settled; heard = set_up_ended (Ok []) one (set_up_moved o is) }
+  pub set_up_told : {o : Outcome} {new : World} {now : Option (List ℕ)}
+      → Once a mid before o new now → acks o ≡ true → Transacted set_up_as a old (Ok []) new
+  set_up_told {o} one is = set_up_ended (Ok []) one (set_up_moved o is)
 
-  pub set_up_cut : {b : Attempt} {fault : BusFault} {new : World} {now : Option (List ℕ)} → b ≡ a → IsAttempt b → IsSettled mid.roots → Attempts b mid before (Err fault) new now → Told set_up_as a old (Err (Bus fault)) new
-  set_up_cut is fits settled x = record { settled = s.since settled; heard = cut_off is (s.going few) fits x }
+  pub set_up_cut : {b : Attempt} {fault : BusFault} {new : World} {now : Option (List ℕ)} → b ≡ a
+      → IsAttempt b → Attempts b mid before (Err fault) new now
+      → Transacted set_up_as a old (Err (Bus fault)) new
+  set_up_cut is fits x = cut_off is (s.going few) fits x
 
 -- all three
 pub set_up_spent : {a : Attempt} {n : ℕ} {old now : World} {first text : Option (List ℕ)} → n ≤ 3 → SetUpStands a n old first now text → WentOn 3 old first now text

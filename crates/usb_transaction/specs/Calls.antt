@@ -8,7 +8,6 @@ use Rattle.usb_device.specs.declared.answer.Answer.TheVariants as answer
 use Rattle.usb_device.specs.Rows.{State}
 use Rattle.usb_world.specs.Courses.{is_harmless}
 use Rattle.usb_world.specs.Devices.{EachWas}
-use Rattle.usb_world.specs.AttemptPackets.{IsSettled}
 use Rattle.usb_world.specs.Steps.{Course}
 use Rattle.usb_world.specs.World.{World}
 use Rattle.usb_transaction.specs.declared.target.Target.{Target}
@@ -42,7 +41,6 @@ MeansOfSetup t bytes old (Err NoAnswer) new = Course IsUnheard old new
 MeansOfSetup t bytes old (Err (Bus fault)) new = ⊤
 
 pub record SetsUp (t : Target) (bytes : List ℕ) (old : World) (result : Result (List ℕ) TransFault) (new : World) : Type 0 where
-  pub settled : IsSettled old.roots
   pub heard : Transacted set_up_as (setup_attempt t bytes) old result new
   pub ends : SetupEnds old result new
   pub nothing : IfOk result (λ done. done ≡ [])
@@ -70,7 +68,6 @@ MeansOfIn t ep awaited old (Err NoAnswer) new = ⊤
 MeansOfIn t ep awaited old (Err (Bus fault)) new = ⊤
 
 pub record AsksIn (t : Target) (ep : ℕ) (awaited : Toggle) (old : World) (result : Result (List ℕ) TransFault) (new : World) : Type 0 where
-  pub settled : IsSettled old.roots
   pub heard : Transacted (heard_as awaited) (in_attempt t ep) old result new
   pub ends : Ends old result new
   pub short : IfOk result (λ bytes. length bytes ≤ t.max)
@@ -98,7 +95,6 @@ MeansOfOut t ep toggle bytes old (Err NoAnswer) new = ⊤
 MeansOfOut t ep toggle bytes old (Err (Bus fault)) new = ⊤
 
 pub record SendsOut (t : Target) (ep : ℕ) (toggle : Toggle) (bytes : List ℕ) (old : World) (result : Result (List ℕ) TransFault) (new : World) : Type 0 where
-  pub settled : IsSettled old.roots
   pub heard : Transacted heard_when_sent (out_attempt t ep toggle bytes) old result new
   pub ends : Ends old result new
   pub nothing : IfOk result (λ done. done ≡ [])
@@ -110,7 +106,6 @@ pub record SendsOut (t : Target) (ep : ℕ) (toggle : Toggle) (bytes : List ℕ)
 -- a poll of a hub's status endpoint, which is its endpoint 1 (11.12.3), or of another
 
 pub record PollsIn (t : Target) (ep : ℕ) (toggle : Toggle) (old : World) (result : Result (Option (List ℕ)) TransFault) (new : World) : Type 0 where
-  pub settled : IsSettled old.roots
   pub heard : Polled toggle (in_attempt t ep) old result new
   pub ends : Ends old result new
   pub short : IfOk result (λ got. IfSome got (λ bytes. length bytes ≤ t.max))

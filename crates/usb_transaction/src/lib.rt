@@ -41,7 +41,7 @@
 //!   said.
 //!
 //! Each of these but the count (`went`) and the toggle (`toggle`) is a field of the call's one record (`SetsUp`,
-//! `AsksIn`, `SendsOut`, `PollsIn` in its specs/Calls): settled, heard, ends, nothing or short, what, why, who, means
+//! `AsksIn`, `SendsOut`, `PollsIn` in its specs/Calls): heard, ends, nothing or short, what, why, who, means
 //! (not of a poll). Lemmas give it again to whoever kept what was heard: `setup_leaves`, `control_leaves`,
 //! `status_leaves`, `source_leaves`, `sink_leaves` and `what_poll` of what is left, `set_up_why`, `control_in_why`,
 //! `read_status_why`, `source_why`, `sink_why` and `poll_why` of why it failed, `read_answered`, `write_answered`,

@@ -15,6 +15,7 @@ use Rattle.usb_wire.specs.declared.fault.WireFault.{WireFault}
 use Rattle.usb_wire.specs.declared.fault.WireFault.TheVariants.{LineTooLong, BadCharacter, NoAnswer, BadHex, BadLength, BadNumber, BadPath}
 use Rattle.usb_wire.specs.declared.question.Asked.{Asked}
 use Rattle.usb_wire.specs.declared.question.Asked.TheVariants.{Hello, Attempt, Port, Wait}
+use Rattle.usb_wire.specs.Answers.{send_limit}
 use Rattle.usb_wire.specs.Faults.{Field, Form, argument_fault, bytes_field, fault_by, line_fault, fields_in, forms, packets_field, path_field, root_field, roots_field, status_field, words_fault}
 use Rattle.usb_wire.specs.Fields.{hex_length, hex_value, is_dash, is_hex, number_within}
 use Rattle.usb_wire.specs.Reading.{◌>>=◌, alone, said_of, bytes_of_word, clear_answer, count_in, data_answer, fault_in, line_says, number_of_word, path_in, status_change, receive_answer, roots_answer, send_answer, status_of_word, text_of_line, three_say, with_one, with_two, words_say}
@@ -46,15 +47,17 @@ value_given None xs b e = cc
 value_given (Some x) xs true e = refl
 value_given (Some x) xs false e = refl
 
-bytes_rows : (hex : Bool) (n : ℕ) (o : Option (List ℕ)) → (hex ≡ true → (xs : List ℕ) × (o ≡ Some xs))
-    → fault_in ((if hex then Ok n else Err BadHex) >>= (λ count. if nat_lt 64 count then Err BadLength else ok_or o BadHex))
-    ≡ (if not hex then Some BadHex else if nat_lt 64 n then Some BadLength else None)
-bytes_rows true n o given = let value = given refl in value_given o value.0 (nat_lt 64 n) value.1
-bytes_rows false n o given = refl
+bytes_rows : (most : ℕ) (hex : Bool) (n : ℕ) (o : Option (List ℕ)) → (hex ≡ true → (xs : List ℕ) × (o ≡ Some xs))
+    → fault_in ((if hex then Ok n else Err BadHex) >>= (λ count. if nat_lt most count then Err BadLength else ok_or o BadHex))
+    ≡ (if not hex then Some BadHex else if nat_lt most n then Some BadLength else None)
+bytes_rows most true n o given = let value = given refl in value_given o value.0 (nat_lt most n) value.1
+bytes_rows most false n o given = refl
 
-fault_in-bytes : (word : List ℕ) → fault_in (bytes_of_word word) ≡ (if not (is_dash word || is_hex word) then Some BadHex else if nat_lt 64 (hex_length word) then Some BadLength else None)
+fault_in-bytes : (most : ℕ) (word : List ℕ) → fault_in (bytes_of_word most word)
+    ≡ (if not (is_dash word || is_hex word) then Some BadHex
+    else if nat_lt most (hex_length word) then Some BadLength else None)
 unfolding bytes_of_word count_in
-fault_in-bytes word = bytes_rows (is_dash word || is_hex word) (hex_length word) (hex_value word) (value-hex word)
+fault_in-bytes most word = bytes_rows most (is_dash word || is_hex word) (hex_length word) (hex_value word) (value-hex word)
 
 status_given : (o : Option (List ℕ)) (xs : List ℕ) (b : Bool) → o ≡ Some xs → fault_in (if b then ok_or o BadHex else Err BadLength) ≡ (if not b then Some BadLength else None)
 status_given None xs b e = cc
@@ -138,10 +141,10 @@ unfolding roots_answer
 faults-roots count word =
     fault_in-then (number_of_word 1 7 word) roots_given None (λ _. refl) ∙ ap (λ o. first_of o None) (fault_in-number 1 7 word) ∙ roots_table (is_none (number_within 1 7 word))
 
-faults-data : (count : ℕ) (toggle : Toggle) (word : List ℕ) → fault_in (data_answer toggle word) ≡ argument_fault count (bytes_field ∷ []) (word ∷ [])
+faults-data : (count : ℕ) (toggle : Toggle) (word : List ℕ) → fault_in (data_answer toggle word) ≡ argument_fault count (bytes_field 64 ∷ []) (word ∷ [])
 unfolding data_answer
 faults-data count toggle word =
-    fault_in-then (bytes_of_word word) (data_given toggle) None (λ _. refl) ∙ ap (λ o. first_of o None) (fault_in-bytes word) ∙ data_table (is_dash word || is_hex word) (nat_lt 64 (hex_length word))
+    fault_in-then (bytes_of_word 64 word) (data_given toggle) None (λ _. refl) ∙ ap (λ o. first_of o None) (fault_in-bytes 64 word) ∙ data_table (is_dash word || is_hex word) (nat_lt 64 (hex_length word))
 
 faults-clear : (count : ℕ) (word : List ℕ) → fault_in (clear_answer word) ≡ argument_fault count (path_field ∷ []) (word ∷ [])
 unfolding clear_answer
@@ -151,12 +154,12 @@ faults-clear count word =
 path_last : {B : Type 0} (word : List ℕ) (f : List ℕ → Result B WireFault) → ((p : List ℕ) → fault_in (f p) ≡ None) → fault_in (path_in word >>= f) ≡ first_of (if is_none (path_of word) then Some BadPath else None) None
 path_last word f h = fault_in-then (path_in word) f None h ∙ ap (λ o. first_of o None) (fault_in-path word)
 
-faults-send : (count : ℕ) (first second : List ℕ) → fault_in (send_answer first second) ≡ argument_fault count (path_field ∷ bytes_field ∷ []) (first ∷ second ∷ [])
+faults-send : (count : ℕ) (first second : List ℕ) → fault_in (send_answer first second) ≡ argument_fault count (path_field ∷ bytes_field send_limit ∷ []) (first ∷ second ∷ [])
 unfolding send_answer
 faults-send count first second =
     let last : Option WireFault = first_of (if is_none (path_of first) then Some BadPath else None) None in
-    fault_in-then (bytes_of_word second) (λ xs. path_in first >>= send_given xs) last (λ xs. path_last first (send_given xs) (λ _. refl)) ∙ ap (λ o. first_of o last) (fault_in-bytes second)
-    ∙ send_table (is_dash second || is_hex second) (nat_lt 64 (hex_length second)) (is_none (path_of first))
+    fault_in-then (bytes_of_word send_limit second) (λ xs. path_in first >>= send_given xs) last (λ xs. path_last first (send_given xs) (λ _. refl)) ∙ ap (λ o. first_of o last) (fault_in-bytes send_limit second)
+    ∙ send_table (is_dash second || is_hex second) (nat_lt send_limit (hex_length second)) (is_none (path_of first))
 
 faults-receive : (count : ℕ) (first second : List ℕ) → fault_in (receive_answer first second) ≡ argument_fault count (path_field ∷ packets_field ∷ []) (first ∷ second ∷ [])
 unfolding receive_answer
@@ -225,7 +228,7 @@ unfolding with_one
 faults-one Hello count word argument =
     one_form count (bytes_eq word (codes "roots")) (roots_answer argument) (roots_field ∷ []) (argument ∷ []) (faults-roots count argument)
 faults-one Attempt count word argument =
-    two_forms count (bytes_eq word (codes "DATA0")) (bytes_eq word (codes "DATA1")) (data_answer Zero argument) (data_answer One argument) (bytes_field ∷ []) (bytes_field ∷ []) (argument ∷ [])
+    two_forms count (bytes_eq word (codes "DATA0")) (bytes_eq word (codes "DATA1")) (data_answer Zero argument) (data_answer One argument) (bytes_field 64 ∷ []) (bytes_field 64 ∷ []) (argument ∷ [])
     (faults-data count Zero argument) (faults-data count One argument)
 faults-one Port count word argument = refl
 faults-one Wait count word argument =
@@ -243,8 +246,8 @@ faults-three Wait count word first second =
     let receives = bytes_eq word (codes "receive") in
     push_or count (bytes_eq word (codes "port")) (status_change count first second)
     (said_of (if sends then send_answer first second else if receives then receive_answer first second else Err NoAnswer)) (root_field ∷ status_field ∷ [])
-    (if sends then Some (path_field ∷ bytes_field ∷ []) else if receives then Some (path_field ∷ packets_field ∷ []) else None) (first ∷ second ∷ []) (faults-status_change count first second)
-    (two_forms count sends receives (send_answer first second) (receive_answer first second) (path_field ∷ bytes_field ∷ []) (path_field ∷ packets_field ∷ []) (first ∷ second ∷ [])
+    (if sends then Some (path_field ∷ bytes_field send_limit ∷ []) else if receives then Some (path_field ∷ packets_field ∷ []) else None) (first ∷ second ∷ []) (faults-status_change count first second)
+    (two_forms count sends receives (send_answer first second) (receive_answer first second) (path_field ∷ bytes_field send_limit ∷ []) (path_field ∷ packets_field ∷ []) (first ∷ second ∷ [])
     (faults-send count first second) (faults-receive count first second))
 
 -- ---- lines of more words have no form

@@ -283,19 +283,22 @@ counted-count_in word n e =
     let parts = counted_by (is_dash word || is_hex word) (hex_length word) n e in
     record { hex = parts.0; count = parts.1 }
 
-bytes_by : (hex : Bool) (m n : ℕ) (o : Option (List ℕ)) (xs : List ℕ) → hex ≡ true → m ≡ n → nat_lt 64 n ≡ false → o ≡ Some xs
-    → ((if hex then Ok m else Err BadHex) >>= (λ count. if nat_lt 64 count then Err BadLength else ok_or o BadHex)) ≡ Ok xs
-bytes_by true m n o xs h same few is = rw (same, few, is) refl
-bytes_by false m n o xs h same few is = cc
+bytes_by : (most : ℕ) (hex : Bool) (m n : ℕ) (o : Option (List ℕ)) (xs : List ℕ) → hex ≡ true → m ≡ n → nat_lt most n ≡ false → o ≡ Some xs
+    → ((if hex then Ok m else Err BadHex) >>= (λ count. if nat_lt most count then Err BadLength else ok_or o BadHex)) ≡ Ok xs
+bytes_by most true m n o xs h same few is = rw (same, few, is) refl
+bytes_by most false m n o xs h same few is = cc
 
 status_by : (hex : Bool) (m : ℕ) (o : Option (List ℕ)) (xs : List ℕ) → hex ≡ true → m ≡ 4 → o ≡ Some xs
     → ((if hex then Ok m else Err BadHex) >>= (λ count. if count == 4 then ok_or o BadHex else Err BadLength)) ≡ Ok xs
 status_by true m o xs h same is = rw (same, is) refl
 status_by false m o xs h same is = cc
 
-pub bytes_of_word-value : (word : List ℕ) (n : ℕ) (bytes : List ℕ) → Counted word n → n ≤ 64 → hex_value word ≡ Some bytes → bytes_of_word word ≡ Ok bytes
+pub bytes_of_word-value : (most : ℕ) (word : List ℕ) (n : ℕ) (bytes : List ℕ) → Counted word n → n ≤ most
+    → hex_value word ≡ Some bytes → bytes_of_word most word ≡ Ok bytes
 unfolding bytes_of_word count_in
-bytes_of_word-value word n bytes h few e = bytes_by (is_dash word || is_hex word) (hex_length word) n (hex_value word) bytes h.hex h.count (le-ltb 64 n few) e
+bytes_of_word-value most word n bytes h few e =
+    let fits = le-ltb most n few in
+    bytes_by most (is_dash word || is_hex word) (hex_length word) n (hex_value word) bytes h.hex h.count fits e
 
 pub status_of_word-value : (word bytes : List ℕ) → Counted word 4 → hex_value word ≡ Some bytes → status_of_word word ≡ Ok bytes
 unfolding status_of_word count_in
@@ -305,11 +308,11 @@ no_bytes : (bytes : List ℕ) → length bytes ≡ 0 → bytes ≡ []
 no_bytes [] e = refl
 no_bytes (b ∷ bytes) e = absurd (omega arith)
 
-pub bytes_of_word-none : (word : List ℕ) → Counted word 0 → bytes_of_word word ≡ Ok []
-bytes_of_word-none word h =
+pub bytes_of_word-none : (most : ℕ) (word : List ℕ) → Counted word 0 → bytes_of_word most word ≡ Ok []
+bytes_of_word-none most word h =
     let value = value-hex word h.hex in
     let spelled = spelled-value word value.0 value.1 in
-    bytes_of_word-value word 0 [] h (omega arith) (value.1 ∙ ap Some (no_bytes value.0 (sym spelled.count ∙ h.count)))
+    bytes_of_word-value most word 0 [] h (omega arith) (value.1 ∙ ap Some (no_bytes value.0 (sym spelled.count ∙ h.count)))
 
 -- what decoding gives where some bytes are counted
 pub record Decoded (word : List ℕ) (n : ℕ) : Type 0 where

@@ -237,9 +237,9 @@ out_found speed text q e =
     bind_some (cut_at 32 text) _ q e (λ cut found e.
     bind_some (endpoint_in cut.0) _ q e (λ dev first e.
     bind_some (data_behind speed cut.1) _ q e (λ sent second e.
-    bind_some (result_ok (bytes_of_word sent.1)) _ q e (λ xs third is.
+    bind_some (result_ok (bytes_of_word 64 sent.1)) _ q e (λ xs third is.
     let device = device_found cut.0 dev first in
-    let given = data_word sent.1 xs (ok_read (bytes_of_word sent.1) xs third) in
+    let given = data_word 64 sent.1 xs (ok_read (bytes_of_word 64 sent.1) xs third) in
     let asked : Question = Out speed dev (record { toggle = sent.0; bytes = record { items = xs } }) in
     subst (IsAsked _) (same_Some asked q is) (asked_with _ sent.1 asked (device.fits, given.few) given.value
     (spoken speed OutTok dev text cut.0 cut.1 sent.0 sent.1 (cut_at-some 32 text cut found) device.text (data_found speed cut.1 sent second)))))))
@@ -283,7 +283,7 @@ record GivenSetup (t : Toggle) (digits : List ℕ) (setup : SetupData) : Type 0 
   fits : IsSetupData setup
   value : hex_value digits ≡ Some (bytes_of setup)
 
-setup_given : (t : Toggle) (digits xs : List ℕ) (setup : SetupData) → IsDataWord digits xs → setup_by t xs ≡ Some setup → GivenSetup t digits setup
+setup_given : (t : Toggle) (digits xs : List ℕ) (setup : SetupData) → IsDataWord 64 digits xs → setup_by t xs ≡ Some setup → GivenSetup t digits setup
 setup_given One digits xs setup given e = absurd (cc)
 setup_given Zero digits xs setup given e =
     if_found (length xs == 8) (Some (setup_of xs)) None setup e (λ eight is.
@@ -294,7 +294,7 @@ setup_given Zero digits xs setup given e =
 setup_read : (t : Toggle) (digits : List ℕ) (setup : SetupData) → setup_in t digits ≡ Some setup → GivenSetup t digits setup
 unfolding setup_in
 setup_read t digits setup e =
-    bind_some (result_ok (bytes_of_word digits)) _ setup e (λ xs read e. setup_given t digits xs setup (data_word digits xs (ok_read (bytes_of_word digits) xs read)) e)
+    bind_some (result_ok (bytes_of_word 64 digits)) _ setup e (λ xs read e. setup_given t digits xs setup (data_word 64 digits xs (ok_read (bytes_of_word 64 digits) xs read)) e)
 
 setup_again : (s : SetupData) → setup_of (bytes_of s) ≡ s
 unfolding bytes_of setup_of
@@ -448,7 +448,7 @@ fine_blank : Fine 1 (codes " ")
 fine_blank = record { short = lit≤ tt; printable = refl }
 
 fine_number : (n : ℕ) → n ≤ 1000 → Fine 129 (decimal n)
-fine_number n few = fine_word (decimal n) (number_word n few)
+fine_number n few = fine_word (decimal n) (number_word 129 n (omega arith) few)
 
 fine_token : (speed : Speed) (kind : TokenKind) (e : Endpoint) → IsEndpoint e → Fine (9 + (9 + 129 + 1 + 129)) (speed_text speed ++ token_text kind e)
 fine_token speed kind e h =
@@ -464,7 +464,7 @@ fine_sent : (speed : Speed) (kind : TokenKind) (e : Endpoint) (t : Toggle) (digi
 fine_sent speed kind e t digits xs h value few =
     fine-append (277 + 9) (9 + 129) (speed_text speed ++ token_text kind e ++ between_text speed) (data_with t digits)
     (fine-append 277 9 (speed_text speed ++ token_text kind e) (between_text speed) (fine_token speed kind e h) (fine_pre speed))
-    (fine-append 9 129 (data_name t) digits (fine_data t) (fine_word digits (bytes_word digits xs value few)))
+    (fine-append 9 129 (data_name t) digits (fine_data t) (fine_word digits (bytes_word 64 digits xs value few)))
 
 fine_text : (m : ℕ) (line : List ℕ) → m ≤ 1024 → Fine m line → text_of_line line ≡ Ok line
 unfolding text_of_line
@@ -550,7 +550,7 @@ out_read : (speed : Speed) (e : Endpoint) (t : Toggle) (digits xs : List ℕ) �
     → out_question speed (endpoint_text e ++ (between_text speed ++ data_with t digits)) ≡ Some (Out speed e (record { toggle = t; bytes = record { items = xs } }))
 unfolding out_question
 out_read speed e t digits xs h value few =
-    rw (pre_is speed t digits, device_cut e (behind_device speed t digits) h, endpoint_read e h, data_reached_at speed t digits, read_bytes digits xs value few) refl
+    rw (pre_is speed t digits, device_cut e (behind_device speed t digits) h, endpoint_read e h, data_reached_at speed t digits, read_bytes 64 digits xs value few) refl
 
 setup_back : (s : SetupData) → IsSetupData s → setup_by Zero (bytes_of s) ≡ Some s
 setup_back s h = rw (length-bytes_of s) (ap Some (setup_again s))
@@ -560,7 +560,7 @@ setup_read_back : (speed : Speed) (e : Endpoint) (digits : List ℕ) (s : SetupD
 unfolding setup_question setup_in
 setup_read_back speed e digits s h fits value =
     let few : length (bytes_of s) ≤ 64 = let size = length-bytes_of s in omega (arith, size) in
-    rw (pre_is speed Zero digits, device_cut e (behind_device speed Zero digits) h, endpoint_read e h, data_reached_at speed Zero digits, read_bytes digits (bytes_of s) value few, setup_back s fits) refl
+    rw (pre_is speed Zero digits, device_cut e (behind_device speed Zero digits) h, endpoint_read e h, data_reached_at speed Zero digits, read_bytes 64 digits (bytes_of s) value few, setup_back s fits) refl
 
 asked_read : (digits : List ℕ) (q : Question) → IsQuestion q → hex_value digits ≡ Some (question_bytes q) → question_of (question_in_digits digits q) ≡ Some q
 unfolding token_of_words

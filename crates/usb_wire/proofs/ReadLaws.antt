@@ -1,5 +1,5 @@
 -- What may be said and stands in a line is read.
-use Rattle.std.proofs.Common.{◌≡◌, ℕ, ◌+◌, ◌<◌, ◌≤◌, true, List, [], ◌∷◌, ◌++◌, length, get_or, Some, ok_or, Ok, refl, sym, subst, ap, ◌∙◌, arith, append_assoc, codes, decimal, length-append, lit<, lit≤}
+use Rattle.std.proofs.Common.{◌≡◌, ℕ, ◌+◌, ◌*◌, ◌<◌, ◌≤◌, true, List, [], ◌∷◌, ◌++◌, length, get_or, Some, ok_or, Ok, refl, sym, subst, ap, ◌∙◌, arith, append_assoc, codes, decimal, length-append, lit<, lit≤}
 use Rattle.std.proofs.lemmas.Bool.{le-ltb}
 use Rattle.std.proofs.lemmas.Fmt.{length-decimal-le}
 use Rattle.hex.specs.Hex.{IsBytes}
@@ -15,11 +15,11 @@ use Rattle.usb_wire.specs.declared.answer.Said.TheVariants.{Changed, Answered}
 use Rattle.usb_wire.specs.declared.fault.WireFault.TheVariants.{BadNumber, BadPath}
 use Rattle.usb_wire.specs.declared.question.Asked.{Asked}
 use Rattle.usb_wire.specs.declared.question.Asked.TheVariants.{Hello, Attempt, Port, Wait}
-use Rattle.usb_wire.specs.Answers.{MayAnswer, IsSaidLine, MayPush, MaySay, answer_bytes, answer_in_digits, said_bytes, said_line, said_in_digits}
+use Rattle.usb_wire.specs.Answers.{MayAnswer, IsSaidLine, MayPush, MaySay, answer_bytes, answer_in_digits, said_bytes, said_line, said_in_digits, send_limit}
 use Rattle.usb_wire.specs.Fields.{hex_value}
 use Rattle.usb_wire.specs.Reading.{alone, bytes_of_word, clear_answer, data_answer, line_says, number_of_word, path_in, status_change, receive_answer, roots_answer, send_answer, status_of_word, text_of_line, three_say, with_one, with_two, words_say}
 use Rattle.usb_wire.specs.Words.{all_printable, words}
-use Rattle.usb_wire.proofs.FieldLemmas.{all_visible-decimal, all_visible-hex, all_visible-path_text, bytes_of_word-value, hex_value-hex_text, hex_value-length, spelled-value, status_of_word-value, within-decimal}
+use Rattle.usb_wire.proofs.FieldLemmas.{Counted, all_visible-decimal, all_visible-hex, all_visible-path_text, bytes_of_word-value, hex_value-hex_text, hex_value-length, spelled-value, status_of_word-value, within-decimal}
 use Rattle.usb_wire.proofs.WordLemmas.{HasNoSpace-visible, all_printable-append, all_printable-visible, all_visible, words_cut, words_none}
 
 -- ---- single words, each visible and short
@@ -29,24 +29,28 @@ pub record IsWord (most : ℕ) (word : List ℕ) : Type 0 where
   pub visible : all_visible word ≡ true
   pub short : length word ≤ most
 
-pub bytes_word : (word xs : List ℕ) → hex_value word ≡ Some xs → length xs ≤ 64 → IsWord 129 word
-bytes_word word xs e few =
+pub bytes_word : (most : ℕ) (word xs : List ℕ) → hex_value word ≡ Some xs → length xs ≤ most
+    → IsWord (2 * most + 1) word
+bytes_word most word xs e few =
     let spelled = spelled-value word xs e in
     record { visible = all_visible-hex word spelled.hex; short = omega (arith, hex_value-length word xs e) }
 
-pub number_word : (n : ℕ) → n ≤ 1000 → IsWord 129 (decimal n)
-number_word n few =
+pub number_word : (most n : ℕ) → 4 ≤ most → n ≤ 1000 → IsWord most (decimal n)
+number_word most n wide few =
     let short = length-decimal-le 4 n (lit< tt) (omega arith) (omega arith) in
-    record { visible = all_visible-decimal n (omega arith); short = omega (arith, short) }
+    record { visible = all_visible-decimal n (omega arith); short = omega (arith, short, wide) }
 
-path_word : (p : List ℕ) → IsPath p → IsWord 129 (path_text p)
-path_word p h =
-    record { visible = all_visible-path_text p h.2; short = omega (arith, length-path_text p, h.1) }
+path_word : (most : ℕ) (p : List ℕ) → 13 ≤ most → IsPath p → IsWord most (path_text p)
+path_word most p wide h =
+    let short = length-path_text p in
+    record { visible = all_visible-path_text p h.2; short = omega (arith, short, h.1, wide) }
 
-pub read_bytes : (word xs : List ℕ) → hex_value word ≡ Some xs → length xs ≤ 64 → bytes_of_word word ≡ Ok xs
-read_bytes word xs e few =
+pub read_bytes : (most : ℕ) (word xs : List ℕ) → hex_value word ≡ Some xs → length xs ≤ most
+    → bytes_of_word most word ≡ Ok xs
+read_bytes most word xs e few =
     let spelled = spelled-value word xs e in
-    bytes_of_word-value word (length xs) xs (record { hex = spelled.hex; count = spelled.count }) few e
+    let counted : Counted word (length xs) = record { hex = spelled.hex; count = spelled.count } in
+    bytes_of_word-value most word (length xs) xs counted few e
 
 read_status : (word xs : List ℕ) → hex_value word ≡ Some xs → length xs ≡ 4 → status_of_word word ≡ Ok xs
 read_status word xs e four =
@@ -71,11 +75,11 @@ record Reads (asked : Asked) (count : ℕ) (line : List ℕ) (s : Said) : Type 0
 
 -- a first word with a space behind it, which is cut off
 record IsFront (front first : List ℕ) : Type 0 where
-  short : length front ≤ 10
+  short : length front ≤ 8
   printable : all_printable front ≡ true
   cut : (rest : List ℕ) → words (front ++ rest) ≡ first ∷ words rest
 
-read_two : (asked : Asked) (count : ℕ) (front first word : List ℕ) (s : Said) → IsFront front first → IsWord 129 word → words_say asked count (first ∷ word ∷ []) ≡ Ok s → Reads asked count (front ++ word) s
+read_two : (asked : Asked) (count : ℕ) (front first word : List ℕ) (s : Said) → IsFront front first → IsWord 1001 word → words_say asked count (first ∷ word ∷ []) ≡ Ok s → Reads asked count (front ++ word) s
 read_two asked count front first word s f w e =
     let cut : words (front ++ word) ≡ first ∷ word ∷ [] = f.cut word ∙ ap (λ ws. first ∷ ws) (words_none word (HasNoSpace-visible word w.visible)) in
     record {
@@ -84,7 +88,7 @@ read_two asked count front first word s f w e =
       says = ap (words_say asked count) cut ∙ e;
     }
 
-read_three : (asked : Asked) (count : ℕ) (front first word last : List ℕ) (s : Said) → IsFront front first → IsWord 129 word → IsWord 129 last → words_say asked count (first ∷ word ∷ last ∷ []) ≡ Ok s
+read_three : (asked : Asked) (count : ℕ) (front first word last : List ℕ) (s : Said) → IsFront front first → IsWord 13 word → IsWord 1001 last → words_say asked count (first ∷ word ∷ last ∷ []) ≡ Ok s
     → Reads asked count (front ++ word ++ codes " " ++ last) s
 read_three asked count front first word last s f w l e =
     let behind : words (word ++ 32 ∷ last) ≡ word ∷ last ∷ [] =
@@ -121,7 +125,7 @@ push_said Wait count number status digits may low high small e four = rw (read_s
 read_changed : (asked : Asked) (count number : ℕ) (status digits : List ℕ) → MayPush asked → 1 ≤ number → number ≤ count → count < 256 → hex_value digits ≡ Some status → length status ≡ 4
     → Reads asked count (codes "port " ++ decimal number ++ codes " " ++ digits) (Changed number status)
 read_changed asked count number status digits may low high small e four =
-    read_three asked count (codes "port ") (codes "port") (decimal number) digits (Changed number status) port_front (number_word number (omega arith)) (bytes_word digits status e (omega (arith, four)))
+    read_three asked count (codes "port ") (codes "port") (decimal number) digits (Changed number status) port_front (number_word 13 number (omega arith) (omega arith)) (bytes_word 500 digits status e (omega (arith, four)))
     (push_said asked count number status digits may low high small e four)
 
 roots_said : (count n : ℕ) → 1 ≤ n → n ≤ 7 → words_say Hello count (codes "roots" ∷ decimal n ∷ []) ≡ Ok (Answered (Roots n))
@@ -131,17 +135,17 @@ roots_said count n low high = rw (read_number 1 7 n low high (omega arith)) refl
 data_said : (count : ℕ) (toggle : Toggle) (xs digits : List ℕ) → hex_value digits ≡ Some xs → length xs ≤ 64
     → words_say Attempt count (data_word toggle ∷ digits ∷ []) ≡ Ok (Answered (Data (record { toggle = toggle; bytes = record { items = xs } })))
 unfolding words_say with_one data_answer
-data_said count Zero xs digits e few = rw (read_bytes digits xs e few) refl
-data_said count One xs digits e few = rw (read_bytes digits xs e few) refl
+data_said count Zero xs digits e few = rw (read_bytes 64 digits xs e few) refl
+data_said count One xs digits e few = rw (read_bytes 64 digits xs e few) refl
 
 clear_said : (count : ℕ) (p : List ℕ) → IsPath p → words_say Wait count (codes "clear" ∷ path_text p ∷ []) ≡ Ok (Answered (Clear p))
 unfolding words_say with_one clear_answer
 clear_said count p h = rw (read_path p h) refl
 
-send_said : (count : ℕ) (p xs digits : List ℕ) → IsPath p → hex_value digits ≡ Some xs → length xs ≤ 64
+send_said : (count : ℕ) (p xs digits : List ℕ) → IsPath p → hex_value digits ≡ Some xs → length xs ≤ send_limit
     → words_say Wait count (codes "send" ∷ path_text p ∷ digits ∷ []) ≡ Ok (Answered (Send p (record { items = xs })))
 unfolding words_say three_say with_two send_answer
-send_said count p xs digits h e few = rw (read_bytes digits xs e few, read_path p h) refl
+send_said count p xs digits h e few = rw (read_bytes send_limit digits xs e few, read_path p h) refl
 
 receive_said : (count : ℕ) (p : List ℕ) (n : ℕ) → IsPath p → n ≤ 1000 → words_say Wait count (codes "receive" ∷ path_text p ∷ decimal n ∷ []) ≡ Ok (Answered (Receive p n))
 unfolding words_say three_say with_two receive_answer
@@ -158,25 +162,25 @@ read_one asked count line s short printable says = record { short = short; print
 read_answer : (asked : Asked) (count : ℕ) (digits : List ℕ) (a : Answer) → MayAnswer asked a → hex_value digits ≡ Some (answer_bytes a) → Reads asked count (answer_in_digits digits a) (Answered a)
 unfolding words_say alone
 read_answer Hello count digits (Roots n) h e =
-    read_two Hello count (codes "roots ") (codes "roots") (decimal n) (Answered (Roots n)) (record { short = lit≤ tt; printable = refl; cut = λ rest. refl }) (number_word n (omega (arith, h.1))) (roots_said count n h.0 h.1)
+    read_two Hello count (codes "roots ") (codes "roots") (decimal n) (Answered (Roots n)) (record { short = lit≤ tt; printable = refl; cut = λ rest. refl }) (number_word 1001 n (omega arith) (omega (arith, h.1))) (roots_said count n h.0 h.1)
 read_answer Attempt count digits Ack h e = read_one Attempt count (codes "ACK") (Answered Ack) (lit≤ tt) refl refl
 read_answer Attempt count digits Nak h e = read_one Attempt count (codes "NAK") (Answered Nak) (lit≤ tt) refl refl
 read_answer Attempt count digits Stall h e = read_one Attempt count (codes "STALL") (Answered Stall) (lit≤ tt) refl refl
 read_answer Attempt count digits Nothing h e = read_one Attempt count (codes "none") (Answered Nothing) (lit≤ tt) refl refl
 read_answer Attempt count digits (Data sent) h e =
-    read_two Attempt count (data_name sent.toggle) (data_word sent.toggle) digits (Answered (Data sent)) (data_front sent.toggle) (bytes_word digits sent.bytes.items e h.0) (data_said count sent.toggle sent.bytes.items digits e h.0)
+    read_two Attempt count (data_name sent.toggle) (data_word sent.toggle) digits (Answered (Data sent)) (data_front sent.toggle) (bytes_word 500 digits sent.bytes.items e (omega (arith, h.0))) (data_said count sent.toggle sent.bytes.items digits e h.0)
 read_answer Port count digits Done h e = read_one Port count (codes "ok") (Answered Done) (lit≤ tt) refl refl
 read_answer Wait count digits Done h e = read_one Wait count (codes "ok") (Answered Done) (lit≤ tt) refl refl
 read_answer Wait count digits Show h e = read_one Wait count (codes "show") (Answered Show) (lit≤ tt) refl refl
 read_answer Wait count digits End h e = read_one Wait count (codes "end") (Answered End) (lit≤ tt) refl refl
 read_answer Wait count digits (Send p sent) h e =
-    read_three Wait count (codes "send ") (codes "send") (path_text p) digits (Answered (Send p sent)) (record { short = lit≤ tt; printable = refl; cut = λ rest. refl }) (path_word p h.0) (bytes_word digits sent.items e h.1.0)
+    read_three Wait count (codes "send ") (codes "send") (path_text p) digits (Answered (Send p sent)) (record { short = lit≤ tt; printable = refl; cut = λ rest. refl }) (path_word 13 p (omega arith) h.0) (bytes_word 500 digits sent.items e h.1.0)
     (send_said count p sent.items digits h.0 e h.1.0)
 read_answer Wait count digits (Receive p n) h e =
-    read_three Wait count (codes "receive ") (codes "receive") (path_text p) (decimal n) (Answered (Receive p n)) (record { short = lit≤ tt; printable = refl; cut = λ rest. refl }) (path_word p h.0) (number_word n h.1)
+    read_three Wait count (codes "receive ") (codes "receive") (path_text p) (decimal n) (Answered (Receive p n)) (record { short = lit≤ tt; printable = refl; cut = λ rest. refl }) (path_word 13 p (omega arith) h.0) (number_word 1001 n (omega arith) h.1)
     (receive_said count p n h.0 h.1)
 read_answer Wait count digits (Clear p) h e =
-    read_two Wait count (codes "clear ") (codes "clear") (path_text p) (Answered (Clear p)) (record { short = lit≤ tt; printable = refl; cut = λ rest. refl }) (path_word p h) (clear_said count p h)
+    read_two Wait count (codes "clear ") (codes "clear") (path_text p) (Answered (Clear p)) (record { short = lit≤ tt; printable = refl; cut = λ rest. refl }) (path_word 1001 p (omega arith) h) (clear_said count p h)
 read_answer _ count digits _ h e = absurd h
 
 read_line : (asked : Asked) (count : ℕ) (line : List ℕ) (s : Said) → Reads asked count line s → line_says asked count line ≡ Ok s

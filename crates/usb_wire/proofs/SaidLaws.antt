@@ -1,5 +1,5 @@
 -- What is read of a line may be said, and stands there.
-use Rattle.std.proofs.Common.{◌≡◌, ℕ, ◌+◌, ◌^◌, ◌<◌, ◌≤◌, Bool, true, false, ◌&&◌, ◌||◌, ◌==◌, nat_lt, if◌then◌else◌, List, [], ◌∷◌, ◌++◌, length, Option, Some, None, ok_or, Result, Ok, Err, IfOk, refl, sym, subst, ap, ◌∙◌, arith, append_assoc, codes, decimal}
+use Rattle.std.proofs.Common.{◌≡◌, ℕ, ◌^◌, ◌<◌, ◌≤◌, Bool, true, false, ◌&&◌, ◌||◌, ◌==◌, nat_lt, if◌then◌else◌, List, [], ◌∷◌, ◌++◌, length, Option, Some, None, ok_or, Result, Ok, Err, IfOk, refl, sym, subst, ap, ◌∙◌, arith, append_assoc, codes, decimal}
 use Rattle.std.specs.List.{join_with_byte}
 use Rattle.std.specs.Result.{result_unwrap_or}
 use Rattle.std.specs.Str.{bytes_eq}
@@ -19,7 +19,7 @@ use Rattle.usb_wire.specs.declared.question.Asked.{Asked}
 use Rattle.usb_wire.specs.declared.question.Asked.TheVariants.{Hello, Attempt, Port, Wait}
 use Rattle.usb_wire.specs.declared.words.Words.{Words}
 use Rattle.usb_wire.specs.declared.words.Words.TheVariants.{One as OneWord, Two as TwoWords, Three as ThreeWords, More as MoreWords}
-use Rattle.usb_wire.specs.Answers.{MayAnswer, IsData, IsSaidLine, MayPush, MaySay, answer_bytes, answer_in_digits}
+use Rattle.usb_wire.specs.Answers.{AreAtMost, MayAnswer, IsSaidLine, MayPush, MaySay, answer_bytes, answer_in_digits, send_limit}
 use Rattle.usb_wire.specs.Fields.{hex_length, hex_value, is_dash, is_hex, number_within}
 use Rattle.usb_wire.specs.Reading.{◌>>=◌, alone, said_of, bytes_of_word, clear_answer, count_in, data_answer, line_says, may_push, number_of_word, path_in, status_change, receive_answer, roots_answer, send_answer, shape_says, status_of_word, text_of_line, three_say, with_one, with_two, words_say}
 use Rattle.usb_wire.specs.Words.{AreWords, all_printable, words}
@@ -55,33 +55,34 @@ word_is word text h = (bytes_eq-Decides word text).0 h
 
 -- ---- single words
 
-pub record IsDataWord (word xs : List ℕ) : Type 0 where
+pub record IsDataWord (most : ℕ) (word xs : List ℕ) : Type 0 where
   pub value : hex_value word ≡ Some xs
-  pub few : IsData xs
+  pub few : AreAtMost most xs
 
-data_given : (word xs : List ℕ) → hex_value word ≡ Some xs → nat_lt 64 (hex_length word) ≡ false → IsDataWord word xs
-data_given word xs e few =
+data_given : (most : ℕ) (word xs : List ℕ) → hex_value word ≡ Some xs → nat_lt most (hex_length word) ≡ false
+    → IsDataWord most word xs
+data_given most word xs e few =
     let spelled = spelled-value word xs e in
     let count = spelled.count in
-    let most : hex_length word ≤ 64 = ltb-false 64 (hex_length word) few in
-    record { value = e; few = (omega (arith, count, most), spelled.small) }
+    let fits : hex_length word ≤ most = ltb-false most (hex_length word) few in
+    record { value = e; few = (omega (arith, count, fits), spelled.small) }
 
 few_bytes : (b : Bool) (r : Result (List ℕ) WireFault) (xs : List ℕ) → (if b then Err BadLength else r) ≡ Ok xs → (b ≡ false) × (r ≡ Ok xs)
 few_bytes true r xs e = absurd (cc)
 few_bytes false r xs e = (refl, e)
 
-data_counted : (hex : Bool) (n : ℕ) (o : Option (List ℕ)) (xs : List ℕ) → ((if hex then Ok n else Err BadHex) >>= (λ count. if nat_lt 64 count then Err BadLength else ok_or o BadHex)) ≡ Ok xs
-    → (nat_lt 64 n ≡ false) × (o ≡ Some xs)
-data_counted true n o xs e =
-    let parts = few_bytes (nat_lt 64 n) (ok_or o BadHex) xs e in
+data_counted : (most : ℕ) (hex : Bool) (n : ℕ) (o : Option (List ℕ)) (xs : List ℕ) → ((if hex then Ok n else Err BadHex) >>= (λ count. if nat_lt most count then Err BadLength else ok_or o BadHex)) ≡ Ok xs
+    → (nat_lt most n ≡ false) × (o ≡ Some xs)
+data_counted most true n o xs e =
+    let parts = few_bytes (nat_lt most n) (ok_or o BadHex) xs e in
     (parts.0, ok_or_ok o BadHex xs parts.1)
-data_counted false n o xs e = absurd (cc)
+data_counted most false n o xs e = absurd (cc)
 
-pub data_word : (word xs : List ℕ) → bytes_of_word word ≡ Ok xs → IsDataWord word xs
+pub data_word : (most : ℕ) (word xs : List ℕ) → bytes_of_word most word ≡ Ok xs → IsDataWord most word xs
 unfolding bytes_of_word count_in
-data_word word xs e =
-    let parts = data_counted (is_dash word || is_hex word) (hex_length word) (hex_value word) xs e in
-    data_given word xs parts.1 parts.0
+data_word most word xs e =
+    let parts = data_counted most (is_dash word || is_hex word) (hex_length word) (hex_value word) xs e in
+    data_given most word xs parts.1 parts.0
 
 record IsStatusWord (word xs : List ℕ) : Type 0 where
   value : hex_value word ≡ Some xs
@@ -182,13 +183,13 @@ data_first One = codes "DATA1"
 data_says : (count : ℕ) (toggle : Toggle) (word : List ℕ) (a : Answer) → data_answer toggle word ≡ Ok a → Says Attempt count (data_first toggle ∷ word ∷ []) (Answered a)
 unfolding data_answer
 data_says count Zero word a e =
-    bind_ok (bytes_of_word word) _ a e (λ xs read is.
-    let found = data_word word xs read in
+    bind_ok (bytes_of_word 64 word) _ a e (λ xs read is.
+    let found = data_word 64 word xs read in
     subst (λ a. Says Attempt count (codes "DATA0" ∷ word ∷ []) (Answered a)) (same_Ok (Data (record { toggle = Zero; bytes = record { items = xs } })) a is)
     (found.few, record { digits = word; spelled = found.value; written = refl }))
 data_says count One word a e =
-    bind_ok (bytes_of_word word) _ a e (λ xs read is.
-    let found = data_word word xs read in
+    bind_ok (bytes_of_word 64 word) _ a e (λ xs read is.
+    let found = data_word 64 word xs read in
     subst (λ a. Says Attempt count (codes "DATA1" ∷ word ∷ []) (Answered a)) (same_Ok (Data (record { toggle = One; bytes = record { items = xs } })) a is)
     (found.few, record { digits = word; spelled = found.value; written = refl }))
 
@@ -207,9 +208,9 @@ three_text front first second = append_assoc (front ++ first) (codes " ") second
 send_says : (count : ℕ) (first second : List ℕ) (a : Answer) → send_answer first second ≡ Ok a → Says Wait count (codes "send" ∷ first ∷ second ∷ []) (Answered a)
 unfolding send_answer
 send_says count first second a e =
-    bind_ok (bytes_of_word second) _ a e (λ xs read e.
+    bind_ok (bytes_of_word send_limit second) _ a e (λ xs read e.
     bind_ok (path_in first) _ a e (λ p found is.
-    let sent = data_word second xs read in
+    let sent = data_word send_limit second xs read in
     let way = path_word first p found in
     let text : codes "send " ++ path_text p ++ codes " " ++ second ≡ codes "send " ++ (first ++ 32 ∷ second) =
     ap (λ t. codes "send " ++ t ++ codes " " ++ second) way.text ∙ three_text (codes "send ") first second in

@@ -51,9 +51,17 @@ pub record IsSaidLine (line : List ℕ) (said : Said) : Type 0 where
   pub spelled : hex_value digits ≡ Some (said_bytes said)
   pub written : line ≡ said_in_digits digits said
 
--- at most 64 bytes
+-- at most so many bytes
+abbrev pub AreAtMost : ℕ → List ℕ → Type 0
+AreAtMost most bytes = (length bytes ≤ most) × IsBytes bytes
+
+-- the data of a packet
 abbrev pub IsData : List ℕ → Type 0
-IsData bytes = (length bytes ≤ 64) × IsBytes bytes
+IsData bytes = AreAtMost 64 bytes
+
+-- the most bytes of a transfer that is wanted: so many find room in each line that wants one
+abbrev pub send_limit : ℕ
+send_limit = 500
 
 -- what may be answered to each question
 abbrev pub MayAnswer : Asked → Answer → Type 0
@@ -67,7 +75,7 @@ MayAnswer Port Done = Unit {0}
 MayAnswer Wait Done = Unit {0}
 MayAnswer Wait Show = Unit {0}
 MayAnswer Wait End = Unit {0}
-MayAnswer Wait (Send path bytes) = IsPath path × IsData bytes.items
+MayAnswer Wait (Send path bytes) = IsPath path × AreAtMost send_limit bytes.items
 MayAnswer Wait (Receive path packets) = IsPath path × (packets ≤ 1000)
 MayAnswer Wait (Clear path) = IsPath path
 MayAnswer _ _ = ⊥

@@ -6,13 +6,14 @@ use Rattle.usb_wire.specs.declared.question.Asked.{Asked}
 use Rattle.usb_wire.specs.declared.question.Asked.TheVariants.{Hello, Attempt, Port, Wait}
 use Rattle.usb_wire.specs.declared.fault.WireFault.{WireFault}
 use Rattle.usb_wire.specs.declared.fault.WireFault.TheVariants.{LineTooLong, BadCharacter, NoAnswer, BadHex, BadLength, BadNumber, BadPath}
+use Rattle.usb_wire.specs.Answers.{send_limit}
 use Rattle.usb_wire.specs.Fields.{hex_length, is_dash, is_hex, number_within}
 use Rattle.usb_wire.specs.Words.{all_printable, words}
 
--- what a word behind the first one is: bytes, at most 64; the four of a status; how many root ports there are, the
+-- what a word behind the first one is: bytes, at most so many; the four of a status; how many root ports there are, the
 -- number of one, how many packets; a path
 pub data Field : Type 0 where
-  bytes_field : Field
+  bytes_field : ℕ → Field
   status_field : Field
   roots_field : Field
   root_field : Field
@@ -40,8 +41,8 @@ forms Attempt =
     ∷ form (codes "NAK") []
     ∷ form (codes "STALL") []
     ∷ form (codes "none") []
-    ∷ form (codes "DATA0") (bytes_field ∷ [])
-    ∷ form (codes "DATA1") (bytes_field ∷ [])
+    ∷ form (codes "DATA0") (bytes_field 64 ∷ [])
+    ∷ form (codes "DATA1") (bytes_field 64 ∷ [])
     ∷ []
 forms Port = push ∷ form (codes "ok") [] ∷ []
 forms Wait =
@@ -50,7 +51,7 @@ forms Wait =
     ∷ form (codes "show") []
     ∷ form (codes "end") []
     ∷ form (codes "clear") (path_field ∷ [])
-    ∷ form (codes "send") (path_field ∷ bytes_field ∷ [])
+    ∷ form (codes "send") (path_field ∷ bytes_field send_limit ∷ [])
     ∷ form (codes "receive") (path_field ∷ packets_field ∷ [])
     ∷ []
 
@@ -64,13 +65,13 @@ fields_in (f ∷ fs) word arguments = if form_fits word arguments f then Some f.
 
 -- neither pairs of digits, of either case, nor a dash
 abbrev pub is_bad_hex : Field → List ℕ → Bool
-is_bad_hex bytes_field word = not (is_dash word || is_hex word)
+is_bad_hex (bytes_field most) word = not (is_dash word || is_hex word)
 is_bad_hex status_field word = not (is_dash word || is_hex word)
 is_bad_hex _ word = false
 
--- over 64 bytes, or not the four of a status
+-- too many bytes, or not the four of a status
 abbrev pub is_bad_length : Field → List ℕ → Bool
-is_bad_length bytes_field word = nat_lt 64 (hex_length word)
+is_bad_length (bytes_field most) word = nat_lt most (hex_length word)
 is_bad_length status_field word = not (hex_length word == 4)
 is_bad_length _ word = false
 

@@ -62,7 +62,7 @@ setup_by One bytes = None
 
 unfoldable pub setup_in : Toggle → List ℕ → Option SetupData
 setup_in toggle digits = do
-  bytes ← result_ok (bytes_of_word digits)
+  bytes ← result_ok (bytes_of_word 64 digits)
   setup_by toggle bytes
 
 unfoldable pub setup_question : Speed → List ℕ → Option Question
@@ -78,7 +78,7 @@ out_question speed text = do
   cut ← cut_at 32 text
   endpoint ← endpoint_in cut.0
   sent ← data_behind speed cut.1
-  bytes ← result_ok (bytes_of_word sent.1)
+  bytes ← result_ok (bytes_of_word 64 sent.1)
   Some (Out speed endpoint (record { toggle = sent.0; bytes = record { items = bytes } }))
 
 unfoldable pub in_question : Speed → List ℕ → Option Question

@@ -14,6 +14,7 @@ use Rattle.usb_wire.specs.declared.question.Asked.{Asked}
 use Rattle.usb_wire.specs.declared.question.Asked.TheVariants.{Hello, Attempt, Port, Wait}
 use Rattle.usb_wire.specs.declared.words.Words.{Words}
 use Rattle.usb_wire.specs.declared.words.Words.TheVariants.{One, Two, Three, More}
+use Rattle.usb_wire.specs.Answers.{send_limit}
 use Rattle.usb_wire.specs.Fields.{hex_length, hex_value, is_dash, is_hex, number_within}
 use Rattle.usb_wire.specs.Words.{all_printable, words}
 
@@ -36,10 +37,10 @@ result_map view (Err e) = Err e
 unfoldable pub count_in : List ℕ → Result ℕ WireFault
 count_in word = if is_dash word || is_hex word then Ok (hex_length word) else Err BadHex
 
-unfoldable pub bytes_of_word : List ℕ → Result (List ℕ) WireFault
-bytes_of_word word = do
+unfoldable pub bytes_of_word : ℕ → List ℕ → Result (List ℕ) WireFault
+bytes_of_word most word = do
   count ← count_in word
-  if nat_lt 64 count then Err BadLength else ok_or (hex_value word) BadHex
+  if nat_lt most count then Err BadLength else ok_or (hex_value word) BadHex
 
 unfoldable pub status_of_word : List ℕ → Result (List ℕ) WireFault
 status_of_word word = do
@@ -75,7 +76,7 @@ roots_answer word = do
 
 unfoldable pub data_answer : Toggle → List ℕ → Result Answer WireFault
 data_answer toggle word = do
-  bytes ← bytes_of_word word
+  bytes ← bytes_of_word 64 word
   Ok (Data (record { toggle = toggle; bytes = record { items = bytes } }))
 
 unfoldable pub clear_answer : List ℕ → Result Answer WireFault
@@ -95,7 +96,7 @@ with_one Wait word argument = if bytes_eq word (codes "clear") then clear_answer
 
 unfoldable pub send_answer : List ℕ → List ℕ → Result Answer WireFault
 send_answer first second = do
-  bytes ← bytes_of_word second
+  bytes ← bytes_of_word send_limit second
   path ← path_in first
   Ok (Send path (record { items = bytes }))
 

@@ -1,5 +1,5 @@
 //! What the far end says, and its lines.
-ghost use Rattle.std.specs.Prelude.{◌≡◌, ◌∷◌, ◌++◌, ◌+◌, ◌<◌, ◌≤◌, [], length};
+ghost use Rattle.std.specs.Prelude.{◌≡◌, ◌∷◌, ◌++◌, ◌+◌, ◌*◌, ◌<◌, ◌≤◌, [], decimal, length};
 ghost use Rattle.hex.specs.Hex.{encode_upper};
 ghost use Rattle.usb_packet.specs.Text.{hex_text};
 ghost use Rattle.usb_port.specs.Path.{path_text};
@@ -9,6 +9,9 @@ use crate::question::{DataPacket, push_data};
 use arrayvec::{ArrayString, ArrayVec};
 use usb_packet::{hex_digits, push_decimal};
 use usb_port::PortPath;
+
+/// The most bytes of a transfer that is wanted: so many find room in each line that wants one.
+pub const SEND_LIMIT: usize = 500;
 
 /// The answer to a question.
 #[derive(Debug, Drop)]
@@ -35,8 +38,8 @@ pub enum Answer {
     Send {
         /// The port.
         path: PortPath,
-        /// 0 to 64 bytes.
-        bytes: ArrayVec<u8, 64>,
+        /// 0 to 500 bytes.
+        bytes: ArrayVec<u8, SEND_LIMIT>,
     },
     /// What is wanted: to receive from the bulk endpoint of the device at a port (5.8).
     Receive {
@@ -64,14 +67,14 @@ pub enum Said {
 }
 
 /// The line of what is said, without the newline.
-pub fn said_line(said: &Said) -> ArrayString<700>
+pub fn said_line(said: &Said) -> ArrayString<1024>
     ensures { result.bytes ≡ said_line said.now }
 {
     let mut line = ArrayString::new();
     match said {
         Said::Changed { number, status } => {
             line.push_str("port ");
-            push_decimal(&mut line, u64::from(*number));
+            push_number(&mut line, u64::from(*number));
             line.push(' ');
             push_bytes(&mut line, status);
         }
@@ -80,16 +83,20 @@ pub fn said_line(said: &Said) -> ArrayString<700>
     line
 }
 
-fn push_answer(line: &mut ArrayString<700>, answer: &Answer)
+fn push_answer(line: &mut ArrayString<1024>, answer: &Answer)
     requires { line.old.bytes ≡ [] }
     ensures { line.new.bytes ≡ said_line (Said.Answered answer.now) }
 {
     match answer {
         Answer::Roots(roots) => {
             line.push_str("roots ");
-            push_decimal(line, u64::from(*roots));
+            push_number(line, u64::from(*roots));
         }
-        Answer::Data(sent) => push_data(line, sent.toggle, sent.bytes.as_slice()),
+        Answer::Data(sent) => {
+            let mut data = ArrayString::new();
+            push_data(&mut data, sent.toggle, sent.bytes.as_slice());
+            line.push_str(data.as_str());
+        }
         Answer::Send { path, bytes } => {
             push_path(line, "send ", path);
             line.push(' ');
@@ -98,7 +105,7 @@ fn push_answer(line: &mut ArrayString<700>, answer: &Answer)
         Answer::Receive { path, packets } => {
             push_path(line, "receive ", path);
             line.push(' ');
-            push_decimal(line, u64::from(*packets));
+            push_number(line, u64::from(*packets));
         }
         Answer::Clear(path) => push_path(line, "clear ", path),
         Answer::Ack => line.push_str("ACK"),
@@ -111,21 +118,31 @@ fn push_answer(line: &mut ArrayString<700>, answer: &Answer)
     }
 }
 
+/// A number in decimal digits.
+fn push_number(line: &mut ArrayString<1024>, number: u64)
+    requires { length line.old.bytes ≤ 8 + 13 + 1 }
+    ensures text { line.new.bytes ≡ line.old.bytes ++ decimal number }
+    ensures few { length line.new.bytes ≤ length line.old.bytes + 700 }
+{
+    let mut digits = ArrayString::new();
+    push_decimal(&mut digits, number);
+    line.push_str(digits.as_str());
+}
+
 /// A word and a path.
-fn push_path(line: &mut ArrayString<700>, word: &str, path: &PortPath)
-    requires room { length line.old.bytes ≤ 600 }
-    requires short { length word.now ≤ 20 }
-    ensures text { line.new.bytes ≡ line.old.bytes ++ word.now ++ path_text path.now }
-    ensures few { length line.new.bytes ≤ length line.old.bytes + 33 }
+fn push_path(line: &mut ArrayString<1024>, word: &str, path: &PortPath)
+    requires empty { line.old.bytes ≡ [] }
+    requires short { length word.now ≤ 8 }
+    ensures text { line.new.bytes ≡ word.now ++ path_text path.now }
+    ensures few { length line.new.bytes ≤ length word.now + 13 }
 {
     line.push_str(word);
     line.push_str(path.text().as_str());
 }
 
 /// Bytes in upper-case hexadecimal digits, a dash where there are none.
-fn push_bytes(line: &mut ArrayString<700>, bytes: &[u8])
-    requires room { length line.old.bytes ≤ 500 }
-    requires few { length bytes.now ≤ 64 }
+fn push_bytes(line: &mut ArrayString<1024>, bytes: &[u8])
+    requires { length line.old.bytes + 2 * length bytes.now < 1024 }
     ensures { line.new.bytes ≡ line.old.bytes ++ hex_text bytes.now }
 {
     if bytes.is_empty() {
@@ -136,9 +153,8 @@ fn push_bytes(line: &mut ArrayString<700>, bytes: &[u8])
 }
 
 /// Bytes in upper-case hexadecimal digits.
-fn push_digits(line: &mut ArrayString<700>, bytes: &[u8])
-    requires room { length line.old.bytes ≤ 500 }
-    requires few { length bytes.now ≤ 64 }
+fn push_digits(line: &mut ArrayString<1024>, bytes: &[u8])
+    requires { length line.old.bytes + 2 * length bytes.now < 1024 }
     ensures { line.new.bytes ≡ line.old.bytes ++ encode_upper bytes.now }
 {
     'bytes: for byte in bytes {
@@ -147,8 +163,8 @@ fn push_digits(line: &mut ArrayString<700>, bytes: &[u8])
 }
 
 /// The two hexadecimal digits of a byte.
-fn push_byte(line: &mut ArrayString<700>, byte: u8)
-    requires { length line.old.bytes ≤ 698 }
+fn push_byte(line: &mut ArrayString<1024>, byte: u8)
+    requires { length line.old.bytes ≤ 1022 }
     ensures { line.new.bytes ≡ line.old.bytes ++ encode_upper (byte ∷ []) }
 {
     let [high, low] = hex_digits(byte);
@@ -156,8 +172,8 @@ fn push_byte(line: &mut ArrayString<700>, byte: u8)
     push_ascii(line, low);
 }
 
-fn push_ascii(line: &mut ArrayString<700>, byte: u8)
-    requires room { length line.old.bytes < 700 }
+fn push_ascii(line: &mut ArrayString<1024>, byte: u8)
+    requires room { length line.old.bytes < 1024 }
     requires ascii { byte < 128 }
     ensures { line.new.bytes ≡ line.old.bytes ++ byte ∷ [] }
 {

@@ -195,7 +195,7 @@ fn toggle_named(word: &str) -> Option<Toggle>
 fn setup_in(toggle: Toggle, digits: &str) -> Option<Setup>
     ensures { result ≡ setup_in toggle digits.now }
 {
-    let bytes = bytes_of_word(digits).ok()?;
+    let bytes = bytes_of_word::<64>(digits).ok()?;
     match toggle {
         Toggle::Zero => setup_by(bytes.as_slice()),
         Toggle::One => None,

@@ -16,7 +16,7 @@ pub enum WireFault {
     /// Where bytes stand is neither pairs of hexadecimal digits nor a dash.
     #[error("bad hex")]
     BadHex,
-    /// There are more than 64 bytes of data, or not 4 of a status.
+    /// There are more than 64 bytes of data, more than 500 to send, or not 4 of a status.
     #[error("bad length")]
     BadLength,
     /// Where a number stands is none, or one that is out of its range.

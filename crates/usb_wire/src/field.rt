@@ -11,19 +11,19 @@ use arrayvec::ArrayVec;
 use hex::FromHex;
 use usb_port::PortPath;
 
-/// At most 64 bytes.
+/// At most so many bytes.
 #[tactic(auto, unfolding(crate::specs::Reading::bytes_of_word))]
-pub(crate) fn bytes_of_word(word: &str) -> Result<ArrayVec<u8, 64>, WireFault>
-    ensures { bytes_of_word word.now ≡ result_map (λ b. b.items) result }
+pub(crate) fn bytes_of_word<const MOST: usize>(word: &str) -> Result<ArrayVec<u8, MOST>, WireFault>
+    ensures { bytes_of_word MOST word.now ≡ result_map (λ b. b.items) result }
 {
     let count = count_in(word)?;
-    if count > 64 {
+    if count > MOST {
         return Err(WireFault::BadLength);
     }
     if count == 0 {
         return Ok(ArrayVec::new());
     }
-    let mut decoded = [0; 64];
+    let mut decoded = [0; MOST];
     if !decode_into(word, count, &mut decoded) {
         return Err(WireFault::BadHex);
     }
@@ -39,9 +39,9 @@ fn decode_into(word: &str, count: usize, decoded: &mut [u8]) -> bool
     hex::decode_to_slice(word.as_bytes(), &mut decoded[..count]).is_ok()
 }
 
-/// At most 64 bytes as they are.
-pub(crate) fn few_bytes(bytes: &[u8]) -> ArrayVec<u8, 64>
-    requires { length bytes.now ≤ 64 }
+/// At most so many bytes as they are.
+pub(crate) fn few_bytes<const MOST: usize>(bytes: &[u8]) -> ArrayVec<u8, MOST>
+    requires { length bytes.now ≤ MOST }
     ensures { result.items ≡ bytes.now }
 {
     let mut few = ArrayVec::new();

@@ -14,8 +14,9 @@
 //! | what is wanted | `wait` | `ok`, `show`, `end`, `send ` PATH ` ` BYTES, `receive ` PATH ` ` COUNT, `clear ` PATH |
 //!
 //! LOW is `low ` at low speed at a root port, and `PRE ` below a hub (8.6.5); PRE is `PRE ` where LOW is. DEVICE is an
-//! address and an endpoint, as `1.0`. DATA is `DATA0 ` or `DATA1 ` with BYTES, at most 64 of them. BYTES is HEX, pairs
-//! of digits, which are written in upper case and read in either, or `-` for none. An attempt is answered by `ACK`,
+//! address and an endpoint, as `1.0`. DATA is `DATA0 ` or `DATA1 ` with BYTES, at most 64 of them; `send` has at
+//! most 500 (`SEND_LIMIT`). BYTES is HEX, pairs of digits, which are written in upper case and read in either, or `-`
+//! for none. An attempt is answered by `ACK`,
 //! `NAK`, `STALL`, `none` or DATA. Before an answer but the hello's the far end may push the status of root ports:
 //! `port ` N ` ` HEX, 4 bytes (11.24.2.7).
 //!
@@ -40,7 +41,7 @@ mod question;
 mod reading;
 mod words;
 
-pub use answer::{Answer, Said, said_line};
+pub use answer::{Answer, SEND_LIMIT, Said, said_line};
 pub use asking::read_question;
 pub use fault::WireFault;
 pub use laws::lines_are_read_back;

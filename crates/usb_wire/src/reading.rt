@@ -25,7 +25,7 @@ const LINE_LIMIT: usize = 1024;
 /// - BadCharacter where a byte is no printable ASCII,
 /// - NoAnswer where no answer to the question, and no status of a root port, has that first word and so many words,
 /// - BadHex where a word that stands for bytes is neither pairs of digits nor a dash,
-/// - BadLength where that is more than 64 bytes of data, or not 4 of a status,
+/// - BadLength where that is more than 64 bytes of data, more than 500 to send, or not 4 of a status,
 /// - BadNumber where a word that stands for a number is none, or one out of its range,
 /// - BadPath where a word that stands for a path is none.
 pub fn read_said(asked: Asked, roots: u8, line: &[u8]) -> Result<Said, WireFault>

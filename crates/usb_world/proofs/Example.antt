@@ -15,7 +15,8 @@ use Rattle.usb_request.specs.Layout.{setup_of}
 use Rattle.usb_port.specs.PortState.{status_of}
 use Rattle.usb_world.specs.declared.damage.Harm.{Harm}
 use Rattle.usb_world.specs.declared.damage.Harm.TheVariants.{Lose, Flip}
-use Rattle.usb_world.specs.declared.event.Action.TheVariants.{Plug}
+use Rattle.usb_world.specs.declared.event.Action.TheVariants.{Change}
+use Rattle.usb_world.specs.declared.event.Change.TheVariants.{Plug}
 use Rattle.usb_world.specs.declared.types.Attempt.{Attempt}
 use Rattle.usb_world.specs.declared.types.Outcome.TheVariants as got
 use Rattle.usb_world.specs.Wire.{damage_of, harm_to, mark_of, bit_count, marked, marked_some, is_read}
@@ -34,7 +35,7 @@ abbrev start : Harm → World
 start harm = record {
   roots = vacant (record { attached = Rattle.usb_port.specs.PortState.nothing; power = false; enable = false; connection_changed = false; enable_changed = false; reset_changed = false }) ended;
   devices = thing ∷ [];
-  left = record { after = 0; action = Plug (1 ∷ []) 0 } ∷ [];
+  left = record { after = 0; action = Change (Plug (1 ∷ []) 0) } ∷ [];
   taken = 0;
   attempts = 0;
   attempts_then = 0;

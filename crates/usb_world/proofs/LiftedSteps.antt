@@ -5,7 +5,8 @@ use Rattle.usb_port.specs.Calls.{is_clearing}
 use Rattle.usb_device.specs.Spec.{Spec}
 use Rattle.usb_device.specs.Tree.{Ports, called, replaced, changed}
 use Rattle.usb_world.specs.declared.event.Action.{Action}
-use Rattle.usb_world.specs.declared.event.Action.TheVariants.{Plug, Unplug}
+use Rattle.usb_world.specs.declared.event.Action.TheVariants.{Change, Ask}
+use Rattle.usb_world.specs.declared.event.Change.TheVariants.{Plug, Unplug}
 use Rattle.usb_world.specs.declared.event.Event.{Event}
 use Rattle.usb_world.specs.declared.types.Attempt.{Attempt}
 use Rattle.usb_world.specs.declared.types.BusFault.{BusFault}
@@ -58,13 +59,13 @@ pub happened_by : (P : Ports → Bool → Type 0) (a : Action) (devices : List S
     (p : List ℕ)
     → P k false → ((o : Option Spec) (x : List ℕ) → P (changed (replaced o) k x) (way_of x p))
     → P (happened a devices k) (names_path devices a p)
-happened_by P (Plug x device) devices k p same there = plugged (slice_get devices device)
+happened_by P (Change (Plug x device)) devices k p same there = plugged (slice_get devices device)
   where
     plugged : (o : Option Spec) → P (with_plugged o x k) (is_some o && way_of x p)
     plugged None = same
     plugged (Some spec) = there (Some spec) x
-happened_by P (Unplug x) devices k p same there = there None x
-happened_by P _ devices k p same there = same
+happened_by P (Change (Unplug x)) devices k p same there = there None x
+happened_by P (Ask ask) devices k p same there = same
 
 module _ {R : World → World → Type 0} (l : OverEvents R) where
   pub over_first : (events : List Event) (w : World) → w.left ≡ events → R w (took_first events w)

@@ -5,8 +5,8 @@ use Rattle.usb_device.specs.Spec.{Spec}
 use Rattle.usb_device.specs.Tree.{Ports, ended, vacant, taken, Place, empty, full, before, port_of}
 use Rattle.usb_device.specs.Tree.{replaced, changed, changed_at, reach, reach_at}
 use Rattle.usb_world.specs.declared.event.Action.{Action}
-use Rattle.usb_world.specs.declared.event.Action.TheVariants.{Plug, Unplug, Show, Send, Receive}
-use Rattle.usb_world.specs.declared.event.Action.TheVariants.{Clear}
+use Rattle.usb_world.specs.declared.event.Action.TheVariants.{Change, Ask}
+use Rattle.usb_world.specs.declared.event.Change.TheVariants.{Plug, Unplug}
 use Rattle.usb_world.specs.Steps.{with_plugged, happened, way_of, names_path}
 use Rattle.usb_world.specs.Paths.{live, live_at, pend, pend_at, is_way, on_way}
 use Rattle.usb_world.proofs.Booleans.{both, decided, and_kept, and_false, or_kept, or_right, no}
@@ -116,12 +116,9 @@ plugged_way (Some s) k x p = replaced_way (Some s) k x p
 
 pub happened_way : (a : Action) (d : List Spec) (k : Ports) (p : List ℕ)
     → EventWay k (happened a d k) p (names_path d a p)
-happened_way (Plug x i) d k p = plugged_way (slice_get d i) k x p
-happened_way (Unplug x) d k p = replaced_way None k x p
-happened_way Show d k p = no_event k p
-happened_way (Send x b) d k p = no_event k p
-happened_way (Receive x n) d k p = no_event k p
-happened_way (Clear x) d k p = no_event k p
+happened_way (Change (Plug x i)) d k p = plugged_way (slice_get d i) k x p
+happened_way (Change (Unplug x)) d k p = replaced_way None k x p
+happened_way (Ask ask) d k p = no_event k p
 
 -- an event that is not on the way leaves it as it was
 plugged_there : (o : Option Spec) (k : Ports) (x p : List ℕ)
@@ -131,9 +128,6 @@ plugged_there (Some s) k x p h = changed_there (replaced (Some s)) k x p h
 
 pub happened_there : (a : Action) (d : List Spec) (k : Ports) (p : List ℕ)
     → names_path d a p ≡ false → SameThere k (happened a d k) p
-happened_there (Plug x i) d k p h = plugged_there (slice_get d i) k x p h
-happened_there (Unplug x) d k p h = changed_there (replaced None) k x p h
-happened_there Show d k p h = (refl, refl, refl)
-happened_there (Send x b) d k p h = (refl, refl, refl)
-happened_there (Receive x n) d k p h = (refl, refl, refl)
-happened_there (Clear x) d k p h = (refl, refl, refl)
+happened_there (Change (Plug x i)) d k p h = plugged_there (slice_get d i) k x p h
+happened_there (Change (Unplug x)) d k p h = changed_there (replaced None) k x p h
+happened_there (Ask ask) d k p h = (refl, refl, refl)

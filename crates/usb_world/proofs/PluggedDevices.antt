@@ -8,7 +8,8 @@ use Rattle.usb_device.specs.Spec.{Spec}
 use Rattle.usb_device.specs.Tree.{Ports, called, replaced, changed}
 use Rattle.usb_device.specs.View.{state_there}
 use Rattle.usb_world.specs.declared.event.Action.{Action}
-use Rattle.usb_world.specs.declared.event.Action.TheVariants.{Plug, Unplug, Show, Send, Receive, Clear}
+use Rattle.usb_world.specs.declared.event.Action.TheVariants.{Change, Ask}
+use Rattle.usb_world.specs.declared.event.Change.TheVariants.{Plug, Unplug}
 use Rattle.usb_world.specs.declared.event.Event.{Event}
 use Rattle.usb_world.specs.PlanLimits.{after_most}
 use Rattle.usb_world.specs.PlanData.{PlanData, IsPlan, is_taken, action_fits, event_fits, events_fit}
@@ -16,7 +17,7 @@ use Rattle.usb_world.specs.PluggedDevices.{PluggedMap, plugged_by, plugged_after
 use Rattle.usb_world.specs.PlanCourses.{FollowsPlan, AtPorts, PlugsAtPort, spec_of}
 use Rattle.usb_world.specs.World.{World}
 use Rattle.usb_world.specs.Courses.{NoneNames, Undisturbed}
-use Rattle.usb_world.specs.Steps.{names_path, way_of, happened, with_plugged, took, ready, damage_in, with_attempt, after, AnyStep, Course, opening}
+use Rattle.usb_world.specs.Steps.{names_path, way_of, happened, with_plugged, took, ready, damage_in, with_attempt, AnyStep, Course, opening}
 use Rattle.usb_world.specs.Exchange.{ports_in}
 use Rattle.usb_world.specs.Paths.{is_way}
 use Rattle.usb_world.proofs.Booleans.{no, both}
@@ -109,32 +110,29 @@ free_of tree e h = split (index_at tree e) h
     split None h = refl
     split (Some d) h = no h
 
-standing_plug : (ds : List Spec) (n : ℕ) (k : Ports) (tree : PluggedMap) (e : List ℕ) (d : ℕ) → action_fits n ds tree (Plug e d) ≡ true → PlugsAtPort (Plug e d) → Standing ds n (shape k) tree
-    → Standing ds n (shape (happened (Plug e d) ds k)) (plugged_after (Plug e d) tree)
+standing_plug : (ds : List Spec) (n : ℕ) (k : Ports) (tree : PluggedMap) (e : List ℕ) (d : ℕ) → action_fits n ds tree (Change (Plug e d)) ≡ true → PlugsAtPort (Change (Plug e d)) → Standing ds n (shape k) tree
+    → Standing ds n (shape (happened (Change (Plug e d)) ds k)) (plugged_after (Change (Plug e d)) tree)
 standing_plug ds n k tree e d h is s =
     let parts = both (has_port n ds tree e && not (is_taken tree e)) (nat_lt d (length ds)) h in
     let place = both (has_port n ds tree e) (not (is_taken tree e)) parts.0 in
     split (slice_get ds d) refl (ltb-true d (length ds) parts.1) (port_stands ds (shape k) n tree e s.fits s.agrees is place.0) (free_of tree e place.1)
   where
-    split : (o : Option Spec) → slice_get ds d ≡ o → d < length ds → has_there (shape k) e ≡ true → index_at tree e ≡ None → Standing ds n (shape (with_plugged o e k)) (plugged_after (Plug e d) tree)
+    split : (o : Option Spec) → slice_get ds d ≡ o → d < length ds → has_there (shape k) e ≡ true → index_at tree e ≡ None → Standing ds n (shape (with_plugged o e k)) (plugged_after (Change (Plug e d)) tree)
     split None g l p f = ⊎_elim (λ y. no (ap is_some (sym g ∙ y.2))) (λ y. absurd (omega (arith, l, y.0))) (slice_get_cases ds d).1
     split (Some t) g l p f =
         let same : shape (changed (replaced (Some t)) k e) ≡ put_there (Some t) (shape k) e = shape_event (Some t) k e in
         rw same (record { fits = fits_there (Some t) (shape k) n e s.fits; agrees = agrees_plug ds (shape k) tree e d t g p f s.agrees })
 
-standing_unplug : (ds : List Spec) (n : ℕ) (k : Ports) (tree : PluggedMap) (e : List ℕ) → action_fits n ds tree (Unplug e) ≡ true → Standing ds n (shape k) tree
-    → Standing ds n (shape (happened (Unplug e) ds k)) (plugged_after (Unplug e) tree)
+standing_unplug : (ds : List Spec) (n : ℕ) (k : Ports) (tree : PluggedMap) (e : List ℕ) → action_fits n ds tree (Change (Unplug e)) ≡ true → Standing ds n (shape k) tree
+    → Standing ds n (shape (happened (Change (Unplug e)) ds k)) (plugged_after (Change (Unplug e)) tree)
 standing_unplug ds n k tree e h s =
     let same : shape (changed (replaced None) k e) ≡ put_there None (shape k) e = shape_event None k e in
     rw same (record { fits = fits_there None (shape k) n e s.fits; agrees = agrees_unplug ds (shape k) tree e (both (is_rooted n e) (is_taken tree e) h).1 s.agrees })
 
 standing_next : (a : Action) (ds : List Spec) (n : ℕ) (k : Ports) (tree : PluggedMap) → action_fits n ds tree a ≡ true → PlugsAtPort a → Standing ds n (shape k) tree → Standing ds n (shape (happened a ds k)) (plugged_after a tree)
-standing_next (Plug e d) ds n k tree h is s = standing_plug ds n k tree e d h is s
-standing_next (Unplug e) ds n k tree h is s = standing_unplug ds n k tree e h s
-standing_next Show ds n k tree h is s = s
-standing_next (Send e bytes) ds n k tree h is s = s
-standing_next (Receive e packets) ds n k tree h is s = s
-standing_next (Clear e) ds n k tree h is s = s
+standing_next (Change (Plug e d)) ds n k tree h is s = standing_plug ds n k tree e d h is s
+standing_next (Change (Unplug e)) ds n k tree h is s = standing_unplug ds n k tree e h s
+standing_next (Ask ask) ds n k tree h is s = s
 
 -- what stands is what the events that came left, and those that are left may come
 record Left (plan : PlanData) (past : List Event) (w : World) : Type 0 where

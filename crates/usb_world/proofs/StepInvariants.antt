@@ -11,7 +11,8 @@ use Rattle.usb_device.specs.Tree.{Ports, ended, vacant, taken, Place, empty, ful
 use Rattle.usb_device.specs.Delivery.{all_forgotten}
 use Rattle.usb_world.specs.declared.damage.Damage.{Damage}
 use Rattle.usb_world.specs.declared.event.Action.{Action}
-use Rattle.usb_world.specs.declared.event.Action.TheVariants.{Plug, Unplug, Show, Send, Receive, Clear}
+use Rattle.usb_world.specs.declared.event.Action.TheVariants.{Change, Ask}
+use Rattle.usb_world.specs.declared.event.Change.TheVariants.{Plug, Unplug}
 use Rattle.usb_world.specs.declared.types.Attempt.{Attempt}
 use Rattle.std.proofs.lemmas.List.Elements.{All-head, All-tail}
 use Rattle.std.specs.Prelude.{Option, None, Some, slice_get, All, ⊤}
@@ -146,12 +147,9 @@ the_ruled (s ∷ ds) zero r = All-head IsSpec s ds r
 the_ruled (s ∷ ds) (suc d) r = the_ruled ds d (All-tail IsSpec s ds r)
 
 pub sane_happened : (a : Action) (ds : List Spec) → All IsSpec ds → (k : Ports) → IsSane k → IsSane (happened a ds k)
-sane_happened (Plug p d) ds r k h = sane_with (slice_get ds d) (the_ruled ds d r) p k h
-sane_happened (Unplug p) ds r k h = sane_path (replaced None) (sane_replaced None tt) k p h
-sane_happened Show ds r k h = h
-sane_happened (Send p bytes) ds r k h = h
-sane_happened (Receive p packets) ds r k h = h
-sane_happened (Clear p) ds r k h = h
+sane_happened (Change (Plug p d)) ds r k h = sane_with (slice_get ds d) (the_ruled ds d r) p k h
+sane_happened (Change (Unplug p)) ds r k h = sane_path (replaced None) (sane_replaced None tt) k p h
+sane_happened (Ask ask) ds r k h = h
 
 pub sane_called_at : (c : PortCall) (k : Ports) (p : List ℕ) → IsSane k → IsSane (changed (called c) k p)
 sane_called_at c k p h = sane_path (called c) (sane_called c) k p h

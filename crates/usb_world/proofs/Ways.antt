@@ -11,8 +11,8 @@ use Rattle.usb_port.proofs.Interface.{below, rejoined}
 use Rattle.usb_device.specs.Spec.{Spec}
 use Rattle.usb_device.specs.Tree.{Ports, ended, vacant, taken, reach, reach_at}
 use Rattle.usb_world.specs.declared.event.Action.{Action}
-use Rattle.usb_world.specs.declared.event.Action.TheVariants.{Plug, Unplug, Show, Send, Receive}
-use Rattle.usb_world.specs.declared.event.Action.TheVariants.{Clear}
+use Rattle.usb_world.specs.declared.event.Action.TheVariants.{Change, Ask}
+use Rattle.usb_world.specs.declared.event.Change.TheVariants.{Plug, Unplug}
 use Rattle.usb_world.specs.declared.event.Event.{Event}
 use Rattle.usb_world.specs.Courses.{NoneNames, Undisturbed}
 use Rattle.usb_world.specs.Paths.{is_way, same_path, same_number}
@@ -144,12 +144,9 @@ plugs_above true c d f h = f h
 plugs_above false c d f h = refl
 
 names_above : (d : List Spec) (a : Action) (x p : List ℕ) → is_way x p ≡ true → names_path d a p ≡ false → names_path d a x ≡ false
-names_above d (Plug e i) x p on h = plugs_above (is_some (slice_get d i)) (way_of e x) (way_of e p) (way_of_above e x p on) h
-names_above d (Unplug e) x p on h = way_of_above e x p on h
-names_above d Show x p on h = refl
-names_above d (Send e bytes) x p on h = refl
-names_above d (Receive e packets) x p on h = refl
-names_above d (Clear e) x p on h = refl
+names_above d (Change (Plug e i)) x p on h = plugs_above (is_some (slice_get d i)) (way_of e x) (way_of e p) (way_of_above e x p on) h
+names_above d (Change (Unplug e)) x p on h = way_of_above e x p on h
+names_above d (Ask ask) x p on h = refl
 
 none_above : (d : List Spec) (events : List Event) (x p : List ℕ) → is_way x p ≡ true → NoneNames d events p → NoneNames d events x
 none_above d [] x p on h = tt

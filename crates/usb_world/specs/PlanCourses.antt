@@ -5,7 +5,8 @@ use Rattle.usb_device.specs.Spec.{Spec}
 use Rattle.usb_device.specs.Rows.{State}
 use Rattle.usb_world.specs.declared.event.Event.{Event}
 use Rattle.usb_world.specs.declared.event.Action.{Action}
-use Rattle.usb_world.specs.declared.event.Action.TheVariants.{Plug, Unplug, Show, Send, Receive, Clear}
+use Rattle.usb_world.specs.declared.event.Action.TheVariants.{Change, Ask}
+use Rattle.usb_world.specs.declared.event.Change.TheVariants.{Plug, Unplug}
 use Rattle.usb_world.specs.PlanData.{PlanData}
 use Rattle.usb_world.specs.World.{World}
 
@@ -21,12 +22,9 @@ pub record FollowsPlan (plan : PlanData) (w : World) : Type 0 where
 
 -- a plug is at the path of a port, which is not empty and has no number 0
 abbrev pub PlugsAtPort : Action → Type 0
-PlugsAtPort (Plug path device) = IsPath path
-PlugsAtPort (Unplug path) = ⊤
-PlugsAtPort Show = ⊤
-PlugsAtPort (Send path bytes) = ⊤
-PlugsAtPort (Receive path packets) = ⊤
-PlugsAtPort (Clear path) = ⊤
+PlugsAtPort (Change (Plug path device)) = IsPath path
+PlugsAtPort (Change (Unplug path)) = ⊤
+PlugsAtPort (Ask ask) = ⊤
 
 abbrev pub AtPorts : List Event → Type 0
 AtPorts events = All (λ e. PlugsAtPort e.action) events

@@ -3,7 +3,10 @@ use Rattle.std.specs.Prelude.{◌≡◌, ◌≤◌, ℕ, List, [], ◌∷◌, le
 use Rattle.usb_device.specs.Spec.{Spec, AreDevices}
 use Rattle.usb_world.specs.declared.event.Event.{Event}
 use Rattle.usb_world.specs.declared.event.Action.{Action}
-use Rattle.usb_world.specs.declared.event.Action.TheVariants.{Plug, Unplug, Show, Send, Receive, Clear}
+use Rattle.usb_world.specs.declared.event.Action.TheVariants.{Change, Ask}
+use Rattle.usb_world.specs.declared.event.Change.TheVariants.{Plug, Unplug}
+use Rattle.usb_world.specs.declared.event.Ask.{Ask as Asked}
+use Rattle.usb_world.specs.declared.event.Ask.TheVariants.{Show, Send, Receive, Clear}
 use Rattle.usb_world.specs.declared.damage.Damage.{Damage}
 use Rattle.usb_world.specs.declared.damage.Harm.{Harm}
 use Rattle.usb_world.specs.declared.damage.Harm.TheVariants.{Lose, LosePre, Flip}
@@ -14,14 +17,18 @@ use Rattle.usb_world.specs.PluggedDevices.{PluggedMap, index_at, plugged_after, 
 abbrev pub is_taken : PluggedMap → List ℕ → Bool
 is_taken tree path = is_some (index_at tree path)
 
+-- what may be asked: of a device, below a root port
+abbrev pub ask_fits : ℕ → Asked → Bool
+ask_fits roots Show = true
+ask_fits roots (Send path bytes) = is_rooted roots path
+ask_fits roots (Receive path packets) = is_rooted roots path && nat_le packets 1000
+ask_fits roots (Clear path) = is_rooted roots path
+
 -- the action may come where so much is plugged
 abbrev pub action_fits : ℕ → List Spec → PluggedMap → Action → Bool
-action_fits roots devices tree (Plug path device) = has_port roots devices tree path && not (is_taken tree path) && nat_lt device (length devices)
-action_fits roots devices tree (Unplug path) = is_rooted roots path && is_taken tree path
-action_fits roots devices tree Show = true
-action_fits roots devices tree (Send path bytes) = is_rooted roots path
-action_fits roots devices tree (Receive path packets) = is_rooted roots path && nat_le packets 1000
-action_fits roots devices tree (Clear path) = is_rooted roots path
+action_fits roots devices tree (Change (Plug path device)) = has_port roots devices tree path && not (is_taken tree path) && nat_lt device (length devices)
+action_fits roots devices tree (Change (Unplug path)) = is_rooted roots path && is_taken tree path
+action_fits roots devices tree (Ask ask) = ask_fits roots ask
 
 abbrev pub event_fits : ℕ → List Spec → PluggedMap → Event → Bool
 event_fits roots devices tree e = nat_le e.after after_most && action_fits roots devices tree e.action
@@ -66,12 +73,9 @@ pub record IsPlan (p : PlanData) : Type 0 where
 
 -- the action plugs one of so many devices, where it plugs one
 abbrev pub can_be_done : ℕ → Action → Bool
-can_be_done devices (Plug path device) = nat_lt device devices
-can_be_done devices (Unplug path) = true
-can_be_done devices Show = true
-can_be_done devices (Send path bytes) = true
-can_be_done devices (Receive path packets) = true
-can_be_done devices (Clear path) = true
+can_be_done devices (Change (Plug path device)) = nat_lt device devices
+can_be_done devices (Change (Unplug path)) = true
+can_be_done devices (Ask ask) = true
 
 abbrev pub can_come : ℕ → Event → Bool
 can_come devices e = can_be_done devices e.action

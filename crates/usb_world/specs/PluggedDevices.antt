@@ -8,7 +8,8 @@ use Rattle.usb_port.specs.Order.{path_cmp, parent_of, port_on_hub}
 use Rattle.usb_device.specs.Spec.{Spec, Hub}
 use Rattle.usb_world.specs.declared.event.Event.{Event}
 use Rattle.usb_world.specs.declared.event.Action.{Action}
-use Rattle.usb_world.specs.declared.event.Action.TheVariants.{Plug, Unplug, Show, Send, Receive, Clear}
+use Rattle.usb_world.specs.declared.event.Action.TheVariants.{Change, Ask}
+use Rattle.usb_world.specs.declared.event.Change.TheVariants.{Plug, Unplug}
 
 -- a finite map: each path where a device is plugged, with the device's index, in the order of paths
 abbrev pub PluggedMap : Type 0
@@ -23,12 +24,9 @@ unfoldable pub plugged_without : List ℕ → PluggedMap → PluggedMap
 plugged_without path tree = filter (λ place. not (starts_with nat_eq place.0 path)) tree
 
 abbrev pub plugged_after : Action → PluggedMap → PluggedMap
-plugged_after (Plug path device) tree = insert_entry path_cmp tree path device
-plugged_after (Unplug path) tree = plugged_without path tree
-plugged_after Show tree = tree
-plugged_after (Send path bytes) tree = tree
-plugged_after (Receive path packets) tree = tree
-plugged_after (Clear path) tree = tree
+plugged_after (Change (Plug path device)) tree = insert_entry path_cmp tree path device
+plugged_after (Change (Unplug path)) tree = plugged_without path tree
+plugged_after (Ask ask) tree = tree
 
 -- what is plugged where after the events, where it was so before them
 unfoldable pub plugged_by : PluggedMap → List Event → PluggedMap

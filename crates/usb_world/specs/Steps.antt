@@ -8,11 +8,11 @@ use Rattle.usb_device.specs.Tree.{Ports, new_ports, called, replaced, changed}
 use Rattle.usb_device.specs.Delivery.{held, is_twice, all_forgotten}
 use Rattle.usb_device.specs.StoppedPackets.{Stopped}
 use Rattle.usb_world.specs.declared.damage.Damage.{Damage}
-use Rattle.usb_world.specs.declared.event.Due.{Due}
-use Rattle.usb_world.specs.declared.event.Due.TheVariants as due
+use Rattle.usb_world.specs.declared.event.Ask.{Ask as Asked}
 use Rattle.usb_world.specs.declared.event.Event.{Event}
 use Rattle.usb_world.specs.declared.event.Action.{Action}
-use Rattle.usb_world.specs.declared.event.Action.TheVariants.{Plug, Unplug, Show, Send, Receive, Clear}
+use Rattle.usb_world.specs.declared.event.Action.TheVariants.{Change, Ask}
+use Rattle.usb_world.specs.declared.event.Change.TheVariants.{Plug, Unplug}
 use Rattle.usb_world.specs.declared.exchange.Exchange.{Exchange}
 use Rattle.usb_world.specs.declared.types.Attempt.{Attempt}
 use Rattle.usb_world.specs.declared.types.Outcome.{Outcome}
@@ -36,12 +36,9 @@ with_plugged (Some spec) path k = changed (replaced (Some spec)) k path
 
 -- what an action does to what is plugged
 abbrev pub happened : Action → List Spec → Ports → Ports
-happened (Plug path device) devices k = with_plugged (slice_get devices device) path k
-happened (Unplug path) devices k = changed (replaced None) k path
-happened Show devices k = k
-happened (Send path bytes) devices k = k
-happened (Receive path packets) devices k = k
-happened (Clear path) devices k = k
+happened (Change (Plug path device)) devices k = with_plugged (slice_get devices device) path k
+happened (Change (Unplug path)) devices k = changed (replaced None) k path
+happened (Ask ask) devices k = k
 
 -- whether a path is another's, or that of a port on its way
 abbrev pub way_of : List ℕ → List ℕ → Bool
@@ -50,30 +47,19 @@ way_of (m ∷ x) p = is_way (m ∷ x) p
 
 -- whether an action plugs or unplugs at a path, or at a port on its way
 abbrev pub names_path : List Spec → Action → List ℕ → Bool
-names_path devices (Plug path device) p = is_some (slice_get devices device) && way_of path p
-names_path devices (Unplug path) p = way_of path p
-names_path devices Show p = false
-names_path devices (Send path bytes) p = false
-names_path devices (Receive path packets) p = false
-names_path devices (Clear path) p = false
+names_path devices (Change (Plug path device)) p = is_some (slice_get devices device) && way_of path p
+names_path devices (Change (Unplug path)) p = way_of path p
+names_path devices (Ask ask) p = false
 
--- what an action asks of the host
-unfoldable pub due_of : Action → Due
-due_of (Plug path device) = due.Changed
-due_of (Unplug path) = due.Changed
-due_of Show = due.Show
-due_of (Send path bytes) = due.Send path bytes
-due_of (Receive path packets) = due.Receive path packets
-due_of (Clear path) = due.Clear path
+-- what an action asks of whoever drives the host
+unfoldable pub ask_of : Action → Option Asked
+ask_of (Change change) = None
+ask_of (Ask ask) = Some ask
 
--- an action of the host waits until nothing is left to do; what is plugged and unplugged does not wait
+-- what is asked waits until the host has nothing left to do; a change does not wait
 abbrev pub waits : Action → Bool
-waits (Plug path device) = false
-waits (Unplug path) = false
-waits Show = true
-waits (Send path bytes) = true
-waits (Receive path packets) = true
-waits (Clear path) = true
+waits (Change change) = false
+waits (Ask ask) = true
 
 -- the event comes, and these are the events after it
 unfoldable pub took : Event → List Event → World → World
@@ -237,13 +223,13 @@ pub record NoneLeft (old new : World) : Type 0 where
   pub none : to_come old ≡ 0
   pub same : new ≡ old
 
-abbrev pub EventEnds : World → Result (Option Due) BusFault → World → Type 0
+abbrev pub EventEnds : World → Result (Option (Option Asked)) BusFault → World → Type 0
 EventEnds old (Ok None) new = NoneLeft old new
-EventEnds old (Ok (Some due)) new = EventCame old new
+EventEnds old (Ok (Some asked)) new = EventCame old new
 EventEnds old (Err fault) new = Failed fault new
 
 -- an event step: no attempt is made
-pub record TookEvent (old : World) (result : Result (Option Due) BusFault) (new : World) : Type 0 where
+pub record TookEvent (old : World) (result : Result (Option (Option Asked)) BusFault) (new : World) : Type 0 where
   pub spends : Spends 0 old new
   pub ends : EventEnds old result new
   pub again : (fault : BusFault) → old.fault ≡ Some fault → (result ≡ Err fault) × (new ≡ old)

@@ -1,7 +1,7 @@
 //! The events of a plan.
 ghost use Rattle.std.specs.Prelude.{◌≡◌, IfOk};
 ghost use Rattle.usb_world.specs.PlanCourses.{PlugsAtPort};
-ghost use Rattle.usb_world.specs.Steps.{waits, due_of};
+ghost use Rattle.usb_world.specs.Steps.{waits, ask_of};
 
 use std::alloc::{AllocError, Global};
 use std::marker::Model;
@@ -50,29 +50,19 @@ impl SentBytes {
     }
 }
 
-/// What an event does.
+/// What an event does to what is plugged.
 #[derive(Debug, Drop)]
-pub enum Action {
+pub enum Change {
     /// Plugs a device, by its index among the plan's devices, at a port.
     Plug(PortPath, usize),
     /// Unplugs the device at a port, and with it all that is plugged below it.
     Unplug(PortPath),
-    /// Has the host list what it found.
-    Show,
-    /// Sends bytes to the bulk endpoint of the device at a port (5.8).
-    Send(PortPath, SentBytes),
-    /// Receives at most so many packets, 0 to 1,000, from the bulk endpoint of the device at a port (5.8).
-    Receive(PortPath, u16),
-    /// Clears the halts of the bulk endpoints of the device at a port (9.4.1).
-    Clear(PortPath),
 }
 
-/// What an event asks of the host.
+/// What an event asks of whoever drives the host.
 #[derive(Debug, Drop)]
-pub enum Due {
-    /// Nothing: a device was plugged or unplugged.
-    Changed,
-    /// To list what it found.
+pub enum Ask {
+    /// To list what the host found.
     Show,
     /// To send these bytes to the bulk endpoint of the device at a port (5.8).
     Send(PortPath, SentBytes),
@@ -82,20 +72,13 @@ pub enum Due {
     Clear(PortPath),
 }
 
-impl From<Action> for Due {
-    ghost from_gives = { λ action due. due ≡ due_of action };
-
-    #[tactic(auto, unfolding(crate::specs::Steps::due_of))]
-    fn from(action: Action) -> Due {
-        match action {
-            Action::Plug(_, _) => Due::Changed,
-            Action::Unplug(_) => Due::Changed,
-            Action::Show => Due::Show,
-            Action::Send(path, bytes) => Due::Send(path, bytes),
-            Action::Receive(path, packets) => Due::Receive(path, packets),
-            Action::Clear(path) => Due::Clear(path),
-        }
-    }
+/// What an event does.
+#[derive(Debug, Drop)]
+pub enum Action {
+    /// Changes what is plugged.
+    Change(Change),
+    /// Asks something, and changes nothing.
+    Ask(Ask),
 }
 
 impl Action {
@@ -104,12 +87,19 @@ impl Action {
         ensures { result ≡ waits self.now }
     {
         match self {
-            Action::Plug(_, _) => false,
-            Action::Unplug(_) => false,
-            Action::Show => true,
-            Action::Send(_, _) => true,
-            Action::Receive(_, _) => true,
-            Action::Clear(_) => true,
+            Action::Change(_) => false,
+            Action::Ask(_) => true,
+        }
+    }
+
+    /// What it asks, where it asks.
+    #[tactic(auto, unfolding(crate::specs::Steps::ask_of))]
+    pub fn into_ask(self) -> Option<Ask>
+        ensures { result ≡ ask_of self }
+    {
+        match self {
+            Action::Change(_) => None,
+            Action::Ask(ask) => Some(ask),
         }
     }
 }
@@ -185,14 +175,10 @@ fn plugs_at_port(action: &Action)
     ensures { PlugsAtPort action.now }
 {
     match action {
-        Action::Plug(path, _) => {
+        Action::Change(Change::Plug(path, _)) => {
             path.numbers();
         }
-        Action::Unplug(_)
-        | Action::Show
-        | Action::Send(_, _)
-        | Action::Receive(_, _)
-        | Action::Clear(_) => {}
+        Action::Change(Change::Unplug(_)) | Action::Ask(_) => {}
     }
 }
 
@@ -224,11 +210,27 @@ fn action_copy(alloc: Global, action: &Action) -> Result<Action, AllocError>
     ensures { IfOk result (λ a. a ≡ action.now) }
 {
     Ok(match action {
-        Action::Plug(path, device) => Action::Plug(path.duplicate(), *device),
-        Action::Unplug(path) => Action::Unplug(path.duplicate()),
-        Action::Show => Action::Show,
-        Action::Send(path, bytes) => Action::Send(path.duplicate(), bytes.try_clone(alloc)?),
-        Action::Receive(path, packets) => Action::Receive(path.duplicate(), *packets),
-        Action::Clear(path) => Action::Clear(path.duplicate()),
+        Action::Change(change) => Action::Change(change_copy(change)),
+        Action::Ask(ask) => Action::Ask(ask_copy(alloc, ask)?),
+    })
+}
+
+fn change_copy(change: &Change) -> Change
+    ensures { result ≡ change.now }
+{
+    match change {
+        Change::Plug(path, device) => Change::Plug(path.duplicate(), *device),
+        Change::Unplug(path) => Change::Unplug(path.duplicate()),
+    }
+}
+
+fn ask_copy(alloc: Global, ask: &Ask) -> Result<Ask, AllocError>
+    ensures { IfOk result (λ a. a ≡ ask.now) }
+{
+    Ok(match ask {
+        Ask::Show => Ask::Show,
+        Ask::Send(path, bytes) => Ask::Send(path.duplicate(), bytes.try_clone(alloc)?),
+        Ask::Receive(path, packets) => Ask::Receive(path.duplicate(), *packets),
+        Ask::Clear(path) => Ask::Clear(path.duplicate()),
     })
 }

@@ -6,8 +6,6 @@ ghost use Rattle.usb_device.specs.Tree.{row_of, changed, called};
 ghost use Rattle.usb_port.specs.Calls.{IsSetFeature, IsClearFeature};
 ghost use Rattle.usb_world.specs.World.{Attempted, IsAttempt, IsRootPort};
 ghost use Rattle.usb_world.specs.Steps.{AttemptFails, SetsRoot, ClearsRoot, after, root_call};
-ghost use Rattle.usb_world.specs.AttemptPackets.{IsSettled};
-ghost use Rattle.usb_world.specs.SanePorts.{IsSane};
 ghost use Rattle.usb_bus.specs.Traces.{Attempts};
 ghost use Rattle.usb_world.specs.declared.types.BusFault.TheVariants.{TraceFailed};
 
@@ -31,8 +29,6 @@ impl<T: Trace> Bus for SimBus<T> {
         requires { IsAttempt attempt.now }
         ensures attempts { Attempts attempt.now (world_of self.old) (trace_of self.old) result
             (world_of self.new) (trace_of self.new) }
-        ensures settled { IsSettled (world_of self.old).roots }
-        ensures sane { (world_of self.old).fault ≡ None → IsSane (world_of self.old).roots }
         ensures trace { result ≡ Err TraceFailed → (world_of self.old).fault ≡ None
             → T.failed (tracer_of self.new) ≡ true }
         ensures refuses { RefusesAttempt attempt.now self.old result self.new }
@@ -69,6 +65,11 @@ impl<T: Trace> Bus for SimBus<T> {
             self.call_root(port, call);
         }
     }
+
+    ghost settled = { λ known bus. bus.settled };
+
+    ghost between = { λ known bus working.
+        record { settled = bus.settled; sane = bus.sane working; ruled = bus.ruled } };
 }
 
 impl<T: Trace> SimBus<T> {

@@ -14,7 +14,7 @@ ghost use Rattle.usb_world.specs.declared.types.BusFault.TheVariants.{Memory, Tr
 use super::SimBus;
 use super::descriptions::Descriptions;
 use crate::shown::ShownName;
-use crate::{Action, BusFault, Due, Trace, WriteFailed};
+use crate::{Action, Ask, BusFault, Change, Trace, WriteFailed};
 use std::alloc::{AllocError, Global};
 use std::rc::Rc;
 use usb_device::{Device, DeviceSpec, Holders, Ports};
@@ -24,14 +24,14 @@ impl<T: Trace> SimBus<T> {
     ghost use Rattle.usb_bus.specs.Sim.{world_of, tracer_of, trace_of};
     ghost use Rattle.usb_bus.specs.Parts.{OneEventCame, EventsCame};
 
-    /// Lets the next event come at once, however many attempts it would wait for, and tells what it asks; None
-    /// where no event is left.
+    /// Lets the next event come at once, however many attempts it would wait for, and tells what it asks, where it
+    /// asks; None where no event is left.
     ///
     /// # Errors
     ///
     /// The fault that was told before; `Memory` where the device could not be made, and the event did not
     /// come; `TraceFailed` where the writer failed in this call, and the event came.
-    pub fn apply_next_event(&mut self) -> Result<Option<Due>, BusFault>
+    pub fn apply_next_event(&mut self) -> Result<Option<Option<Ask>>, BusFault>
         ensures takes { TakesEvent (world_of self.old) (trace_of self.old) result
             (world_of self.new) (trace_of self.new) }
         ensures trace { result ≡ Err TraceFailed → (world_of self.old).fault ≡ None
@@ -74,7 +74,7 @@ impl<T: Trace> SimBus<T> {
     }
 
     /// The next event comes, if one is left.
-    fn take_event(&mut self) -> Result<Option<Due>, BusFault>
+    fn take_event(&mut self) -> Result<Option<Option<Ask>>, BusFault>
         requires sound { (world_of self.old).fault ≡ None }
         ensures came { OneEventCame (world_of self.old) (trace_of self.old) result
             (world_of self.new) (trace_of self.new) }
@@ -101,7 +101,7 @@ impl<T: Trace> SimBus<T> {
         self.fault = Some(BusFault::TraceFailed);
         put_action(&mut self.tracer, &self.names, &event.action)?;
         self.fault = None;
-        Ok(Some(Due::from(event.action)))
+        Ok(Some(event.action.into_ask()))
     }
 }
 
@@ -124,12 +124,11 @@ fn carry_out(
     ensures index { IsIndexOf holders.new roots.new }
 {
     match action {
-        Action::Plug(path, device) => plug(alloc, roots, holders, path, devices.at(*device))?,
-        Action::Unplug(path) => unplug(roots, holders, path),
-        Action::Show => {}
-        Action::Send(_, _) => {}
-        Action::Receive(_, _) => {}
-        Action::Clear(_) => {}
+        Action::Change(Change::Plug(path, device)) => {
+            plug(alloc, roots, holders, path, devices.at(*device))?
+        }
+        Action::Change(Change::Unplug(path)) => unplug(roots, holders, path),
+        Action::Ask(_) => {}
     }
     Ok(())
 }
@@ -183,12 +182,9 @@ fn put_action<T: Trace>(
         (event_line action.now names.now) }
 {
     match action {
-        Action::Plug(path, device) => put_plug(tracer, path, &names[*device]),
-        Action::Unplug(path) => put_unplug(tracer, path),
-        Action::Show => Ok(()),
-        Action::Send(_, _) => Ok(()),
-        Action::Receive(_, _) => Ok(()),
-        Action::Clear(_) => Ok(()),
+        Action::Change(Change::Plug(path, device)) => put_plug(tracer, path, &names[*device]),
+        Action::Change(Change::Unplug(path)) => put_unplug(tracer, path),
+        Action::Ask(_) => Ok(()),
     }
 }
 

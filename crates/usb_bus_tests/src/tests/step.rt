@@ -2,7 +2,7 @@
 
 use arrayvec::ArrayVec;
 use std::alloc::{AllocError, Global};
-use usb_bus::{Attempt, Bus, BusFault, Due, Outcome, SimBus, Trace};
+use usb_bus::{Ask, Attempt, Bus, BusFault, Outcome, SimBus, Trace};
 use usb_packet::{Toggle, TokenKind};
 use usb_port::PortPath;
 
@@ -234,25 +234,28 @@ fn line_told(alloc: Global, ended: Result<(), BusFault>) -> Result<String, Alloc
 }
 
 /// What an event asks of the host.
-fn event_told(alloc: Global, ended: Result<Option<Due>, BusFault>) -> Result<String, AllocError> {
+fn event_told(
+    alloc: Global,
+    ended: Result<Option<Option<Ask>>, BusFault>,
+) -> Result<String, AllocError> {
     match ended {
         Ok(None) => String::from_str(alloc, "no event"),
-        Ok(Some(due)) => due_told(alloc, &due),
+        Ok(Some(None)) => String::from_str(alloc, "changed"),
+        Ok(Some(Some(ask))) => ask_told(alloc, &ask),
         Err(fault) => fault.to_string(alloc),
     }
 }
 
-fn due_told(alloc: Global, due: &Due) -> Result<String, AllocError> {
-    match due {
-        Due::Changed => String::from_str(alloc, "changed"),
-        Due::Show => String::from_str(alloc, "show"),
-        Due::Send(path, bytes) => {
+fn ask_told(alloc: Global, ask: &Ask) -> Result<String, AllocError> {
+    match ask {
+        Ask::Show => String::from_str(alloc, "show"),
+        Ask::Send(path, bytes) => {
             format!(in alloc; "send {:?} to {:?}", bytes.as_slice(), path.numbers())
         }
-        Due::Receive(path, packets) => {
+        Ask::Receive(path, packets) => {
             format!(in alloc; "receive {packets} from {:?}", path.numbers())
         }
-        Due::Clear(path) => format!(in alloc; "clear {:?}", path.numbers()),
+        Ask::Clear(path) => format!(in alloc; "clear {:?}", path.numbers()),
     }
 }
 

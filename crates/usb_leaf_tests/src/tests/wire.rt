@@ -406,6 +406,32 @@ fn long_lines(rt: HostRuntime) {
     }
 }
 
+/// How many bytes are to be sent, and the fault that is told of the line.
+const SENDS: &[(usize, Option<WireFault>)] = &[
+    (64, None),
+    (65, None),
+    (500, None),
+    (501, Some(WireFault::BadLength)),
+    (502, Some(WireFault::BadLength)),
+];
+
+/// The longest line that wants a transfer has 1,023 bytes.
+#[test]
+fn transfers_that_are_wanted(rt: HostRuntime) {
+    for (count, fault) in SENDS {
+        let mut line = ArrayString::<1023>::new();
+        line.push_str("send 1.2.3.4.5.6.7 ");
+        for _ in 0..*count {
+            let _ = line.write_str("5A");
+        }
+        let said = read_said(Asked::Wait, 3, line.as_str().as_bytes());
+        match (said, fault) {
+            (Ok(said), None) => assert_eq!(rt; said_line(&said).as_str(), line.as_str()),
+            (said, fault) => assert_eq!(rt; said.err(), *fault),
+        }
+    }
+}
+
 /// Each fault with its words.
 const WORDS: &[(WireFault, &str)] = &[
     (WireFault::LineTooLong, "line too long"),

@@ -259,4 +259,8 @@ impl<B: Bus> Bus for QuirkBus<B> {
             self.bus.root_clear(port, feature);
         }
     }
+
+    ghost settled = { λ known quirk. Prim.cc known };
+
+    ghost between = { λ known quirk working. Prim.cc known };
 }

@@ -3,23 +3,30 @@ use Rattle.usb_enum.proofs.Fairness.{stops_wider}
 use Rattle.usb_enum.proofs.Warrants.{none_free, unaddressed_early}
 use Rattle.std.proofs.Common.{inl, inr, refl}
 use Rattle.usb_enum.proofs.PlainStops.{plain_without}
-use Rattle.usb_enum.proofs.Reasons.{told_without}
 use Rattle.usb_enum.proofs.enumeration.without_address.Goals as goal
 
-pub returns-in-Ok-clause-why : goal.returns-in-Ok-clause-why
-returns-in-Ok-clause-why g c known = none_free _ _ _ _ (c.in-Ok.ensures.device known 0)
+pub returns-in-Ok-clause-without : goal.returns-in-Ok-clause-without
+returns-in-Ok-clause-without g c = inl refl
 
-pub returns-in-Err-clause-why : goal.returns-in-Err-clause-why
-returns-in-Err-clause-why g c known = stops_wider early_fault unaddressed_fault _ 0 _ _ _ unaddressed_early (c.in-Err.ensures.device known 0)
+pub returns-in-Ok-clause-steps : goal.returns-in-Ok-clause-steps
+returns-in-Ok-clause-steps g c known = (c.in-Ok.ensures.part known 0).steps
 
-pub returns-in-Ok-clause-because : goal.returns-in-Ok-clause-because
-returns-in-Ok-clause-because g c known = inl refl
+pub returns-in-Ok-clause-stops : goal.returns-in-Ok-clause-stops
+returns-in-Ok-clause-stops g c known = record {
+  told = inl refl;
+  so = none_free _ _ _ _ (c.in-Ok.ensures.part known 0).ends;
+}
 
-pub returns-in-Err-clause-because : goal.returns-in-Err-clause-because
-returns-in-Err-clause-because g c known = inr (c.in-Err.ensures.told known 0)
+pub returns-in-Err-clause-without : goal.returns-in-Err-clause-without
+returns-in-Err-clause-without g c = plain_without c.in-Err.stop c.in-Err.ensures.target
 
-pub returns-in-Ok-clause-told : goal.returns-in-Ok-clause-told
-returns-in-Ok-clause-told g c = (inl refl, λ known. inl refl)
+pub returns-in-Err-clause-steps : goal.returns-in-Err-clause-steps
+returns-in-Err-clause-steps g c known = (c.in-Err.ensures.part known 0).steps
 
-pub returns-in-Err-clause-told : goal.returns-in-Err-clause-told
-returns-in-Err-clause-told g c = (plain_without c.in-Err.stop c.in-Err.ensures.target, λ known. told_without c.in-Err.stop c.args.port 0 (g.B.Bus.world c.args.bus.now) (g.B.Bus.world c.unaddressed.new.bus) (c.in-Err.ensures.told known 0))
+pub returns-in-Err-clause-stops : goal.returns-in-Err-clause-stops
+returns-in-Err-clause-stops g c known =
+    let early = (c.in-Err.ensures.part known 0).ends in
+    record {
+      told = inr early.told;
+      so = stops_wider early_fault unaddressed_fault _ 0 _ _ _ unaddressed_early early.so;
+    }

@@ -1,15 +1,18 @@
 use Rattle.std.proofs.Common.{◌≡◌, ◌⊎◌, ◌*◌, true}
-use Rattle.usb_bus.specs.Traces.{Went}
 use Rattle.usb_enum.specs.Addresses.{AtPort}
 use Rattle.usb_enum.specs.Bounds.{pass_bound}
 use Rattle.usb_enum.specs.FairEnumerations.{Misses}
+use Rattle.usb_enum.specs.Parts.{Steps}
 use Rattle.usb_enum.specs.Reasons.{NoAnswerTold}
 use Rattle.usb_enum.proofs.passes.passes.Given as goal
 
 abbrev pub invariant-loop-pass : goal.invariant-loop-pass
 invariant-loop-pass g l = record {
-  went : g.B.Bus.modelled ≡ true → Went g.B.Bus.world g.B.Bus.trace (l._pass * pass_bound l.port) l.initial.bus l.bus;
-  within : g.B.Bus.modelled ≡ true → AtPort l.port l.address (g.B.Bus.world l.initial.bus) (g.B.Bus.world l.bus);
-  silent : g.B.Bus.modelled ≡ true → (l._pass ≡ 0) ⊎ NoAnswerTold l.port l.address (g.B.Bus.world l.initial.bus) (g.B.Bus.world l.bus);
-  missed : g.B.Bus.modelled ≡ true → Misses l.port l.address l._pass (g.B.Bus.world l.initial.bus) (g.B.Bus.world l.bus);
+  steps : g.B.Bus.modelled ≡ true → Steps (AtPort l.port l.address) (l._pass * pass_bound l.port)
+      (g.B.Bus.world l.initial.bus) (g.B.Bus.trace l.initial.bus)
+      (g.B.Bus.world l.bus) (g.B.Bus.trace l.bus);
+  silent : g.B.Bus.modelled ≡ true → (l._pass ≡ 0)
+      ⊎ NoAnswerTold l.port l.address (g.B.Bus.world l.initial.bus) (g.B.Bus.world l.bus);
+  missed : g.B.Bus.modelled ≡ true
+      → Misses l.port l.address l._pass (g.B.Bus.world l.initial.bus) (g.B.Bus.world l.bus);
 }

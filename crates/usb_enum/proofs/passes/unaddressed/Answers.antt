@@ -1,8 +1,7 @@
 use Rattle.usb_enum.specs.Stop.{IsPlainStop}
-use Rattle.std.proofs.Common.{◌≡◌, inl, ◌&&◌, ◌∙◌, ℕ, ap, arith, refl, sym}
-use Rattle.usb_bus.proofs.Interface.{went_wider}
-use Rattle.usb_enum.proofs.Counts.{went_on}
-use Rattle.usb_enum.proofs.Frames.{at_asked, at_then}
+use Rattle.std.proofs.Common.{◌≡◌, inl, ◌&&◌, ◌∙◌, ap, arith, refl, sym}
+use Rattle.usb_enum.proofs.Frames.{at_asked}
+use Rattle.usb_enum.proofs.Parts.{enumerating, part_fails, steps_as, steps_then, steps_wider}
 use Rattle.usb_enum.proofs.Presence.{unaddressed_finds}
 use Rattle.usb_enum.specs.Refusals.{early_fault, no_fault}
 use Rattle.usb_enum.proofs.Fairness.{stops_wider}
@@ -12,69 +11,69 @@ use Rattle.usb_enum.proofs.Courses.{went_sound}
 use Rattle.usb_enum.proofs.StopReasons.{head_stops}
 use Rattle.usb_enum.proofs.Stretches.{goes_then}
 use Rattle.usb_enum.specs.Device.{needs_pre}
-use Rattle.usb_enum.specs.Reasons.{StopToldAt}
 use Rattle.usb_enum.proofs.LastRequests.{leads_went}
 use Rattle.usb_enum.proofs.Reasons.{at_after, told_at, told_faults}
-use Rattle.usb_enum.proofs.ToldFailures.{handed_on}
 use Rattle.usb_transaction.specs.declared.target.Target.{Target}
 use Rattle.usb_enum.proofs.passes.unaddressed.Goals as goal
 use Rattle.usb_enum.proofs.passes.unaddressed.Goals.{then-low, else-low}
 
-pub returns-in_err-max-clause-within : goal.returns-in_err-max-clause-within
-returns-in_err-max-clause-within g c known = λ a. at_then _ a _ _ _ _ (c.reset.ensures.within known a) (c.first_maximum.ensures.went known) (at_asked _ a _ _ (c.first_maximum.ensures.keeps known))
+pub returns-in_err-low-clause-part : goal.returns-in_err-low-clause-part
+returns-in_err-low-clause-part g c known a =
+    let stop = c.in_err-low.field-0.0 in
+    let reset = c.in_err-low.ensures.part known a in
+    part_fails c.from_residual.result stop c.from_residual.ensures.1
+    (steps_wider reset.steps (omega arith)) (record {
+      told = reset.ends.told;
+      so = stops_wider no_fault early_fault _ a _ _ _ (λ spec cause e. absurd cc) reset.ends.so;
+    })
 
-pub returns-clause-within : goal.returns-clause-within
-returns-clause-within g c known = λ a. at_then _ a _ _ _ _ (c.reset.ensures.within known a) (c.first_maximum.ensures.went known) (at_asked _ a _ _ (c.first_maximum.ensures.keeps known))
+pub returns-in_err-max-clause-part : goal.returns-in_err-max-clause-part
+returns-in_err-max-clause-part g c known a =
+    let port = c.args.port in
+    let stop = c.in_err-max.field-0.0 in
+    let low = c.in_ok-low.low in
+    let reset = c.in_ok-low.ensures.part known a in
+    let zero = c.in_ok-low.ensures.part known 0 in
+    let head = c.in_err-max.ensures.read known in
+    let t : Target = record { addr = 0; max = 8; low = low; pre = c.if-low.pre } in
+    let pre : c.if-low.pre ≡ (low && needs_pre port) = elim c.if-low.branch [
+      | then-low w ↦ w.pre-is ∙ w.needs_pre-pre.ensures ∙ sym
+          (ap (λ b. b && needs_pre port) w.if-low.true)
+      | else-low w ↦ w.pre-is ∙ w.if-low.false ∙ sym (ap (λ b. b && needs_pre port) w.if-low.false)
+    ] in
+    part_fails c.from_residual-in_err-max.result stop c.from_residual-in_err-max.ensures.1
+    (steps_then (enumerating port a) reset.steps (steps_as (at_asked port a) head.steps)
+    (omega arith)) (record {
+      told = at_after stop port a _ _ _ (leads_went reset.steps.went)
+          (told_at stop port a t _ _ (record { at = inl refl; pre = pre }) head.ends.told);
+      so = head_stops port a _ _ low _ _ reset.steps.went head.steps.went reset.steps.keeps
+          zero.steps.keeps head.steps.keeps zero.ends pre (told_faults stop t _ _ head.ends.told)
+          head.ends.so;
+    })
 
-pub returns-in_err-low-clause-went : goal.returns-in_err-low-clause-went
-returns-in_err-low-clause-went g c known = went_wider _ _ (c.reset.ensures.went known) (omega arith)
-
-pub returns-in_err-max-clause-went : goal.returns-in_err-max-clause-went
-returns-in_err-max-clause-went g c known = went_on _ _ _ _ _ _ (c.reset.ensures.went known) (c.first_maximum.ensures.went known) (omega arith)
-
-pub returns-clause-went : goal.returns-clause-went
-returns-clause-went g c known = went_on _ _ _ _ _ _ (c.reset.ensures.went known) (c.first_maximum.ensures.went known) (omega arith)
-
-pub returns-in_err-low-clause-device : goal.returns-in_err-low-clause-device
-returns-in_err-low-clause-device g c known =
-    handed_match c.from_residual.result _ _ c.in_err-low.field-0.0 c.from_residual.ensures.1
-    (λ a. stops_wider no_fault early_fault _ a _ _ _ (λ spec cause e. absurd cc) (c.in_err-low.ensures.found known a))
-
-pub returns-in_err-max-clause-device : goal.returns-in_err-max-clause-device
-returns-in_err-max-clause-device g c known =
-    handed_match c.from_residual-in_err-max.result _ _ c.in_err-max.field-0.0 c.from_residual-in_err-max.ensures.1
-    (λ a. head_stops c.args.port a _ _ c.in_ok-low.low _ _ (c.reset.ensures.went known) (c.first_maximum.ensures.went known) (c.reset.ensures.within known a) (c.reset.ensures.within known 0) (c.first_maximum.ensures.keeps known) (c.in_ok-low.ensures.found known 0)
-    (elim c.if-low.branch [
-      | then-low w ↦ w.pre-is ∙ w.needs_pre-pre.ensures ∙ sym (ap (λ b. b && needs_pre c.args.port) w.if-low.true)
-      | else-low w ↦ w.pre-is ∙ w.if-low.false ∙ sym (ap (λ b. b && needs_pre c.args.port) w.if-low.false)
-    ])
-    (told_faults c.in_err-max.field-0.0 (let t : Target = record { addr = 0; max = 8; low = c.in_ok-low.low; pre = c.if-low.pre } in t) (g.B.Bus.world c.reset.new.bus) (g.B.Bus.world c.first_maximum.new.bus) (c.in_err-max.ensures.told known)) (c.in_err-max.ensures.head known))
-
-pub returns-clause-device : goal.returns-clause-device
-returns-clause-device g c known = λ a.
-    let was = (c.in_ok-low.ensures.found known) a in
+pub returns-clause-part : goal.returns-clause-part
+returns-clause-part g c known a =
+    let port = c.args.port in
+    let reset = c.in_ok-low.ensures.part known a in
+    let head = c.in_ok-max.ensures.read known in
     record {
-      found = unaddressed_finds _ a _ c.in_ok-low.low _ _ was.speed (c.in_ok-max.ensures.head known).answers (c.first_maximum.ensures.went known) (c.reset.ensures.within known a).within (c.first_maximum.ensures.keeps known).addresses;
-      reaches = reaches_rest _ a _ (c.first_maximum.ensures.went known) (c.first_maximum.ensures.keeps known).ports was.reaches;
-      goes = λ none. goes_then _ _ _ (was.goes (went_sound _ _ _ (c.first_maximum.ensures.went known) none)) (c.in_ok-max.ensures.head known).goes;
+      steps = steps_then (enumerating port a) reset.steps (steps_as (at_asked port a) head.steps)
+          (omega arith);
+      ends = record {
+        found = unaddressed_finds _ a _ c.in_ok-low.low _ _ reset.ends.speed head.ends.answers
+            head.steps.went reset.steps.keeps.within head.steps.keeps.addresses;
+        reaches = reaches_rest _ a _ head.steps.went head.steps.keeps.ports reset.ends.reaches;
+        goes = λ none. goes_then _ _ _ (reset.ends.goes (went_sound _ _ _ head.steps.went none))
+            head.ends.goes;
+      };
     }
 
-pub returns-in_err-low-clause-told : goal.returns-in_err-low-clause-told
-returns-in_err-low-clause-told g c known = handed_on c.from_residual.result (λ stop. (a : ℕ) → StopToldAt c.args.port a stop (g.B.Bus.world c.args.bus.now) (g.B.Bus.world c.reset.new.bus)) c.in_err-low.field-0.0 c.from_residual.ensures.1 (c.in_err-low.ensures.told known)
-
-pub returns-in_err-max-clause-told : goal.returns-in_err-max-clause-told
-returns-in_err-max-clause-told g c known =
-    let t : Target = record { addr = 0; max = 8; low = c.in_ok-low.low; pre = c.if-low.pre } in
-    let pre : c.if-low.pre ≡ (c.in_ok-low.low && needs_pre c.args.port) = elim c.if-low.branch [
-      | then-low w ↦ w.pre-is ∙ w.needs_pre-pre.ensures ∙ sym (ap (λ b. b && needs_pre c.args.port) w.if-low.true)
-      | else-low w ↦ w.pre-is ∙ w.if-low.false ∙ sym (ap (λ b. b && needs_pre c.args.port) w.if-low.false)
-    ] in
-    handed_on c.from_residual-in_err-max.result (λ stop. (a : ℕ) → StopToldAt c.args.port a stop (g.B.Bus.world c.args.bus.now) (g.B.Bus.world c.first_maximum.new.bus)) c.in_err-max.field-0.0 c.from_residual-in_err-max.ensures.1
-    (λ a. at_after c.in_err-max.field-0.0 c.args.port a (g.B.Bus.world c.args.bus.now) (g.B.Bus.world c.reset.new.bus) (g.B.Bus.world c.first_maximum.new.bus) (leads_went (c.reset.ensures.went known))
-    (told_at c.in_err-max.field-0.0 c.args.port a t (g.B.Bus.world c.reset.new.bus) (g.B.Bus.world c.first_maximum.new.bus) (record { at = inl refl; pre = pre }) (c.in_err-max.ensures.told known)))
-
 pub returns-in_err-low-clause-target : goal.returns-in_err-low-clause-target
-returns-in_err-low-clause-target g c = handed_match c.from_residual.result _ IsPlainStop c.in_err-low.field-0.0 c.from_residual.ensures.1 c.in_err-low.ensures.plain
+returns-in_err-low-clause-target g c =
+    handed_match c.from_residual.result _ IsPlainStop c.in_err-low.field-0.0
+    c.from_residual.ensures.1 c.in_err-low.ensures.plain
 
 pub returns-in_err-max-clause-target : goal.returns-in_err-max-clause-target
-returns-in_err-max-clause-target g c = handed_match c.from_residual-in_err-max.result _ IsPlainStop c.in_err-max.field-0.0 c.from_residual-in_err-max.ensures.1 c.in_err-max.ensures.fits
+returns-in_err-max-clause-target g c =
+    handed_match c.from_residual-in_err-max.result _ IsPlainStop c.in_err-max.field-0.0
+    c.from_residual-in_err-max.ensures.1 c.in_err-max.ensures.fits

@@ -1,152 +1,128 @@
 use Rattle.usb_enum.specs.Stop.{IsPlainStop}
-use Rattle.std.proofs.Common.{ℕ, ◌≡◌, Option, None, Some, arith, refl, subst}
-use Rattle.usb_bus.proofs.Interface.{went_none, went_then, went_wider}
-use Rattle.usb_enum.proofs.Frames.{asks_none, asks_then}
+use Rattle.std.proofs.Common.{◌≡◌, ℕ, Option, None, Some, arith, refl, subst}
 use Rattle.usb_enum.specs.LearnedFacts.{Learns}
 use Rattle.usb_enum.specs.Readings.{AtMaximum, language_of}
-use Rattle.usb_enum.proofs.Counts.{went_on}
-use Rattle.usb_enum.proofs.Refusals.{handed_match}
-use Rattle.usb_enum.proofs.StringRefusals.{string_after, strings_read}
-use Rattle.usb_enum.proofs.StringReadings.{unnamed_strings_learned, no_strings_learned, strings_learned}
 use Rattle.usb_enum.specs.StringRequests.{AsksLanguage, asked, unnamed}
-use Rattle.usb_enum.specs.Reasons.{StopTold}
-use Rattle.usb_enum.proofs.LastRequests.{leads_then, leads_went}
-use Rattle.usb_enum.proofs.Reasons.{told_after}
+use Rattle.usb_enum.proofs.Parts.{asking, part_fails, steps_joined, steps_none, steps_then, steps_wider}
+use Rattle.usb_enum.proofs.StringRefusals.{string_stops, strings_read}
+use Rattle.usb_enum.proofs.StringReadings.{unnamed_strings_learned, no_strings_learned, strings_learned}
 use Rattle.usb_enum.proofs.ToldFailures.{handed_on}
 use Rattle.usb_enum.proofs.strings.read_strings.Goals as goal
 
-pub returns-then-indexes-eq0-3-clause-went : goal.returns-then-indexes-eq0-3-clause-went
-returns-then-indexes-eq0-3-clause-went g c known = went_wider 0 _ went_none (omega arith)
+pub returns-then-indexes-eq0-3-clause-read : goal.returns-then-indexes-eq0-3-clause-read
+returns-then-indexes-eq0-3-clause-read g c known = record {
+  steps = steps_none _ _ asking;
+  ends = rw c.no_strings.ensures (record {
+    told = unnamed (record {
+      manufacturer = c.if-indexes-eq0.true;
+      product = c.if-indexes-eq0-2.true;
+      serial_number = c.if-indexes-eq0-3.true;
+    }) refl refl;
+    so = unnamed_strings_learned c.args.target c.args.indexes _ c.if-indexes-eq0.true
+        c.if-indexes-eq0-2.true c.if-indexes-eq0-3.true;
+  });
+}
 
-pub returns-then-indexes-eq0-3-clause-keeps : goal.returns-then-indexes-eq0-3-clause-keeps
-returns-then-indexes-eq0-3-clause-keeps g c known = asks_none _
+pub returns-in_default-clause-read : goal.returns-in_default-clause-read
+returns-in_default-clause-read g c known =
+    let language = c.in_ok-language.ensures.read known in
+    let t = c.args.target in
+    let old = g.B.Bus.world c.args.bus.now in
+    let new = g.B.Bus.world c.language.new.bus in
+    let Said : Option ℕ → Type 0 = λ o. Learns (AtMaximum t (λ spec. o ≡ language_of spec)) t old
+    new in
+    record {
+      steps = steps_wider language.steps (omega arith);
+      ends = rw c.no_strings-in_default.ensures (record {
+        told = asked new None (subst (AsksLanguage t old new) c.in_default.is language.ends.told)
+            (refl, refl);
+        so = no_strings_learned t c.args.indexes old new
+            (subst Said c.in_default.is language.ends.so);
+      });
+    }
 
-pub returns-in_err-language-clause-went : goal.returns-in_err-language-clause-went
-returns-in_err-language-clause-went g c known = went_wider _ _ (c.language.ensures.went known) (omega arith)
+pub returns-clause-read : goal.returns-clause-read
+returns-clause-read g c known =
+    let language = c.in_ok-language.ensures.read known in
+    let manufacturer = c.in_ok-manufacturer.ensures.read known in
+    let product = c.in_ok-product.ensures.read known in
+    let serial_number = c.in_ok-serial_number.ensures.read known in
+    let t = c.args.target in
+    let old = g.B.Bus.world c.args.bus.now in
+    let said = g.B.Bus.world c.language.new.bus in
+    let Said : Option ℕ → Type 0 = λ o. Learns (AtMaximum t (λ spec. o ≡ language_of spec)) t old
+    said in
+    record {
+      steps = steps_then asking (steps_joined asking
+          (steps_joined asking language.steps manufacturer.steps) product.steps) serial_number.steps
+          (omega arith);
+      ends = record {
+        told = asked said (Some c.in-Some.language)
+            (subst (AsksLanguage t old said) c.in-Some.is language.ends.told) (record {
+              first = _;
+              manufacturer = manufacturer.ends.told;
+              second = _;
+              product = product.ends.told;
+              serial_number = serial_number.ends.told;
+            });
+        so = strings_learned t c.args.indexes c.in-Some.language _ _ _ _ _ _ old said _ _ _
+            (subst Said c.in-Some.is language.ends.so) manufacturer.steps.went manufacturer.ends.so
+            product.steps.went product.ends.so serial_number.steps.went serial_number.ends.so;
+      };
+    }
 
-pub returns-in_err-language-clause-keeps : goal.returns-in_err-language-clause-keeps
-returns-in_err-language-clause-keeps g c known = (c.language.ensures.keeps known)
+pub returns-in_err-language-clause-read : goal.returns-in_err-language-clause-read
+returns-in_err-language-clause-read g c known =
+    let language = c.in_err-language.ensures.read known in
+    part_fails c.from_residual.result c.in_err-language.field-0.0 c.from_residual.ensures.1
+    (steps_wider language.steps (omega arith)) language.ends
 
-pub returns-in_default-clause-went : goal.returns-in_default-clause-went
-returns-in_default-clause-went g c known = went_wider _ _ (c.language.ensures.went known) (omega arith)
+pub returns-in_err-manufacturer-clause-read : goal.returns-in_err-manufacturer-clause-read
+returns-in_err-manufacturer-clause-read g c known =
+    let language = c.in_ok-language.ensures.read known in
+    string_stops _ c.from_residual-in_err-manufacturer.result c.in_err-manufacturer.field-0.0
+    c.from_residual-in_err-manufacturer.ensures.1 language.steps language.ends.so
+    (c.in_err-manufacturer.ensures.read known) (omega arith)
 
-pub returns-in_default-clause-keeps : goal.returns-in_default-clause-keeps
-returns-in_default-clause-keeps g c known = (c.language.ensures.keeps known)
+pub returns-in_err-product-clause-read : goal.returns-in_err-product-clause-read
+returns-in_err-product-clause-read g c known =
+    let language = c.in_ok-language.ensures.read known in
+    let manufacturer = c.in_ok-manufacturer.ensures.read known in
+    string_stops _ c.from_residual-in_err-product.result c.in_err-product.field-0.0
+    c.from_residual-in_err-product.ensures.1 (steps_joined asking language.steps manufacturer.steps)
+    (strings_read c.args.target language.ends.so manufacturer.steps manufacturer.ends.so)
+    (c.in_err-product.ensures.read known) (omega arith)
 
-pub returns-in_err-manufacturer-clause-went : goal.returns-in_err-manufacturer-clause-went
-returns-in_err-manufacturer-clause-went g c known = went_on _ _ _ _ _ _ (c.language.ensures.went known) (c.read_one.ensures.went known) (omega arith)
-
-pub returns-in_err-manufacturer-clause-keeps : goal.returns-in_err-manufacturer-clause-keeps
-returns-in_err-manufacturer-clause-keeps g c known = asks_then _ _ _ _ (c.language.ensures.keeps known) (c.read_one.ensures.went known) (c.read_one.ensures.keeps known)
-
-pub returns-in_err-product-clause-went : goal.returns-in_err-product-clause-went
-returns-in_err-product-clause-went g c known = went_on _ _ _ _ _ _ (went_then _ _ (c.language.ensures.went known) (c.read_one.ensures.went known)) (c.read_one-2.ensures.went known) (omega arith)
-
-pub returns-in_err-product-clause-keeps : goal.returns-in_err-product-clause-keeps
-returns-in_err-product-clause-keeps g c known = asks_then _ _ _ _ (asks_then _ _ _ _ (c.language.ensures.keeps known) (c.read_one.ensures.went known) (c.read_one.ensures.keeps known)) (c.read_one-2.ensures.went known) (c.read_one-2.ensures.keeps known)
-
-pub returns-in_err-serial_number-clause-went : goal.returns-in_err-serial_number-clause-went
-returns-in_err-serial_number-clause-went g c known = went_on _ _ _ _ _ _ (went_then _ _ (went_then _ _ (c.language.ensures.went known) (c.read_one.ensures.went known)) (c.read_one-2.ensures.went known)) (c.read_one-3.ensures.went known) (omega arith)
-
-pub returns-in_err-serial_number-clause-keeps : goal.returns-in_err-serial_number-clause-keeps
-returns-in_err-serial_number-clause-keeps g c known = asks_then _ _ _ _ (asks_then _ _ _ _ (asks_then _ _ _ _ (c.language.ensures.keeps known) (c.read_one.ensures.went known) (c.read_one.ensures.keeps known)) (c.read_one-2.ensures.went known) (c.read_one-2.ensures.keeps known)) (c.read_one-3.ensures.went known) (c.read_one-3.ensures.keeps known)
-
-pub returns-clause-went : goal.returns-clause-went
-returns-clause-went g c known = went_on _ _ _ _ _ _ (went_then _ _ (went_then _ _ (c.language.ensures.went known) (c.read_one.ensures.went known)) (c.read_one-2.ensures.went known)) (c.read_one-3.ensures.went known) (omega arith)
-
-pub returns-clause-keeps : goal.returns-clause-keeps
-returns-clause-keeps g c known = asks_then _ _ _ _ (asks_then _ _ _ _ (asks_then _ _ _ _ (c.language.ensures.keeps known) (c.read_one.ensures.went known) (c.read_one.ensures.keeps known)) (c.read_one-2.ensures.went known) (c.read_one-2.ensures.keeps known)) (c.read_one-3.ensures.went known) (c.read_one-3.ensures.keeps known)
-
-pub returns-then-indexes-eq0-3-clause-learned : goal.returns-then-indexes-eq0-3-clause-learned
-returns-then-indexes-eq0-3-clause-learned g c known = rw c.no_strings.ensures (unnamed_strings_learned c.args.target c.args.indexes (g.B.Bus.world c.args.bus.now) c.if-indexes-eq0.true c.if-indexes-eq0-2.true c.if-indexes-eq0-3.true)
-
-pub returns-in_default-clause-learned : goal.returns-in_default-clause-learned
-returns-in_default-clause-learned g c known =
-    let P : Option ℕ → Type 0 = λ o. Learns (AtMaximum c.args.target (λ spec. o ≡ language_of spec)) c.args.target (g.B.Bus.world c.args.bus.now) (g.B.Bus.world c.language.new.bus) in
-    rw c.no_strings-in_default.ensures
-    (no_strings_learned c.args.target c.args.indexes (g.B.Bus.world c.args.bus.now) (g.B.Bus.world c.language.new.bus) (subst P c.in_default.is (c.in_ok-language.ensures.learned known)))
-
-pub returns-clause-learned : goal.returns-clause-learned
-returns-clause-learned g c known =
-    let P : Option ℕ → Type 0 = λ o. Learns (AtMaximum c.args.target (λ spec. o ≡ language_of spec)) c.args.target (g.B.Bus.world c.args.bus.now) (g.B.Bus.world c.language.new.bus) in
-    strings_learned c.args.target c.args.indexes c.in-Some.language c.in_ok-manufacturer.manufacturer c.in_ok-product.product c.in_ok-serial_number.serial_number _ _ _
-    (g.B.Bus.world c.args.bus.now) (g.B.Bus.world c.language.new.bus) (g.B.Bus.world c.read_one.new.bus) (g.B.Bus.world c.read_one-2.new.bus) (g.B.Bus.world c.read_one-3.new.bus)
-    (subst P c.in-Some.is (c.in_ok-language.ensures.learned known))
-    (c.read_one.ensures.went known) (c.in_ok-manufacturer.ensures.learned known)
-    (c.read_one-2.ensures.went known) (c.in_ok-product.ensures.learned known)
-    (c.read_one-3.ensures.went known) (c.in_ok-serial_number.ensures.learned known)
-
-pub returns-in_err-language-clause-learned : goal.returns-in_err-language-clause-learned
-returns-in_err-language-clause-learned g c known = handed_match c.from_residual.result _ _ c.in_err-language.field-0.0 c.from_residual.ensures.1 (c.in_err-language.ensures.learned known)
-
-pub returns-in_err-manufacturer-clause-learned : goal.returns-in_err-manufacturer-clause-learned
-returns-in_err-manufacturer-clause-learned g c known =
-    handed_match c.from_residual-in_err-manufacturer.result _ _ c.in_err-manufacturer.field-0.0 c.from_residual-in_err-manufacturer.ensures.1
-    (string_after _ c.args.target _ _ c.in_err-manufacturer.field-0.0 (g.B.Bus.world c.args.bus.now) (g.B.Bus.world c.language.new.bus) (g.B.Bus.world c.read_one.new.bus)
-    (c.in_ok-language.ensures.learned known) (c.language.ensures.went known) (c.read_one.ensures.went known) (c.in_err-manufacturer.ensures.learned known))
-
-pub returns-in_err-product-clause-learned : goal.returns-in_err-product-clause-learned
-returns-in_err-product-clause-learned g c known =
-    handed_match c.from_residual-in_err-product.result _ _ c.in_err-product.field-0.0 c.from_residual-in_err-product.ensures.1
-    (string_after _ c.args.target _ _ c.in_err-product.field-0.0 (g.B.Bus.world c.args.bus.now) (g.B.Bus.world c.read_one.new.bus) (g.B.Bus.world c.read_one-2.new.bus)
-    (strings_read _ _ c.args.target _ (g.B.Bus.world c.args.bus.now) (g.B.Bus.world c.language.new.bus) (g.B.Bus.world c.read_one.new.bus) (c.in_ok-language.ensures.learned known) (c.read_one.ensures.went known) (c.in_ok-manufacturer.ensures.learned known))
-    (went_then _ _ (c.language.ensures.went known) (c.read_one.ensures.went known)) (c.read_one-2.ensures.went known) (c.in_err-product.ensures.learned known))
-
-pub returns-in_err-serial_number-clause-learned : goal.returns-in_err-serial_number-clause-learned
-returns-in_err-serial_number-clause-learned g c known =
-    let first = strings_read _ _ c.args.target _ (g.B.Bus.world c.args.bus.now) (g.B.Bus.world c.language.new.bus) (g.B.Bus.world c.read_one.new.bus) (c.in_ok-language.ensures.learned known) (c.read_one.ensures.went known) (c.in_ok-manufacturer.ensures.learned known) in
-    handed_match c.from_residual-in_err-serial_number.result _ _ c.in_err-serial_number.field-0.0 c.from_residual-in_err-serial_number.ensures.1
-    (string_after _ c.args.target _ _ c.in_err-serial_number.field-0.0 (g.B.Bus.world c.args.bus.now) (g.B.Bus.world c.read_one-2.new.bus) (g.B.Bus.world c.read_one-3.new.bus)
-    (strings_read _ _ c.args.target _ (g.B.Bus.world c.args.bus.now) (g.B.Bus.world c.read_one.new.bus) (g.B.Bus.world c.read_one-2.new.bus) first (c.read_one-2.ensures.went known) (c.in_ok-product.ensures.learned known))
-    (went_then _ _ (went_then _ _ (c.language.ensures.went known) (c.read_one.ensures.went known)) (c.read_one-2.ensures.went known)) (c.read_one-3.ensures.went known) (c.in_err-serial_number.ensures.learned known))
-
-pub returns-then-indexes-eq0-3-clause-told : goal.returns-then-indexes-eq0-3-clause-told
-returns-then-indexes-eq0-3-clause-told g c known =
-    unnamed (record { manufacturer = c.if-indexes-eq0.true; product = c.if-indexes-eq0-2.true; serial_number = c.if-indexes-eq0-3.true }) c.no_strings.ensures refl
-
-pub returns-in_default-clause-told : goal.returns-in_default-clause-told
-returns-in_default-clause-told g c known =
-    asked (g.B.Bus.world c.language.new.bus) None (subst (AsksLanguage c.args.target (g.B.Bus.world c.args.bus.now) (g.B.Bus.world c.language.new.bus)) c.in_default.is (c.in_ok-language.ensures.told known))
-    (c.no_strings-in_default.ensures, refl)
-
-pub returns-clause-told : goal.returns-clause-told
-returns-clause-told g c known =
-    asked (g.B.Bus.world c.language.new.bus) (Some c.in-Some.language) (subst (AsksLanguage c.args.target (g.B.Bus.world c.args.bus.now) (g.B.Bus.world c.language.new.bus)) c.in-Some.is (c.in_ok-language.ensures.told known))
-    (record {
-      first = g.B.Bus.world c.read_one.new.bus;
-      manufacturer = (c.in_ok-manufacturer.ensures.told known);
-      second = g.B.Bus.world c.read_one-2.new.bus;
-      product = (c.in_ok-product.ensures.told known);
-      serial_number = (c.in_ok-serial_number.ensures.told known);
-    })
-
-pub returns-in_err-manufacturer-clause-told : goal.returns-in_err-manufacturer-clause-told
-returns-in_err-manufacturer-clause-told g c known =
-    handed_match c.from_residual-in_err-manufacturer.result _ (λ stop. StopTold c.args.target stop (g.B.Bus.world c.args.bus.now) (g.B.Bus.world c.read_one.new.bus)) c.in_err-manufacturer.field-0.0 c.from_residual-in_err-manufacturer.ensures.1
-    (told_after c.in_err-manufacturer.field-0.0 c.args.target (g.B.Bus.world c.args.bus.now) (g.B.Bus.world c.language.new.bus) (g.B.Bus.world c.read_one.new.bus) (leads_went (c.language.ensures.went known)) (c.in_err-manufacturer.ensures.told known))
-
-pub returns-in_err-product-clause-told : goal.returns-in_err-product-clause-told
-returns-in_err-product-clause-told g c known =
-    handed_match c.from_residual-in_err-product.result _ (λ stop. StopTold c.args.target stop (g.B.Bus.world c.args.bus.now) (g.B.Bus.world c.read_one-2.new.bus)) c.in_err-product.field-0.0 c.from_residual-in_err-product.ensures.1
-    (told_after c.in_err-product.field-0.0 c.args.target (g.B.Bus.world c.args.bus.now) (g.B.Bus.world c.read_one.new.bus) (g.B.Bus.world c.read_one-2.new.bus) (leads_then (leads_went (c.language.ensures.went known)) (leads_went (c.read_one.ensures.went known))) (c.in_err-product.ensures.told known))
-
-pub returns-in_err-serial_number-clause-told : goal.returns-in_err-serial_number-clause-told
-returns-in_err-serial_number-clause-told g c known =
-    handed_match c.from_residual-in_err-serial_number.result _ (λ stop. StopTold c.args.target stop (g.B.Bus.world c.args.bus.now) (g.B.Bus.world c.read_one-3.new.bus)) c.in_err-serial_number.field-0.0 c.from_residual-in_err-serial_number.ensures.1
-    (told_after c.in_err-serial_number.field-0.0 c.args.target (g.B.Bus.world c.args.bus.now) (g.B.Bus.world c.read_one-2.new.bus) (g.B.Bus.world c.read_one-3.new.bus) (leads_then (leads_went (c.language.ensures.went known)) (leads_then (leads_went (c.read_one.ensures.went known)) (leads_went (c.read_one-2.ensures.went known)))) (c.in_err-serial_number.ensures.told known))
+pub returns-in_err-serial_number-clause-read : goal.returns-in_err-serial_number-clause-read
+returns-in_err-serial_number-clause-read g c known =
+    let language = c.in_ok-language.ensures.read known in
+    let manufacturer = c.in_ok-manufacturer.ensures.read known in
+    let product = c.in_ok-product.ensures.read known in
+    let first = strings_read c.args.target language.ends.so manufacturer.steps manufacturer.ends.so
+    in
+    string_stops _ c.from_residual-in_err-serial_number.result c.in_err-serial_number.field-0.0
+    c.from_residual-in_err-serial_number.ensures.1
+    (steps_joined asking (steps_joined asking language.steps manufacturer.steps) product.steps)
+    (strings_read c.args.target first product.steps product.ends.so)
+    (c.in_err-serial_number.ensures.read known) (omega arith)
 
 pub returns-in_err-language-clause-plain : goal.returns-in_err-language-clause-plain
-returns-in_err-language-clause-plain g c = handed_on c.from_residual.result IsPlainStop c.in_err-language.field-0.0 c.from_residual.ensures.1 c.in_err-language.ensures.plain
+returns-in_err-language-clause-plain g c =
+    handed_on c.from_residual.result IsPlainStop c.in_err-language.field-0.0
+    c.from_residual.ensures.1 c.in_err-language.ensures.plain
 
 pub returns-in_err-manufacturer-clause-plain : goal.returns-in_err-manufacturer-clause-plain
-returns-in_err-manufacturer-clause-plain g c = handed_on c.from_residual-in_err-manufacturer.result IsPlainStop c.in_err-manufacturer.field-0.0 c.from_residual-in_err-manufacturer.ensures.1 c.in_err-manufacturer.ensures.plain
+returns-in_err-manufacturer-clause-plain g c =
+    handed_on c.from_residual-in_err-manufacturer.result IsPlainStop c.in_err-manufacturer.field-0.0
+    c.from_residual-in_err-manufacturer.ensures.1 c.in_err-manufacturer.ensures.plain
 
 pub returns-in_err-product-clause-plain : goal.returns-in_err-product-clause-plain
-returns-in_err-product-clause-plain g c = handed_on c.from_residual-in_err-product.result IsPlainStop c.in_err-product.field-0.0 c.from_residual-in_err-product.ensures.1 c.in_err-product.ensures.plain
+returns-in_err-product-clause-plain g c =
+    handed_on c.from_residual-in_err-product.result IsPlainStop c.in_err-product.field-0.0
+    c.from_residual-in_err-product.ensures.1 c.in_err-product.ensures.plain
 
 pub returns-in_err-serial_number-clause-plain : goal.returns-in_err-serial_number-clause-plain
-returns-in_err-serial_number-clause-plain g c = handed_on c.from_residual-in_err-serial_number.result IsPlainStop c.in_err-serial_number.field-0.0 c.from_residual-in_err-serial_number.ensures.1 c.in_err-serial_number.ensures.plain
-
-pub returns-in_err-language-clause-told : goal.returns-in_err-language-clause-told
-returns-in_err-language-clause-told g c known =
-    handed_match c.from_residual.result _ (λ stop. StopTold c.args.target stop (g.B.Bus.world c.args.bus.now) (g.B.Bus.world c.language.new.bus)) c.in_err-language.field-0.0 c.from_residual.ensures.1 (c.in_err-language.ensures.told known)
+returns-in_err-serial_number-clause-plain g c =
+    handed_on c.from_residual-in_err-serial_number.result IsPlainStop
+    c.in_err-serial_number.field-0.0 c.from_residual-in_err-serial_number.ensures.1
+    c.in_err-serial_number.ensures.plain

@@ -22,21 +22,33 @@ done g c known =
 
 pub returns-in_err-setup-clause-transfer : goal.returns-in_err-setup-clause-transfer
 returns-in_err-setup-clause-transfer g c known =
-    read_told c.args.target c.args.setup _ c.to_bytes-request.result c.from_residual.result c.requires.reads c.requires.some c.to_bytes-request.ensures.bytes c.to_bytes-request.ensures.fields (c.setup.ensures.sets_up known).settled (search rules) (search rules) (search rules)
+    read_told c.args.target c.args.setup _ c.to_bytes-request.result c.from_residual.result
+        c.requires.reads c.requires.some c.to_bytes-request.ensures.bytes
+        c.to_bytes-request.ensures.fields (g.met.B.Bus.settled known c.args.bus.now) (search rules)
+        (search rules) (search rules)
 
 pub returns-in_err-bytes-clause-transfer : goal.returns-in_err-bytes-clause-transfer
 returns-in_err-bytes-clause-transfer g c known =
-    read_told c.args.target c.args.setup _ c.to_bytes-request.result c.from_residual-in_err-bytes.result c.requires.reads c.requires.some c.to_bytes-request.ensures.bytes c.to_bytes-request.ensures.fields (c.setup.ensures.sets_up known).settled (search rules) (search rules) (search rules)
+    read_told c.args.target c.args.setup _ c.to_bytes-request.result
+        c.from_residual-in_err-bytes.result c.requires.reads c.requires.some
+        c.to_bytes-request.ensures.bytes c.to_bytes-request.ensures.fields
+        (g.met.B.Bus.settled known c.args.bus.now) (search rules) (search rules) (search rules)
 
 pub returns-in_err-data_out-clause-transfer : goal.returns-in_err-data_out-clause-transfer
 returns-in_err-data_out-clause-transfer g c known =
     let stages = at_status g (goal.at.returns-in_err-data_out-clause-transfer g c).After-from_residual-in_err-data_out known in
-    read_told c.args.target c.args.setup _ c.to_bytes-request.result c.from_residual-in_err-data_out.result c.requires.reads c.requires.some c.to_bytes-request.ensures.bytes c.to_bytes-request.ensures.fields (c.setup.ensures.sets_up known).settled (search rules) (search rules) stages
+    read_told c.args.target c.args.setup _ c.to_bytes-request.result
+        c.from_residual-in_err-data_out.result c.requires.reads c.requires.some
+        c.to_bytes-request.ensures.bytes c.to_bytes-request.ensures.fields
+        (g.met.B.Bus.settled known c.args.bus.now) (search rules) (search rules) stages
 
 pub returns-clause-transfer : goal.returns-clause-transfer
 returns-clause-transfer g c known =
     let stages = done g (goal.at.returns-clause-transfer g c).In_ok-data_out known in
-    read_told c.args.target c.args.setup _ c.to_bytes-request.result (Ok c.in_ok-bytes.bytes) c.requires.reads c.requires.some c.to_bytes-request.ensures.bytes c.to_bytes-request.ensures.fields (c.setup.ensures.sets_up known).settled (search rules) (search rules) stages
+    read_told c.args.target c.args.setup _ c.to_bytes-request.result (Ok c.in_ok-bytes.bytes)
+        c.requires.reads c.requires.some c.to_bytes-request.ensures.bytes
+        c.to_bytes-request.ensures.fields (g.met.B.Bus.settled known c.args.bus.now) (search rules)
+        (search rules) stages
 
 -- What went
 

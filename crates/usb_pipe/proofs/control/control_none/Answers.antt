@@ -20,16 +20,22 @@ at_status g c known =
 
 pub returns-in_err-setup-clause-transfer : goal.returns-in_err-setup-clause-transfer
 returns-in_err-setup-clause-transfer g c known =
-    write_told c.args.target c.args.setup _ c.to_bytes.result c.from_residual.result c.requires.none c.to_bytes.ensures.bytes c.to_bytes.ensures.fields (c.setup.ensures.sets_up known).settled (search rules) (search rules) (search rules)
+    write_told c.args.target c.args.setup _ c.to_bytes.result c.from_residual.result c.requires.none
+        c.to_bytes.ensures.bytes c.to_bytes.ensures.fields (g.met.B.Bus.settled known
+        c.args.bus.now) (search rules) (search rules) (search rules)
 
 pub returns-in_err-data_in-clause-transfer : goal.returns-in_err-data_in-clause-transfer
 returns-in_err-data_in-clause-transfer g c known =
     let stages = at_status g (goal.at.returns-in_err-data_in-clause-transfer g c).After-from_residual-in_err-data_in known in
-    write_told c.args.target c.args.setup _ c.to_bytes.result c.from_residual-in_err-data_in.result c.requires.none c.to_bytes.ensures.bytes c.to_bytes.ensures.fields (c.setup.ensures.sets_up known).settled (search rules) (search rules) stages
+    write_told c.args.target c.args.setup _ c.to_bytes.result c.from_residual-in_err-data_in.result
+        c.requires.none c.to_bytes.ensures.bytes c.to_bytes.ensures.fields
+        (g.met.B.Bus.settled known c.args.bus.now) (search rules) (search rules) stages
 
 pub returns-clause-transfer : goal.returns-clause-transfer
 returns-clause-transfer g c known =
-    write_told c.args.target c.args.setup _ c.to_bytes.result (Ok tt) c.requires.none c.to_bytes.ensures.bytes c.to_bytes.ensures.fields (c.setup.ensures.sets_up known).settled (search rules) (search rules) (search rules)
+    write_told c.args.target c.args.setup _ c.to_bytes.result (Ok tt) c.requires.none
+        c.to_bytes.ensures.bytes c.to_bytes.ensures.fields (g.met.B.Bus.settled known
+        c.args.bus.now) (search rules) (search rules) (search rules)
 
 -- What went
 

@@ -12,7 +12,11 @@ packets-preserved g c =
     let len : c.len.result ≡ length c.keep.new.bytes.items = omega (arith, c.len.ensures) in
     let more : ends_stage (length c.in_ok-packet.packet) c.args.target.max (length c.keep.new.bytes.items) c.args.wanted ≡ false = rw (sym c.bytes-in-packets.ensures.value, sym len) (sym c.last.ensures ∙ c.if-last.false) in
     let fits : length c.keep.new.bytes.items ≤ c.args.wanted = search rules in
-    (fits, λ known. onward_more c.in_ok-packet.packet c.requires.target.max_least (c.packets.invariant.1 known) (c.in_ok-packet.ensures.asks known).heard (c.data_in.ensures.asks known).settled (c.in_ok-packet.ensures.asks known).ends (c.data_in.ensures.went known) kept more c.in_ok-packet.ensures.toggle)
+    (fits, λ known.
+    let asked = c.in_ok-packet.ensures.asks known in
+    onward_more c.in_ok-packet.packet c.requires.target.max_least (c.packets.invariant.1 known)
+        asked.heard asked.ends (c.data_in.ensures.went known) kept more
+            c.in_ok-packet.ensures.toggle)
 
 pub returns-then-last-clause-packets : goal.returns-then-last-clause-packets
 returns-then-last-clause-packets g c known =

@@ -7,7 +7,7 @@ use Rattle.usb_serve.specs.Transfers.{IsItemOf}
 use Rattle.usb_serve.proofs.Ends.{failed_on}
 use Rattle.usb_serve.proofs.KnowledgeKept.{ran_knows}
 use Rattle.usb_serve.proofs.Moments.{item_right}
-use Rattle.usb_serve.proofs.RunParts.{does_spent, no_more_events, ran_changed, reaches_after, spent_none, spent_then, stops_after}
+use Rattle.usb_serve.proofs.RunParts.{does_spent, no_more_events, ran_silent, reaches_after, spent_none, spent_then, stops_after}
 use Rattle.usb_serve.proofs.runs.item_of_events.Goals as goal
 
 pub events-init : goal.events-init
@@ -59,7 +59,7 @@ events-preserved g c = record {
   goes = λ s.
       let before = c.events.invariant.goes s in
       let arrives = subst (λ x. Arrives c.events.host (Ok x) c.next_due.new.host) c.in-Some.is (c.in_ok-due.ensures.on.goes (ran_knows before s)) in
-      ran_changed c.in-Some.due c.item_of.new.host before arrives (subst (λ x. IsItemOf c.in-Some.due x c.next_due.new.host c.item_of.new.host) c.in_default-2.is c.in_ok-item.ensures.on.goes);
+      ran_silent c.in-Some.due c.item_of.new.host before arrives (subst (λ x. IsItemOf c.in-Some.due x c.next_due.new.host c.item_of.new.host) c.in_default-2.is c.in_ok-item.ensures.on.goes);
   spent = spent_then c.args.host.now c.next_due.new.host c.item_of.new.host (spent_then c.args.host.now c.events.host c.next_due.new.host c.events.invariant.spent c.next_due.ensures.spent) (does_spent c.in-Some.due c.next_due.new.host c.item_of.new.host c.item_of.result c.item_of.ensures.on.goes);
   owning = λ o. c.item_of.ensures.owning (c.next_due.ensures.owning (c.events.invariant.owning o));
 }

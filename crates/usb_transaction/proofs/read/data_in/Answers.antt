@@ -14,54 +14,77 @@ pub tries-preserved-in-Continue-1 : goal.tries-preserved-in-Continue-1
 tries-preserved-in-Continue-1 g c = (
   c.tries.invariant.0,
   (search rules, search rules),
-  λ known. let one = once c.attempt_of_in-attempt.ensures.value (c.in-Ok.ensures.settled known) c.attempt_of_in-attempt.ensures.fits (c.in-Ok.ensures.attempts known) in
-      let awaited = ap (λ t. heard_as t c.in-Ok.outcome) c.tries.invariant.0 in stands_waited (c.tries.invariant.2 known) one c.heard_as.result _ (c.heard_as.ensures ∙ awaited) c.in-NotReady.is c.wait.ensures.count c.in_ok-wait-in-NotReady.ensures.end,
+  λ known.
+    let asked = c.attempt_of_in-attempt.ensures in
+    let one = once asked.value asked.fits (c.in-Ok.ensures.attempts known) in
+    let awaited = ap (λ t. heard_as t c.in-Ok.outcome) c.tries.invariant.0 in
+    stands_waited (c.tries.invariant.2 known) one c.heard_as.result _ (c.heard_as.ensures ∙ awaited)
+        c.in-NotReady.is c.wait.ensures.count c.in_ok-wait-in-NotReady.ensures.end,
 )
 
 pub tries-preserved : goal.tries-preserved
 tries-preserved g c = (
   c.tries.invariant.0,
   (search rules, search rules),
-  λ known. let one = once c.attempt_of_in-attempt.ensures.value (c.in-Ok.ensures.settled known) c.attempt_of_in-attempt.ensures.fits (c.in-Ok.ensures.attempts known) in
-      let awaited = ap (λ t. heard_as t c.in-Ok.outcome) c.tries.invariant.0 in stands_error (c.tries.invariant.2 known) one _ (c.in-Lost.ensures ∙ awaited) c.error.ensures.count c.in_ok-error-in-Lost.ensures.end,
+  λ known.
+    let asked = c.attempt_of_in-attempt.ensures in
+    let one = once asked.value asked.fits (c.in-Ok.ensures.attempts known) in
+    let awaited = ap (λ t. heard_as t c.in-Ok.outcome) c.tries.invariant.0 in
+    stands_error (c.tries.invariant.2 known) one _ (c.in-Lost.ensures ∙ awaited)
+        c.error.ensures.count c.in_ok-error-in-Lost.ensures.end,
 )
 
 pub returns-in-Moved-clause-asks : goal.returns-in-Moved-clause-asks
 returns-in-Moved-clause-asks g c known =
-    let one = once c.attempt_of_in-attempt.ensures.value (c.in-Ok.ensures.settled known) c.attempt_of_in-attempt.ensures.fits (c.in-Ok.ensures.attempts known) in
+    let settled = g.met.B.Bus.settled known c.args.bus.now in
+    let asked = c.attempt_of_in-attempt.ensures in
+    let one = once asked.value asked.fits (c.in-Ok.ensures.attempts known) in
     let awaited = ap (λ t. heard_as t c.in-Ok.outcome) c.tries.invariant.0 in
     let it = told_moved (c.tries.invariant.2 known) one c.in-Moved.bytes (sym (c.in-Moved.ensures ∙ awaited)) in
-    rw c.data.ensures (asks_in c.args.target c.args.ep c.args.toggle.now _ _ it.settled (Ok c.in-Moved.bytes.items) it.heard (read_fits c.args.toggle.now _ c.in-Moved.bytes (c.in-Moved.ensures ∙ awaited) one.made))
+    rw c.data.ensures (asks_in c.args.target c.args.ep c.args.toggle.now _ _ settled
+        (Ok c.in-Moved.bytes.items) it (read_fits c.args.toggle.now _ c.in-Moved.bytes
+        (c.in-Moved.ensures ∙ awaited) one.made))
 
 pub returns-in_err-wait-in-NotReady-clause-asks : goal.returns-in_err-wait-in-NotReady-clause-asks
 returns-in_err-wait-in-NotReady-clause-asks g c known =
-    let one = once c.attempt_of_in-attempt.ensures.value (c.in-Ok.ensures.settled known) c.attempt_of_in-attempt.ensures.fits (c.in-Ok.ensures.attempts known) in
+    let settled = g.met.B.Bus.settled known c.args.bus.now in
+    let asked = c.attempt_of_in-attempt.ensures in
+    let one = once asked.value asked.fits (c.in-Ok.ensures.attempts known) in
     let awaited = ap (λ t. heard_as t c.in-Ok.outcome) c.tries.invariant.0 in
     let end = c.in_err-wait-in-NotReady.ensures.end in
     let told = err_from_is_err_and c.from_residual.result c.from_residual.ensures.1 in
     let it = told_busy (c.tries.invariant.2 known) one c.heard_as.result _ (c.heard_as.ensures ∙ awaited) c.in-NotReady.is c.wait.ensures.count end.1 in
-    rw (told.1, told.2, end.0) (asks_in c.args.target c.args.ep c.args.toggle.now _ _ it.settled (Err Busy) it.heard tt)
+    rw (told.1, told.2, end.0) (asks_in c.args.target c.args.ep c.args.toggle.now _ _ settled
+        (Err Busy) it tt)
 
 pub returns-in-Refused-clause-asks : goal.returns-in-Refused-clause-asks
 returns-in-Refused-clause-asks g c known =
-    let one = once c.attempt_of_in-attempt.ensures.value (c.in-Ok.ensures.settled known) c.attempt_of_in-attempt.ensures.fits (c.in-Ok.ensures.attempts known) in
+    let settled = g.met.B.Bus.settled known c.args.bus.now in
+    let asked = c.attempt_of_in-attempt.ensures in
+    let one = once asked.value asked.fits (c.in-Ok.ensures.attempts known) in
     let awaited = ap (λ t. heard_as t c.in-Ok.outcome) c.tries.invariant.0 in
     let it = told_stalled (c.tries.invariant.2 known) one (heard_stall _ _ (c.in-Refused.ensures ∙ awaited)) in
-    asks_in c.args.target c.args.ep c.args.toggle.now _ _ it.settled (Err Stalled) it.heard tt
+    asks_in c.args.target c.args.ep c.args.toggle.now _ _ settled (Err Stalled) it tt
 
 pub returns-in_err-error-in-Lost-clause-asks : goal.returns-in_err-error-in-Lost-clause-asks
 returns-in_err-error-in-Lost-clause-asks g c known =
-    let one = once c.attempt_of_in-attempt.ensures.value (c.in-Ok.ensures.settled known) c.attempt_of_in-attempt.ensures.fits (c.in-Ok.ensures.attempts known) in
+    let settled = g.met.B.Bus.settled known c.args.bus.now in
+    let asked = c.attempt_of_in-attempt.ensures in
+    let one = once asked.value asked.fits (c.in-Ok.ensures.attempts known) in
     let awaited = ap (λ t. heard_as t c.in-Ok.outcome) c.tries.invariant.0 in
     let end = c.in_err-error-in-Lost.ensures.end in
     let told = err_from_is_err_and c.from_residual-in_err-error-in-Lost.result c.from_residual-in_err-error-in-Lost.ensures.1 in
     let it = told_silent (c.tries.invariant.2 known) one _ (c.in-Lost.ensures ∙ awaited) c.error.ensures.count end.1 in
-    rw (told.1, told.2, end.0) (asks_in c.args.target c.args.ep c.args.toggle.now _ _ it.settled (Err NoAnswer) it.heard tt)
+    rw (told.1, told.2, end.0) (asks_in c.args.target c.args.ep c.args.toggle.now _ _ settled
+        (Err NoAnswer) it tt)
 
 pub returns-in-Err-clause-asks : goal.returns-in-Err-clause-asks
 returns-in-Err-clause-asks g c known =
-    let it = told_cut (c.tries.invariant.2 known) c.attempt_of_in-attempt.ensures.value c.attempt_of_in-attempt.ensures.fits (c.in-Err.ensures.settled known) (c.in-Err.ensures.attempts known) in
-    asks_in c.args.target c.args.ep c.args.toggle.now _ _ it.settled (Err (Bus c.in-Err.fault)) it.heard tt
+    let settled = g.met.B.Bus.settled known c.args.bus.now in
+    let asked = c.attempt_of_in-attempt.ensures in
+    let cut = c.in-Err.ensures.attempts known in
+    let it = told_cut (c.tries.invariant.2 known) asked.value asked.fits cut in
+    asks_in c.args.target c.args.ep c.args.toggle.now _ _ settled (Err (Bus c.in-Err.fault)) it tt
 
 pub returns-in-Moved-clause-went : goal.returns-in-Moved-clause-went
 returns-in-Moved-clause-went g c known = went_last (c.tries.invariant.2 known) c.attempt_of_in-attempt.ensures.fits (c.in-Ok.ensures.attempts known)

@@ -10,27 +10,39 @@ loop-error-init g c known = set_up_new _
 
 pub loop-error-preserved : goal.loop-error-preserved
 loop-error-preserved g c known =
-    let one = once c.attempt_of_setup-attempt.ensures.value (c.in-Ok.ensures.settled known) c.attempt_of_setup-attempt.ensures.fits (c.in-Ok.ensures.attempts known) in
+    let asked = c.attempt_of_setup-attempt.ensures in
+    let one = once asked.value asked.fits (c.in-Ok.ensures.attempts known) in
     set_up_again c.loop-error-test.true (c.loop-error.invariant known) one (sym c.is_ack.ensures ∙ c.if-is_ack.false)
 
 pub returns-then-is_ack-clause-sets_up : goal.returns-then-is_ack-clause-sets_up
 returns-then-is_ack-clause-sets_up g c known =
+    let settled = g.met.B.Bus.settled known c.args.bus.now in
     let eight : length c.args.bytes ≡ 8 = search rules in
-    let one = once c.attempt_of_setup-attempt.ensures.value (c.in-Ok.ensures.settled known) c.attempt_of_setup-attempt.ensures.fits (c.in-Ok.ensures.attempts known) in
+    let asked = c.attempt_of_setup-attempt.ensures in
+    let one = once asked.value asked.fits (c.in-Ok.ensures.attempts known) in
     let it = set_up_told c.loop-error-test.true (c.loop-error.invariant known) one (sym c.is_ack.ensures ∙ c.if-is_ack.true) in
-    rw c.nothing.ensures (sets_up c.args.target c.args.bytes _ _ eight it.settled (Ok []) it.heard (ends_of set_up_as _ _ _ (Ok []) it.heard))
+    rw c.nothing.ensures (sets_up c.args.target c.args.bytes _ _ eight settled (Ok []) it
+        (ends_of set_up_as _ _ _ (Ok []) it))
 
 pub returns-clause-sets_up : goal.returns-clause-sets_up
 returns-clause-sets_up g c known =
+    let settled = g.met.B.Bus.settled known c.args.bus.now in
     let eight : length c.args.bytes ≡ 8 = search rules in
     let all : c.loop-error._error ≡ 3 = omega (arith, c.loop-error-test.false, c.loop-error.auto._error-end) in
-    sets_up c.args.target c.args.bytes _ _ eight ((c.loop-error.invariant known).settled (omega (arith, all))) (Err NoAnswer) ((c.loop-error.invariant known).ended all) (ends_of set_up_as _ _ _ (Err NoAnswer) ((c.loop-error.invariant known).ended all))
+    sets_up c.args.target c.args.bytes _ _ eight settled (Err NoAnswer)
+        ((c.loop-error.invariant known).ended all) (ends_of set_up_as _ _ _ (Err NoAnswer)
+        ((c.loop-error.invariant known).ended all))
 
 pub returns-in-Err-clause-sets_up : goal.returns-in-Err-clause-sets_up
 returns-in-Err-clause-sets_up g c known =
+    let settled = g.met.B.Bus.settled known c.args.bus.now in
     let eight : length c.args.bytes ≡ 8 = search rules in
-    let it = set_up_cut c.loop-error-test.true (c.loop-error.invariant known) c.attempt_of_setup-attempt.ensures.value c.attempt_of_setup-attempt.ensures.fits (c.in-Err.ensures.settled known) (c.in-Err.ensures.attempts known) in
-    sets_up c.args.target c.args.bytes _ _ eight it.settled (Err (Bus c.in-Err.fault)) it.heard (ends_of set_up_as _ _ _ (Err (Bus c.in-Err.fault)) it.heard)
+    let asked = c.attempt_of_setup-attempt.ensures in
+    let cut = c.in-Err.ensures.attempts known in
+    let it = set_up_cut c.loop-error-test.true (c.loop-error.invariant known) asked.value asked.fits
+        cut in
+    sets_up c.args.target c.args.bytes _ _ eight settled (Err (Bus c.in-Err.fault)) it
+        (ends_of set_up_as _ _ _ (Err (Bus c.in-Err.fault)) it)
 
 pub returns-then-is_ack-clause-went : goal.returns-then-is_ack-clause-went
 returns-then-is_ack-clause-went g c known = set_up_went c.loop-error-test.true (c.loop-error.invariant known) c.attempt_of_setup-attempt.ensures.fits (c.in-Ok.ensures.attempts known)

@@ -12,45 +12,76 @@ pub tries-init : goal.tries-init
 tries-init g c = (refl, (search rules, search rules), λ known. stands_new c.new-tries.result _ c.new-tries.ensures)
 
 pub tries-preserved-in-Continue-1 : goal.tries-preserved-in-Continue-1
-tries-preserved-in-Continue-1 g c =
-    (c.tries.invariant.0, (search rules, search rules), λ known. let one = once c.attempt_of_out-attempt.ensures.value (c.in-Ok.ensures.settled known) c.attempt_of_out-attempt.ensures.fits (c.in-Ok.ensures.attempts known) in stands_waited (c.tries.invariant.2 known) one c.heard_when_sent.result _ c.heard_when_sent.ensures c.in-NotReady.is c.wait.ensures.count c.in_ok-wait-in-NotReady.ensures.end)
+tries-preserved-in-Continue-1 g c = (
+  c.tries.invariant.0,
+  (search rules, search rules),
+  λ known.
+    let asked = c.attempt_of_out-attempt.ensures in
+    let one = once asked.value asked.fits (c.in-Ok.ensures.attempts known) in
+    stands_waited (c.tries.invariant.2 known) one c.heard_when_sent.result _
+        c.heard_when_sent.ensures c.in-NotReady.is c.wait.ensures.count
+        c.in_ok-wait-in-NotReady.ensures.end,
+)
 
 pub tries-preserved : goal.tries-preserved
-tries-preserved g c =
-    (c.tries.invariant.0, (search rules, search rules), λ known. let one = once c.attempt_of_out-attempt.ensures.value (c.in-Ok.ensures.settled known) c.attempt_of_out-attempt.ensures.fits (c.in-Ok.ensures.attempts known) in stands_error (c.tries.invariant.2 known) one _ c.in-Lost.ensures c.error.ensures.count c.in_ok-error-in-Lost.ensures.end)
+tries-preserved g c = (
+  c.tries.invariant.0,
+  (search rules, search rules),
+  λ known.
+    let asked = c.attempt_of_out-attempt.ensures in
+    let one = once asked.value asked.fits (c.in-Ok.ensures.attempts known) in
+    stands_error (c.tries.invariant.2 known) one _ c.in-Lost.ensures c.error.ensures.count
+        c.in_ok-error-in-Lost.ensures.end,
+)
 
 pub returns-in-Moved-clause-sends : goal.returns-in-Moved-clause-sends
 returns-in-Moved-clause-sends g c known =
-    let one = once c.attempt_of_out-attempt.ensures.value (c.in-Ok.ensures.settled known) c.attempt_of_out-attempt.ensures.fits (c.in-Ok.ensures.attempts known) in
+    let settled = g.met.B.Bus.settled known c.args.bus.now in
+    let asked = c.attempt_of_out-attempt.ensures in
+    let one = once asked.value asked.fits (c.in-Ok.ensures.attempts known) in
     let it = told_moved (c.tries.invariant.2 known) one (packed []) (ap heard_when_sent (sent_last _ _ (sym c.in-Moved.ensures))) in
-    rw c.nothing.ensures (sends_out c.args.target c.args.ep c.args.toggle.now c.args.bytes.now _ _ it.settled (Ok []) it.heard)
+    rw c.nothing.ensures (sends_out c.args.target c.args.ep c.args.toggle.now c.args.bytes.now _ _
+        settled (Ok []) it)
 
 pub returns-in_err-wait-in-NotReady-clause-sends : goal.returns-in_err-wait-in-NotReady-clause-sends
 returns-in_err-wait-in-NotReady-clause-sends g c known =
-    let one = once c.attempt_of_out-attempt.ensures.value (c.in-Ok.ensures.settled known) c.attempt_of_out-attempt.ensures.fits (c.in-Ok.ensures.attempts known) in
+    let settled = g.met.B.Bus.settled known c.args.bus.now in
+    let asked = c.attempt_of_out-attempt.ensures in
+    let one = once asked.value asked.fits (c.in-Ok.ensures.attempts known) in
     let end = c.in_err-wait-in-NotReady.ensures.end in
     let told = err_from_is_err_and c.from_residual.result c.from_residual.ensures.1 in
     let it = told_busy (c.tries.invariant.2 known) one c.heard_when_sent.result _ c.heard_when_sent.ensures c.in-NotReady.is c.wait.ensures.count end.1 in
-    rw (told.1, told.2, end.0) (sends_out c.args.target c.args.ep c.args.toggle.now c.args.bytes.now _ _ it.settled (Err Busy) it.heard)
+    rw (told.1, told.2, end.0) (sends_out c.args.target c.args.ep c.args.toggle.now c.args.bytes.now
+        _ _ settled (Err Busy) it)
 
 pub returns-in-Refused-clause-sends : goal.returns-in-Refused-clause-sends
 returns-in-Refused-clause-sends g c known =
-    let one = once c.attempt_of_out-attempt.ensures.value (c.in-Ok.ensures.settled known) c.attempt_of_out-attempt.ensures.fits (c.in-Ok.ensures.attempts known) in
+    let settled = g.met.B.Bus.settled known c.args.bus.now in
+    let asked = c.attempt_of_out-attempt.ensures in
+    let one = once asked.value asked.fits (c.in-Ok.ensures.attempts known) in
     let it = told_stalled (c.tries.invariant.2 known) one (sent_stall _ c.in-Refused.ensures) in
-    sends_out c.args.target c.args.ep c.args.toggle.now c.args.bytes.now _ _ it.settled (Err Stalled) it.heard
+    sends_out c.args.target c.args.ep c.args.toggle.now c.args.bytes.now _ _ settled (Err Stalled)
+        it
 
 pub returns-in_err-error-in-Lost-clause-sends : goal.returns-in_err-error-in-Lost-clause-sends
 returns-in_err-error-in-Lost-clause-sends g c known =
-    let one = once c.attempt_of_out-attempt.ensures.value (c.in-Ok.ensures.settled known) c.attempt_of_out-attempt.ensures.fits (c.in-Ok.ensures.attempts known) in
+    let settled = g.met.B.Bus.settled known c.args.bus.now in
+    let asked = c.attempt_of_out-attempt.ensures in
+    let one = once asked.value asked.fits (c.in-Ok.ensures.attempts known) in
     let end = c.in_err-error-in-Lost.ensures.end in
     let told = err_from_is_err_and c.from_residual-in_err-error-in-Lost.result c.from_residual-in_err-error-in-Lost.ensures.1 in
     let it = told_silent (c.tries.invariant.2 known) one _ c.in-Lost.ensures c.error.ensures.count end.1 in
-    rw (told.1, told.2, end.0) (sends_out c.args.target c.args.ep c.args.toggle.now c.args.bytes.now _ _ it.settled (Err NoAnswer) it.heard)
+    rw (told.1, told.2, end.0) (sends_out c.args.target c.args.ep c.args.toggle.now c.args.bytes.now
+        _ _ settled (Err NoAnswer) it)
 
 pub returns-in-Err-clause-sends : goal.returns-in-Err-clause-sends
 returns-in-Err-clause-sends g c known =
-    let it = told_cut (c.tries.invariant.2 known) c.attempt_of_out-attempt.ensures.value c.attempt_of_out-attempt.ensures.fits (c.in-Err.ensures.settled known) (c.in-Err.ensures.attempts known) in
-    sends_out c.args.target c.args.ep c.args.toggle.now c.args.bytes.now _ _ it.settled (Err (Bus c.in-Err.fault)) it.heard
+    let settled = g.met.B.Bus.settled known c.args.bus.now in
+    let asked = c.attempt_of_out-attempt.ensures in
+    let cut = c.in-Err.ensures.attempts known in
+    let it = told_cut (c.tries.invariant.2 known) asked.value asked.fits cut in
+    sends_out c.args.target c.args.ep c.args.toggle.now c.args.bytes.now _ _ settled
+        (Err (Bus c.in-Err.fault)) it
 
 pub returns-in-Moved-clause-went : goal.returns-in-Moved-clause-went
 returns-in-Moved-clause-went g c known = went_last (c.tries.invariant.2 known) c.attempt_of_out-attempt.ensures.fits (c.in-Ok.ensures.attempts known)

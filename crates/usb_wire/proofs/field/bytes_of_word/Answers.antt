@@ -4,12 +4,12 @@ use Rattle.usb_wire.proofs.FieldLemmas.{Counted, bytes_of_word-none, bytes_of_wo
 use Rattle.usb_wire.proofs.field.bytes_of_word.Goals as goal
 
 pub returns-then-count-eq0 : goal.returns-then-count-eq0
-returns-then-count-eq0 c =
+returns-then-count-eq0 g c =
     let counted = counted-count_in c.args.word.now c.in_ok-count.count (sym c.count_in.ensures ∙ c.in_ok-count.was) in
-    bytes_of_word-none c.args.word.now (subst (Counted c.args.word.now) c.if-count-eq0.true counted) ∙ ap Ok (sym c.new.ensures)
+    bytes_of_word-none g.row.MOST c.args.word.now (subst (Counted c.args.word.now) c.if-count-eq0.true counted) ∙ ap Ok (sym c.new.ensures)
 
 pub returns-then-not-decode_into : goal.returns-then-not-decode_into
-returns-then-not-decode_into c =
+returns-then-not-decode_into g c =
     let counted = counted-count_in c.args.word.now c.in_ok-count.count (sym c.count_in.ensures ∙ c.in_ok-count.was) in
     let decoded = decoded-counted c.args.word.now c.in_ok-count.count counted (omega (arith, c.if-count-eq0.false)) in
     let given = into_given c.args.word.now c.in_ok-count.count decoded.bytes c.decode_into.result c.decode_into.new.decoded decoded.decoded c.decode_into.ensures in
@@ -17,9 +17,9 @@ returns-then-not-decode_into c =
     cc
 
 pub returns : goal.returns
-returns c =
+returns g c =
     let counted = counted-count_in c.args.word.now c.in_ok-count.count (sym c.count_in.ensures ∙ c.in_ok-count.was) in
     let decoded = decoded-counted c.args.word.now c.in_ok-count.count counted (omega (arith, c.if-count-eq0.false)) in
     let given = into_given c.args.word.now c.in_ok-count.count decoded.bytes c.decode_into.result c.decode_into.new.decoded decoded.decoded c.decode_into.ensures in
     let items : c.few_bytes.result.items ≡ take c.in_ok-count.count c.decode_into.new.decoded = grind (arith, common_steps, c.few_bytes.ensures) in
-    bytes_of_word-value c.args.word.now c.in_ok-count.count decoded.bytes counted (omega (arith, c.if-count-gt64.false)) decoded.value ∙ ap Ok (sym (items ∙ given.1))
+    bytes_of_word-value g.row.MOST c.args.word.now c.in_ok-count.count decoded.bytes counted (omega (arith, c.if-count.false)) decoded.value ∙ ap Ok (sym (items ∙ given.1))

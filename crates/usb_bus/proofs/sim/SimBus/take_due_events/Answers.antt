@@ -29,6 +29,14 @@ due-preserved-in_ok-take_event-2 g c = record {
   due = due_goes_on _ _ _ _ _ _ c.due.invariant.due (sym c.is_due.ensures.value ∙ c.due-test.true) c.in_ok-take_event.ensures.came.exact c.in_ok-take_event.ensures.came.text;
 }
 
+pub due-preserved-in_ok-take_event-3 : goal.due-preserved-in_ok-take_event-3
+due-preserved-in_ok-take_event-3 g c = record {
+  spends = spends_then 0 0 _ _ _ c.due.invariant.spends c.in_ok-take_event.ensures.came.spends;
+  fault = c.in_ok-take_event.ensures.came.told;
+  coming = came_next _ _ _ c.due.invariant.coming (sym c.is_due.ensures.value ∙ c.due-test.true) c.in_ok-take_event.ensures.came.exact;
+  due = due_goes_on _ _ _ _ _ _ c.due.invariant.due (sym c.is_due.ensures.value ∙ c.due-test.true) c.in_ok-take_event.ensures.came.exact c.in_ok-take_event.ensures.came.text;
+}
+
 pub returns-clause-came : goal.returns-clause-came
 returns-clause-came g c = record {
   spends = c.due.invariant.spends;

@@ -8,7 +8,7 @@ use Rattle.usb_world.specs.PlanData.{can_come}
 use Rattle.usb_world.proofs.Interface.{came_spends, happened_long, sane_happened, settled_happened, spends_none}
 use Rattle.usb_world.specs.declared.event.Event.{Event}
 use Rattle.usb_world.specs.Steps.{happened}
-use Rattle.usb_world.specs.declared.event.Due.{Due}
+use Rattle.usb_world.specs.declared.event.Ask.{Ask}
 use Rattle.usb_world.specs.declared.types.BusFault.{BusFault}
 use Rattle.usb_world.specs.declared.types.BusFault.TheVariants.{TraceFailed}
 use Rattle.usb_bus.specs.Watch.{tells_failure}
@@ -16,7 +16,7 @@ use Rattle.usb_bus.specs.Sim.{world_of}
 use Rattle.usb_bus.proofs.Arrivals.{came_sound, came_faulted, appends_event, writes_event, writes_none, due_next, popped, front_is, next_none, due_none}
 use Rattle.usb_bus.proofs.sim.SimBus.take_event.Goals as goal
 
-none_came : Result (Option Due) BusFault
+none_came : Result (Option (Option Ask)) BusFault
 none_came = Ok None
 
 -- no event was left
@@ -90,7 +90,7 @@ returns-clause-came g c =
       told = search rules;
       none = λ h. cc h;
       one = λ _. refl;
-      asked = ap Some c.from.ensures ∙ due_next (world_of s) e _ split;
+      asked = ap Some c.into_ask.ensures ∙ due_next (world_of s) e _ split;
       exact = came_sound (world_of s) e rest rest _ c.requires.sound split refl done;
       kept = λ h. cc h;
       cut = λ h. cc h;

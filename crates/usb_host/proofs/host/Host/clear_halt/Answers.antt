@@ -31,8 +31,8 @@ returns-clause-tells g c known = record {
   told = first_of (search rules, grind (arith, common_steps));
   did = first_of (search rules, grind (arith, common_steps));
   keeps = rw (← c.self.view_is) (record {
-    owning = owning_kept _ _ c.if-self.false c.clear_halt.ensures.through.entries (c.clear_halt.ensures.keeps known).worlds.addresses;
-    sound = sound_kept _ _ _ _ _ c.self.invariant c.clear_halt.ensures.through.entries (c.clear_halt.ensures.went known) (c.clear_halt.ensures.keeps known) (λ still. still);
-    backlog = (c.clear_halt.ensures.keeps known).worlds.backlog;
+    owning = owning_kept _ _ c.if-self.false c.clear_halt.ensures.through.entries (c.clear_halt.ensures.clears known).keeps.worlds.addresses;
+    sound = sound_kept _ _ _ _ _ c.self.invariant c.clear_halt.ensures.through.entries (c.clear_halt.ensures.clears known).went (c.clear_halt.ensures.clears known).keeps (λ still. still);
+    backlog = (c.clear_halt.ensures.clears known).keeps.worlds.backlog;
   });
 }

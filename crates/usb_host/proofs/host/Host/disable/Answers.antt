@@ -12,17 +12,16 @@ use Rattle.usb_host.specs.Ports.{StandsAt}
 use Rattle.usb_host.proofs.Handlings.{none_disabled, port_disabled, port_failed, not_disabled}
 use Rattle.usb_host.proofs.Causes.{told_caused, untold_caused}
 use Rattle.usb_host.proofs.DroppedHubs.{still_sound, told_backlog, told_dropped, untold_droppable, nowhere_dropped}
-use Rattle.usb_host.proofs.Joins.{goes_none}
+use Rattle.usb_enum.proofs.Interface.{order_most}
+use Rattle.usb_host.proofs.Joins.{goes_by, goes_none}
 use Rattle.usb_host.proofs.host.Host.disable.Goals as goal
 use Rattle.usb_host.proofs.host.Host.disable.Goals.{in-Ok, in-Err-Bus, in-Err}
-
-pub returns-in_default-clause-goes : goal.returns-in_default-clause-goes
-returns-in_default-clause-goes g c known = goes_none write_bound c.args.self.now
 
 pub returns-in_default-clause-disables : goal.returns-in_default-clause-disables
 returns-in_default-clause-disables g c known =
     let none = nowhere_dropped c.args.path.now c.args.self.now (c.in_default.ensures.none known) in
     record {
+      goes = goes_none write_bound c.args.self.now;
       owned = none_disabled c.args.path.now c.args.self.now (c.in_default.ensures.none known);
       devices = stays_none c.args.self.now.world;
       done = λ d e. absurd (cc e);
@@ -42,6 +41,7 @@ returns-clause-disables g c known =
     let devices = (c.clear_port.ensures.addresses known).devices in
     rw (← c.self.view_is) (elim c.match-clear_port.branch [
       | in-Ok w ↦ rw w.result-is (record {
+        goes = goes_by _ write_bound _ _ went (order_most port) refl;
         owned = port_disabled c.args.path.now c.in-Some.port _ _ s refl (subst (λ r. KeepsCleared port PORT_ENABLE old r new) w.in-Ok.is (c.clear_port.ensures.addresses known));
         devices = devices;
         done = λ d e. told_dropped _ c.args.path.now c.in-Some.port _ _ s refl went keeps devices d (subst (λ r. CallsPort port (clear_call PORT_ENABLE) old r new) w.in-Ok.is (c.clear_port.ensures.ports known));
@@ -50,6 +50,7 @@ returns-clause-disables g c known =
         caused = λ d fair pends caused. told_caused _ c.args.path.now c.in-Some.port _ _ s refl went keeps devices d fair (subst (λ r. CallsPort port (clear_call PORT_ENABLE) old r new) w.in-Ok.is (c.clear_port.ensures.ports known)) pends caused;
       })
       | in-Err-Bus w ↦ rw w.result-is (record {
+        goes = goes_by _ write_bound _ _ went (order_most port) refl;
         owned = not_disabled c.args.path.now _ _ (Bus w.in-Err-Bus.fault) keeps;
         devices = devices;
         done = λ d e. absurd (cc e);
@@ -59,6 +60,7 @@ returns-clause-disables g c known =
         caused = λ d fair pends caused. tt;
       })
       | in-Err w ↦ rw w.result-is (record {
+        goes = goes_by _ write_bound _ _ went (order_most port) refl;
         owned = port_failed c.args.path.now c.in-Some.port _ _ 1 w.in-Err.field-0 s (w.in-Err.ensures.effect known) keeps;
         devices = devices;
         done = λ d e. absurd (cc e);

@@ -1,43 +1,55 @@
-use Rattle.std.proofs.Common.{◌∙◌, sym, ap, subst}
-use Rattle.usb_resources.specs.Pool.{IsFull}
+use Rattle.std.proofs.Common.{◌≡◌, ◌∙◌, List, ℕ, sym, ap, subst}
+use Rattle.std.proofs.lemmas.Grind.{common_steps}
+use Rattle.std.proofs.Common.{arith, rules}
+use Rattle.usb_resources.specs.Pool.{Addresses, HasAddresses, IsFull}
 use Rattle.usb_table.proofs.Interface.{none_apart}
-use Rattle.usb_table.specs.Entries.{without}
+use Rattle.usb_table.specs.Entries.{Entries, without}
 use Rattle.usb_table.specs.Table.{Table, pipes_at}
 use Rattle.usb_world.proofs.Interface.{at_or_below_way}
-use Rattle.usb_host.specs.Transfers.{table_in}
+use Rattle.usb_host.specs.Accounts.{Accounts}
+use Rattle.usb_host.specs.Agreement.{Agrees}
 use Rattle.usb_host.specs.Hosting.{Hosting}
+use Rattle.usb_host.specs.Transfers.{table_in}
 use Rattle.usb_host.proofs.Agreements.{nested_without}
 use Rattle.usb_host.proofs.RisingEntries.{rises_without}
 use Rattle.usb_host.proofs.host.Host.forget.Goals as goal
 
-pub returns-clause-rest : goal.returns-clause-rest
-returns-clause-rest g c =
-    ap (λ (t : Table). t.entries) c.in_default.ensures.same ∙ sym (none_apart c.args.path.now c.entries.self-inside.table.entries c.in_default.ensures.none) ∙ c.entries.invariant.rest
-    ∙ ap (λ (h : Hosting). without c.args.path.now h.entries) c.self.view_is
+-- what is left agrees with the addresses that are left
+agrees_left : (path : List ℕ) (old : Entries) (before : Addresses) (new : Entries)
+    (after : Addresses) → Agrees old before → new ≡ without path old → Accounts new after
+    → HasAddresses after → Agrees new after
+agrees_left path old before new after agrees left accounts range = record {
+  rises = rw left (rises_without path old agrees.rises);
+  range = range;
+  accounts = accounts;
+  nested = rw left (nested_without path old agrees.nested);
+}
 
 pub invariant_of-self : goal.invariant_of-self
 invariant_of-self g c =
-    let left = ap (λ (t : Table). t.entries) c.in_default.ensures.same ∙ sym (none_apart c.args.path.now c.entries.self-inside.table.entries c.in_default.ensures.none) ∙ c.entries.invariant.rest in
-    record {
-      rises = rw left (rises_without c.args.path.now c.self.inside.table.entries c.self.invariant.rises);
-      range = c.entries.invariant.range;
-      accounts = rw c.in_default.ensures.same c.entries.invariant.accounts;
-      nested = rw left (nested_without c.args.path.now c.self.inside.table.entries c.self.invariant.nested);
-    }
+    let i = c.entries.invariant in
+    let left = ap (λ (t : Table). t.entries) c.in_default.ensures.same
+    ∙ sym (none_apart c.args.path.now c.entries.self-inside.table.entries c.in_default.ensures.none)
+    ∙ i.rest in
+    agrees_left c.args.path.now c.self.inside.table.entries c.self.inside.pool _ _ c.self.invariant
+    left (rw c.in_default.ensures.same i.accounts) i.range
 
-pub returns-clause-agrees : goal.returns-clause-agrees
-returns-clause-agrees g c =
-    let left = ap (λ (t : Table). t.entries) c.in_default.ensures.same ∙ sym (none_apart c.args.path.now c.entries.self-inside.table.entries c.in_default.ensures.none) ∙ c.entries.invariant.rest in
+pub returns : goal.returns
+returns g c =
+    let i = c.entries.invariant in
+    let same = c.in_default.ensures.same in
+    let left = ap (λ (t : Table). t.entries) same
+    ∙ sym (none_apart c.args.path.now c.entries.self-inside.table.entries c.in_default.ensures.none)
+    ∙ i.rest in
     record {
-      rises = rw left (rises_without c.args.path.now c.self.inside.table.entries c.self.invariant.rises);
-      range = c.entries.invariant.range;
-      accounts = rw c.in_default.ensures.same c.entries.invariant.accounts;
-      nested = rw left (nested_without c.args.path.now c.self.inside.table.entries c.self.invariant.nested);
+      others = first_of (search rules, grind (arith, common_steps));
+      gone = rw same c.in_default.ensures.none;
+      rest = left ∙ ap (λ (h : Hosting). without c.args.path.now h.entries) c.self.view_is;
+      full = λ full. subst (λ (h : Hosting). IsFull h.addresses) c.self.view_is (i.full full);
+      pipes = λ q away.
+          ap (λ (t : Table). pipes_at q t) same
+          ∙ i.pipes q (at_or_below_way q c.args.path.now ∙ away)
+          ∙ ap (λ (h : Hosting). pipes_at q (table_in h)) c.self.view_is;
+      agrees = agrees_left c.args.path.now c.self.inside.table.entries c.self.inside.pool _ _
+          c.self.invariant left (rw same i.accounts) i.range;
     }
-
-pub returns-clause-freed : goal.returns-clause-freed
-returns-clause-freed g c = record {
-  full = λ full. subst (λ (h : Hosting). IsFull h.addresses) c.self.view_is (c.entries.invariant.full full);
-  pipes = λ q away.
-      ap (λ (t : Table). pipes_at q t) c.in_default.ensures.same ∙ c.entries.invariant.pipes q (at_or_below_way q c.args.path.now ∙ away) ∙ ap (λ (h : Hosting). pipes_at q (table_in h)) c.self.view_is;
-}

@@ -30,8 +30,8 @@ returns-clause-tells g c known = record {
   told = first_of (search rules, grind (arith, common_steps));
   did = first_of (search rules, grind (arith, common_steps));
   keeps = rw (← c.self.view_is) (record {
-    owning = owning_kept _ _ c.if-self.false c.receive.ensures.through.entries (c.receive.ensures.keeps known).worlds.addresses;
-    sound = sound_kept _ _ _ _ _ c.self.invariant c.receive.ensures.through.entries (c.receive.ensures.went known) (c.receive.ensures.keeps known) (λ still. still);
-    backlog = (c.receive.ensures.keeps known).worlds.backlog;
+    owning = owning_kept _ _ c.if-self.false c.receive.ensures.through.entries (c.receive.ensures.receives known).keeps.worlds.addresses;
+    sound = sound_kept _ _ _ _ _ c.self.invariant c.receive.ensures.through.entries (c.receive.ensures.receives known).went (c.receive.ensures.receives known).keeps (λ still. still);
+    backlog = (c.receive.ensures.receives known).keeps.worlds.backlog;
   });
 }

@@ -5,6 +5,7 @@ use Rattle.usb_host.specs.Bounds.{round_bound}
 use Rattle.usb_host.specs.Budget.{PaysRound}
 use Rattle.usb_host.specs.Hosting.{Hosting}
 use Rattle.usb_host.proofs.RoundPayments.{pays_stopped, stopped_pays}
+use Rattle.usb_host.specs.Progress.{HostWent}
 use Rattle.usb_host.specs.Service.{DidParts}
 use Rattle.usb_host.specs.Soundness.{RoundsSound}
 use Rattle.usb_host.proofs.IdleRounds.{round_rests}
@@ -30,24 +31,34 @@ pub returns-clause-stopped : goal.returns-clause-stopped
 returns-clause-stopped g c = first_of (search rules, grind (arith, common_steps))
 
 pub returns-clause-tells : goal.returns-clause-tells
-returns-clause-tells g c known = record {
-  stopped = returns-clause-stopped g c;
-  went = first_of (search rules, grind (arith, common_steps));
-  told = first_of (search rules, grind (arith, common_steps));
-  did =
-      subst (λ (h : Hosting). IfOk c.parts-round.result (λ round. DidParts round c.args.self.now (record h { stopped = c.is_err-self-inside.result }))) (sym c.self-2.view_is)
-      (parts_done c.parts-round.result c.args.self.now c.parts-round.new.self c.is_err-self-inside.result (ap (λ (h : Hosting). h.stopped) (sym c.self.view_is) ∙ c.if-self.false) (c.parts-round.ensures.goes known) c.is_err-self-inside.ensures.value
-      (c.parts-round.ensures.did known) (c.parts-round.ensures.parts known) (c.parts-round.ensures.keeps known).owned);
-  keeps = record {
-    owning = round_owning c.parts-round.result c.args.self.now c.parts-round.new.self _ (ap (λ (h : Hosting). h.stopped) (sym c.self.view_is) ∙ c.if-self.false) (ap (λ (h : Hosting). h.world) c.self-2.view_is)
-        (ap (λ (h : Hosting). h.entries) c.self-2.view_is) c.is_err-self-inside.ensures.value (c.parts-round.ensures.keeps known).owned;
-    sound = rounds_stopped c.parts-round.result c.args.self.now _ c.is_err-self-inside.result
-        (subst (λ (h : Hosting). RoundsSound c.args.self.now c.parts-round.result h) (sym c.self-2.view_is) (c.parts-round.ensures.keeps known).sound);
-    pays = λ w plan x.
-        pays_stopped w plan c.parts-round.result c.args.self.now _ c.is_err-self-inside.result
-        (subst (λ (h : Hosting). PaysRound w plan c.args.self.now c.parts-round.result h) (sym c.self-2.view_is) ((c.parts-round.ensures.parts known).pays w plan x));
-    rests = λ entries none.
-        subst (λ (h : Hosting). record h { stopped = c.is_err-self-inside.result } ≡ c.args.self.now) (sym c.self-2.view_is)
-        (round_rests c.parts-round.result c.args.self.now c.parts-round.new.self c.is_err-self-inside.result (ap (λ (h : Hosting). h.stopped) (sym c.self.view_is) ∙ c.if-self.false) c.is_err-self-inside.ensures.value ((c.parts-round.ensures.parts known).idle entries none));
-  };
-}
+returns-clause-tells g c known =
+    let x = c.parts-round.ensures.parts known in
+    let a = c.args.self.now in
+    let b = c.parts-round.new.self in
+    let result = c.parts-round.result in
+    let stopped = c.is_err-self-inside.result in
+    let going = ap (λ (h : Hosting). h.stopped) (sym c.self.view_is) ∙ c.if-self.false in
+    let value = c.is_err-self-inside.ensures.value in
+    let sound : RoundsSound a result b = record { keeps = x.keeps.part.sound; rest = x.keeps.rest } in
+    record {
+      stopped = returns-clause-stopped g c;
+      went = subst (λ (h : Hosting). HostWent round_bound a h) (sym c.self-2.view_is)
+          x.keeps.part.goes.went;
+      told = first_of (search rules, grind (arith, common_steps));
+      did = subst (λ (h : Hosting). IfOk result
+          (λ round. DidParts round a (record h { stopped = stopped }))) (sym c.self-2.view_is)
+          (parts_done result a b stopped going value x);
+      keeps = record {
+        owning = round_owning result a b _ going (ap (λ (h : Hosting). h.world) c.self-2.view_is)
+            (ap (λ (h : Hosting). h.entries) c.self-2.view_is) value x.keeps.part.owned;
+        sound = rounds_stopped result a _ stopped
+            (subst (λ (h : Hosting). RoundsSound a result h) (sym c.self-2.view_is) sound);
+        pays = λ w plan works.
+            pays_stopped w plan result a _ stopped
+            (subst (λ (h : Hosting). PaysRound w plan a result h) (sym c.self-2.view_is)
+            (x.pays w plan works));
+        rests = λ entries none.
+            subst (λ (h : Hosting). record h { stopped = stopped } ≡ a) (sym c.self-2.view_is)
+            (round_rests result a b stopped going value (x.idle entries none));
+      };
+    }

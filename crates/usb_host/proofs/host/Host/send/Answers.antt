@@ -30,8 +30,8 @@ returns-clause-tells g c known = record {
   told = first_of (search rules, grind (arith, common_steps));
   did = first_of (search rules, grind (arith, common_steps));
   keeps = rw (← c.self.view_is) (record {
-    owning = owning_kept _ _ c.if-self.false c.send.ensures.through.entries (c.send.ensures.keeps known).worlds.addresses;
-    sound = sound_kept _ _ _ _ _ c.self.invariant c.send.ensures.through.entries (c.send.ensures.went known) (c.send.ensures.keeps known) (λ still. still);
-    backlog = (c.send.ensures.keeps known).worlds.backlog;
+    owning = owning_kept _ _ c.if-self.false c.send.ensures.through.entries (c.send.ensures.sends known).keeps.worlds.addresses;
+    sound = sound_kept _ _ _ _ _ c.self.invariant c.send.ensures.through.entries (c.send.ensures.sends known).went (c.send.ensures.sends known).keeps (λ still. still);
+    backlog = (c.send.ensures.sends known).keeps.worlds.backlog;
   });
 }

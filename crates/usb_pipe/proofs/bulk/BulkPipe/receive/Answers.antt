@@ -4,7 +4,9 @@ use Rattle.usb_pipe.proofs.BulkTransfers.{receive_told, receives_by}
 use Rattle.usb_pipe.proofs.bulk.BulkPipe.receive.Goals as goal
 
 pub returns-clause-transfer : goal.returns-clause-transfer
-returns-clause-transfer g c known = receive_told _ _ _ _ _ _ (subst (λ p. 1 ≤ p.max) c.self.view_is c.self.invariant.least) (receives_by _ _ _ _ _ _ (search rules) (search rules) (search rules) (search rules))
+returns-clause-transfer g c known = receive_told _ _ _ _ _ _ (subst (λ p. 1 ≤ p.max) c.self.view_is
+    c.self.invariant.least) (receives_by _ _ _ _ _ _ (search rules) (search rules) (search rules)
+    (search rules) (g.met.B.Bus.settled known c.args.bus.now))
 
 pub returns-then-is_broken : goal.returns-then-is_broken
 returns-then-is_broken g c = record { same = refl; went = λ known. went_wider 0 _ went_none (omega arith); transfer = λ known. receive_told _ _ _ _ _ _ (subst (λ p. 1 ≤ p.max) c.self.view_is c.self.invariant.least) (search rules) }

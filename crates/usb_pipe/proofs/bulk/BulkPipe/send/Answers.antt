@@ -5,7 +5,8 @@ use Rattle.usb_pipe.proofs.BulkTransfers.{send_told, sends_by}
 use Rattle.usb_pipe.proofs.bulk.BulkPipe.send.Goals as goal
 
 pub returns-clause-transfer : goal.returns-clause-transfer
-returns-clause-transfer g c known = send_told _ _ _ _ _ _ (sends_by _ _ _ _ _ _ (search rules) (search rules) (search rules) (search rules))
+returns-clause-transfer g c known = send_told _ _ _ _ _ _ (sends_by _ _ _ _ _ _ (search rules)
+    (search rules) (search rules) (search rules) (g.met.B.Bus.settled known c.args.bus.now))
 
 pub returns-then-is_broken : goal.returns-then-is_broken
 returns-then-is_broken g c = record { same = refl; went = λ known. went_wider 0 _ went_none (omega arith); transfer = λ known. send_told _ _ _ _ _ _ (search rules) }

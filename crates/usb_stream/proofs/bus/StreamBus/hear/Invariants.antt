@@ -7,7 +7,9 @@ use Rattle.usb_stream.proofs.bus.StreamBus.hear.Given as goal
 -- the statuses so far are kept
 abbrev pub invariant-lines : goal.invariant-lines
 invariant-lines g l = record {
-  told : ToldSo l.asked l.fn.self.roots (g.R.Read.remaining (inner_of l.fn.self.reader)) (g.R.Read.remaining (inner_of l.self.reader)) l.fn.self.statuses l.self.statuses;
-  same : kept_of l.self ≡ record (kept_of l.fn.self) { statuses = l.self.statuses };
+  told : ToldSo l.asked (g.R.Read.remaining (inner_of l.fn.self.reader))
+      (g.R.Read.remaining (inner_of l.self.reader)) (kept_of l.fn.self) (kept_of l.self);
+  same : kept_of l.self
+      ≡ record (kept_of l.fn.self) { statuses = l.self.statuses; lines = l.self.lines };
   writer : l.self.writer ≡ l.fn.self.writer;
 }

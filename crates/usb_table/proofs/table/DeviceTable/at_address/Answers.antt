@@ -18,7 +18,7 @@ returns-in-Some-clause-some c =
     let s = c.self.inside in
     let is = subst (λ (a : ℕ). key_of_address s.indexes.by_address.entries a ≡ Some c.in-Some.key.now) c.number.ensures.value (sym c.in-Some.ensures.value) in
     subst (λ (t : Table). HasDevice c.args.address c.finding.result.now t.entries) c.self.view_is
-    (has_device (findings (get s.entries)) s.indexes.by_path.entries s.indexes.by_address.entries c.args.address c.in-Some.key.now c.finding.result.now c.self.invariant.0 is (found_in (get s.entries) c.in-Some.key.now c.index.result.now c.index.ensures ∙ ap Some (sym c.finding.ensures.value)))
+    (has_device (findings (get s.entries)) s.indexes.by_path.entries s.indexes.by_address.entries c.args.address c.in-Some.key.now c.finding.result.now c.self.invariant.0 is (found_in (get s.entries) c.in-Some.key.now c.index.result.now c.index.ensures ∙ ap Some (sym c.finding.ensures)))
 
 pub returns-in-None-clause-none : goal.returns-in-None-clause-none
 returns-in-None-clause-none c =

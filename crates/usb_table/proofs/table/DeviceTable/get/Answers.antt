@@ -9,10 +9,17 @@ pub returns-in-Some-clause-value : goal.returns-in-Some-clause-value
 returns-in-Some-clause-value c =
     let s = c.self.inside in
     rw (← c.self.view_is)
-    (ap Some c.finding.ensures.value
+    (ap Some c.finding.ensures
     ∙ sym (found_at (findings (get s.entries)) c.args.path.now s.indexes.by_path.entries c.in-Some.key.now c.index.result.now.finding (sym c.in-Some.ensures.value) (found_in (get s.entries) c.in-Some.key.now c.index.result.now c.index.ensures)))
 
 pub returns-in-None-clause-value : goal.returns-in-None-clause-value
 returns-in-None-clause-value c =
     let s = c.self.inside in
     rw (← c.self.view_is) (sym (none_at (findings (get s.entries)) c.args.path.now s.indexes.by_path.entries (sym c.in-None.ensures.value)))
+
+pub returns-in-Some-clause-sound : goal.returns-in-Some-clause-sound
+returns-in-Some-clause-sound c =
+    let sound =
+    (c.self.invariant.1 c.args.path.now c.in-Some.key.now c.index.result.now
+    (sym c.in-Some.ensures.value) c.index.ensures).0 in
+    rw c.finding.ensures sound

@@ -4,7 +4,8 @@ use Rattle.std.specs.Prelude.{Result, Ok, Err, OnErr, IfSome}
 use Rattle.slab.specs.Slab.{Slab, get, Updates}
 use Rattle.usb_table.specs.Entries.{has_at}
 use Rattle.usb_table.specs.Findings.{address_found, HasNewAddress}
-use Rattle.usb_table.specs.Keys.{Standing, findings, key_of_path, key_of_address, Enters}
+use Rattle.usb_table.specs.declared.entry.Entry.{Entry}
+use Rattle.usb_table.specs.Keys.{IsPiped, findings, key_of_path, key_of_address, Enters}
 use Rattle.usb_table.specs.KnownPorts.{is_below_hub}
 use Rattle.usb_table.specs.Pipes.{ArePipesOf, new_pipes}
 use Rattle.usb_table.specs.Table.{Table, entered}
@@ -22,13 +23,16 @@ insert-requires c =
     (free_key (findings (get s.entries)) s.indexes.by_path.entries s.indexes.by_address.entries c.args.finding c.self.invariant.0
     (subst (λ (t : Table). HasNewAddress c.args.finding t.entries) (sym c.self.view_is) c.requires.address))
 
+pub invariant_of-self : goal.invariant_of-self
+invariant_of-self c = rw c.reserve.ensures.rest_kept c.self.invariant
+
 pub invariant_of-self-in_err-insert : goal.invariant_of-self-in_err-insert
 invariant_of-self-in_err-insert c = rw (c.in_err-insert.ensures.paths, c.in_err-insert.ensures.addresses, c.reserve.ensures.rest_kept) c.self.invariant
 
 pub returns-in_err-insert-clause-err : goal.returns-in_err-insert-clause-err
 returns-in_err-insert-clause-err c = on_err c.from_residual-in_err-insert.result _ (rw (c.in_err-insert.ensures.paths, c.reserve.ensures.rest_kept) c.self.view_is)
 
-abbrev new_standing : goal.After-insert_reserved → Standing
+abbrev new_standing : goal.After-insert_reserved → Entry
 new_standing c = record { finding = c.args.finding; pipes = new_pipes c.args.finding (is_below_hub c.args.path) }
 
 -- the entry that came, for the lemmas
@@ -36,7 +40,7 @@ record Come (c : goal.After-insert_reserved) : Type 0 where
   vacant : get c.self.inside.entries c.vacant_key-key.result ≡ None
   changed : get c.insert_reserved.new.self c.vacant_key-key.result ≡ Some (new_standing c)
   others : (k : ℕ) → k ≢ c.vacant_key-key.result → get c.insert_reserved.new.self k ≡ get c.self.inside.entries k
-  fits : ArePipesOf c.args.finding (is_below_hub c.args.path) (new_pipes c.args.finding (is_below_hub c.args.path))
+  fits : IsPiped c.args.path (new_standing c)
   away : key_of_path c.self.inside.indexes.by_path.entries c.args.path ≡ None
   free : IfSome (address_found c.args.finding) (λ a. key_of_address c.self.inside.indexes.by_address.entries a ≡ None)
   enters : Enters c.args.path (address_found c.args.finding) c.vacant_key-key.result c.self.inside.indexes c.insert.new.self
@@ -50,10 +54,15 @@ came c =
     let is : c.new-entry.result ≡ new_standing c =
     subst (λ b. c.new-entry.result ≡ record { finding = c.args.finding; pipes = new_pipes c.args.finding b }) c.is_below_hub.ensures c.new-entry.ensures.value in
     record {
-      vacant = subst (λ (t : Slab Standing). get t c.vacant_key-key.result ≡ None) kept c.vacant_key-key.ensures.vacant;
+      vacant = subst (λ (t : Slab Entry). get t c.vacant_key-key.result ≡ None) kept c.vacant_key-key.ensures.vacant;
       changed = updates.changed ∙ ap Some is;
-      others = λ k ne. updates.others k ne ∙ ap (λ (t : Slab Standing). get t k) kept;
-      fits = subst (λ (x : Standing). ArePipesOf c.args.finding (is_below_hub c.args.path) x.pipes) is (subst (λ b. ArePipesOf c.args.finding b c.new-entry.result.pipes) c.is_below_hub.ensures c.new-entry.ensures.fits);
+      others = λ k ne. updates.others k ne ∙ ap (λ (t : Slab Entry). get t k) kept;
+      fits = (
+        c.requires.sound,
+        subst (λ (x : Entry). ArePipesOf c.args.finding (is_below_hub c.args.path) x.pipes) is
+            (subst (λ b. ArePipesOf c.args.finding b c.new-entry.result.pipes) c.is_below_hub.ensures
+            c.new-entry.ensures.fits),
+      );
       away = away_key (findings (get s.entries)) c.args.path s.indexes.by_path.entries (subst (λ (t : Table). has_at c.args.path t.entries ≡ false) (sym c.self.view_is) c.requires.away);
       free = free_key (findings (get s.entries)) s.indexes.by_path.entries s.indexes.by_address.entries c.args.finding c.self.invariant.0 (subst (λ (t : Table). HasNewAddress c.args.finding t.entries) (sym c.self.view_is) c.requires.address);
       enters = subst (λ (a : Option ℕ). Enters c.args.path a c.vacant_key-key.result s.indexes c.insert.new.self) c.address_number-address.ensures c.in_ok-insert.ensures.ok;

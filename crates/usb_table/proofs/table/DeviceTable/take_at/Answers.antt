@@ -32,7 +32,7 @@ went : (c : goal.After-into_finding) → Gone c
 went c = record {
   was = sym c.in_ok-key.ensures.value;
   path_keys = λ q. ap (λ (m : BTreeMap (List ℕ) ℕ). key_of_path m.entries q) c.remove_address.ensures.paths ∙ c.in_ok-key.ensures.updates.0 q;
-  address_keys = subst (λ (a : Option ℕ). UpdatesAddress a None c.self.inside.indexes.by_address.entries c.remove_address.new.self.by_address.entries) (c.address_number.ensures ∙ ap address_found c.finding.ensures.value) c.remove_address.ensures.keys;
+  address_keys = subst (λ (a : Option ℕ). UpdatesAddress a None c.self.inside.indexes.by_address.entries c.remove_address.new.self.by_address.entries) (c.address_number.ensures ∙ ap address_found c.finding.ensures) c.remove_address.ensures.keys;
 }
 
 pub invariant_of-self-2 : goal.invariant_of-self-2

@@ -1,0 +1,273 @@
+-- What is left where a hub is dropped.
+use Rattle.std.proofs.Common.{◌≡◌, ◌∙◌, ◌-◌, ◌*◌, ◌≤◌, arith, refl, ap, subst, true, false, Bool, ℕ, List, length, Option, None, Some, Result, Ok, Err}
+use Rattle.std.specs.Prelude.{IsErr, IsSome, IsSomeAnd}
+use Rattle.std.specs.BTreeMap.{insert_entry}
+use Rattle.usb_port.specs.Order.{parent_of, path_cmp}
+use Rattle.usb_port.specs.Path.{IsPath}
+use Rattle.usb_world.specs.Paths.{is_way, pend}
+use Rattle.usb_world.specs.World.{World}
+use Rattle.usb_address.specs.Ownership.{KeepsAddresses}
+use Rattle.usb_address.proofs.Interface.{keeps_none, keeps_then}
+use Rattle.usb_pipe.specs.Control.{write_bound}
+use Rattle.usb_hub.specs.Addresses.{KeepsDevices}
+use Rattle.usb_hub.proofs.Interface.{stays_none}
+use Rattle.usb_backlog.specs.Marks.{KeepsAll}
+use Rattle.usb_backlog.proofs.Interface.{all_none, all_then}
+use Rattle.usb_enum.specs.declared.cause.Cause.TheVariants.{Lost}
+use Rattle.usb_enum.specs.declared.fault.EnumFault.TheVariants.{ParentLost}
+use Rattle.usb_enum.specs.declared.finding.Finding.TheVariants.{Refused}
+use Rattle.usb_enum.proofs.Interface.{devices_then, went_sound}
+use Rattle.usb_table.specs.Entries.{without}
+use Rattle.usb_table.specs.Listing.{hub_facts_at}
+use Rattle.usb_table.specs.Table.{Table, entered}
+use Rattle.usb_host.specs.Bounds.{drop_bound}
+use Rattle.usb_host.specs.Hosting.{Hosting}
+use Rattle.usb_host.specs.PortHandling.{Climbs, DisablesOnWay}
+use Rattle.usb_host.specs.Ports.{Forgets}
+use Rattle.usb_host.specs.Progress.{AddsNoWork, HostGoes, Rests, waiting}
+use Rattle.usb_host.specs.Service.{DropsOne, FinishesAt}
+use Rattle.usb_host.specs.Soundness.{CausesBut, DropsSound, IsDroppable, IsFairTo}
+use Rattle.usb_host.specs.Transfers.{table_in}
+use Rattle.usb_host.specs.declared.fault.HostFault.{HostFault}
+use Rattle.usb_host.proofs.BulkPipes.{bulk_none}
+use Rattle.usb_host.proofs.Causes.{lost_drops}
+use Rattle.usb_host.proofs.Climbs.{parent_length}
+use Rattle.usb_host.proofs.DroppedHubs.{climb_caused, climb_sound, done_caused, if_err, top_absurd}
+use Rattle.usb_host.proofs.HandlingPayments.{hubs_dropped}
+use Rattle.usb_host.proofs.Handlings.{bares_above, drop_ends, drop_fails, hub_dropped, match_err}
+use Rattle.usb_host.proofs.HubCounts.{hubs-dropped}
+use Rattle.usb_host.proofs.Joins.{goes_forgotten, goes_none, goes_then}
+use Rattle.usb_host.proofs.Plugs.{plugs_none}
+use Rattle.usb_host.proofs.ServedWork.{rests_holds}
+use Rattle.usb_host.proofs.Services.{loses_parent}
+use Rattle.usb_host.proofs.WaitingDevices.{waiting-entered_other, waiting-without}
+
+-- The way up
+
+-- each port from the first one up to the path could not be told to pass nothing on
+pub record ClimbedTo (first path : List ℕ) (a b : Hosting) : Type 0 where
+  pub goes : HostGoes ((7 - length path) * write_bound) a b
+  pub keeps : KeepsAddresses a.world b.world
+  pub devices : KeepsDevices a.world b.world
+  pub sound : IsDroppable first a → IsDroppable path b
+  pub backlog : IsDroppable first a → b.world.fault ≡ None → KeepsAll a.world b.world
+  pub caused : IsDroppable first a → IsFairTo a.world b.world → pend a.world.roots first ≡ true
+      → CausesBut first a.world a.entries
+      → (pend b.world.roots path ≡ true) × CausesBut path b.world b.entries
+
+pub climbed_none : (first : List ℕ) (h : Hosting) → ClimbedTo first first h h
+climbed_none first h = record {
+  goes = goes_none ((7 - length first) * write_bound) h;
+  keeps = keeps_none h.world;
+  devices = stays_none h.world;
+  sound = λ d. d;
+  backlog = λ d still. all_none h.world;
+  caused = λ d fair pends caused. (pends, caused);
+}
+
+module _ (first path : List ℕ) (a b c : Hosting) (x : ClimbedTo first path a b)
+    (most : length path ≤ 7) (result : Result Bool HostFault)
+    (y : DisablesOnWay path b result c) where
+  climb_goes : 1 ≤ length path → HostGoes drop_bound a c
+  climb_goes least =
+      goes_then drop_bound ((7 - length path) * write_bound) write_bound a b c x.goes y.goes
+      (omega (arith, least, most))
+
+  climb_devices : KeepsDevices a.world c.world
+  climb_devices = devices_then write_bound a.world b.world c.world x.devices y.goes.went y.devices
+
+  climb_keeps : KeepsAddresses a.world c.world
+  climb_keeps = keeps_then a.world b.world c.world x.keeps y.owned.keeps
+
+  climb_backlog : IsDroppable first a → c.world.fault ≡ None → KeepsAll a.world c.world
+  climb_backlog d still =
+      all_then (x.backlog d (went_sound write_bound b.world c.world y.goes.went still))
+      (y.backlog (x.sound d) still)
+
+  pub climbed_on : (above : List ℕ) → result ≡ Ok false → parent_of path ≡ Some above
+      → ClimbedTo first above a c
+  climbed_on above is parent =
+      let one = parent_length path above parent in
+      record {
+        goes = goes_then ((7 - length above) * write_bound) ((7 - length path) * write_bound)
+            write_bound a b c x.goes y.goes (omega (arith, one, most));
+        keeps = climb_keeps;
+        devices = climb_devices;
+        sound = λ d. climb_sound path above b result c parent y is (x.sound d);
+        backlog = climb_backlog;
+        caused = λ d fair pends caused.
+            climb_caused path above b result c a.world x.goes.went y.goes.went parent y is
+            (x.sound d) fair (λ before. x.caused d before pends caused);
+      }
+
+  module _ (least : 1 ≤ length path) where
+    pub climb_fails : (other : Result (List ℕ) HostFault) → IsErr other → Climbs first a other c
+    climb_fails other e = record {
+      goes = climb_goes least;
+      bares = match_err other _ _ e climb_keeps;
+      devices = climb_devices;
+      sound = λ d. if_err other _ e;
+      backlog = climb_backlog;
+      caused = λ d fair pends caused. if_err other _ e;
+    }
+
+    module _ (on : is_way path first ≡ true) (r : Rests a b) where
+      -- the port was told to pass nothing on
+      pub climb_done : result ≡ Ok true → Climbs first a (Ok path) c
+      climb_done is = record {
+        goes = climb_goes least;
+        bares = bares_above first path a b c on r x.keeps (y.owned.done is);
+        devices = climb_devices;
+        sound = λ d. y.done (x.sound d) is;
+        backlog = climb_backlog;
+        caused = λ d fair pends caused.
+            done_caused path b result c a.world x.goes.went y.goes.went y is (x.sound d) fair
+            (λ before. x.caused d before pends caused);
+      }
+
+      -- it is a root port, and those are told
+      pub climb_top : result ≡ Ok false → parent_of path ≡ None → Climbs first a (Ok path) c
+      climb_top is root = record {
+        goes = climb_goes least;
+        bares = bares_above first path a b c on r x.keeps (y.owned.none is root);
+        devices = climb_devices;
+        sound = λ d. absurd (top_absurd path b result c root y is (x.sound d));
+        backlog = climb_backlog;
+        caused = λ d fair pends caused.
+            absurd (top_absurd path b result c root y is (x.sound d));
+      }
+
+-- A hub is dropped
+
+not_dropped : (hub : List ℕ) (fault : HostFault) (a b : Hosting) → DropsSound hub a (Err fault) b
+not_dropped hub fault a b = record {
+  sound = λ d. tt;
+  backlog = λ d. tt;
+  bulk = λ d. tt;
+  plugs = tt;
+  caused = λ d fair pends caused. tt;
+}
+
+-- no port was told
+pub drop_untold : (hub : List ℕ) (fault : HostFault) (a b : Hosting) → Rests a b
+    → Climbs hub a (Err fault) b → DropsOne hub a (Err fault) b
+drop_untold hub fault a b r x = record {
+  goes = x.goes;
+  holds = rests_holds drop_bound a b x.goes r;
+  hubs = tt;
+  owned = drop_fails hub a (Err fault) b refl x.bares;
+  sound = not_dropped hub fault a b;
+}
+
+module _ (hub lost : List ℕ) (a b c d : Hosting) (r : Rests a b) (x : Climbs hub a (Ok lost) b)
+    (f : Forgets lost b c)
+    (others : d ≡ record c { entries = d.entries; pipes = d.pipes; addresses = d.addresses }) where
+  drop_world : d.world ≡ c.world
+  drop_world = ap (λ (h : Hosting). h.world) others
+
+  drop_goes : HostGoes drop_bound a d
+  drop_goes =
+      goes_forgotten drop_bound a c d (goes_forgotten drop_bound a b c x.goes f.others) others
+
+  drop_holds : waiting d.entries ≤ waiting c.entries → AddsNoWork a d
+  drop_holds fewer =
+      let there = drop_world ∙ ap (λ (h : Hosting). h.world) f.others in
+      let before : waiting b.entries ≡ waiting a.entries =
+      ap (λ (h : Hosting). waiting h.entries) r in
+      let left : waiting c.entries ≡ waiting (without lost b.entries) = ap waiting f.rest in
+      rw there (omega (
+        arith,
+        before,
+        left,
+        fewer,
+        waiting-without lost b.entries,
+        x.goes.went.spends.served,
+        x.goes.went.spends.later,
+      ))
+
+  -- there is no memory to list it as lost
+  pub drop_unlisted : (fault : HostFault) → d.entries ≡ c.entries → DropsOne hub a (Err fault) d
+  drop_unlisted fault same =
+      let fewer = ap waiting same in
+      let world = drop_world ∙ ap (λ (h : Hosting). h.world) f.others in
+      record {
+        goes = drop_goes;
+        holds = drop_holds (omega (arith, fewer));
+        hubs = tt;
+        owned = record {
+          lost = tt;
+          ends = λ o. ap (λ (w : World). w.shared) world ∙ (x.bares.bares o).single;
+          rooted = λ q at. tt;
+        };
+        sound = not_dropped hub fault a d;
+      }
+
+  pub drop_done : IsPath lost → table_in d ≡ entered lost (Refused Lost) (table_in c)
+      → DropsOne hub a (Ok tt) d
+  drop_done path table =
+      let entries : d.entries ≡ insert_entry path_cmp c.entries lost (Refused Lost) =
+      ap (λ (t : Table). t.entries) table in
+      let more = waiting-entered_other lost (Refused Lost) c.entries refl in
+      let entry = ap waiting entries in
+      let left = f.rest ∙ ap (λ (h : Hosting). without lost h.entries) r in
+      let drops = drop_ends hub lost a b c d path r x.goes.went.spends.roots x.bares f.others
+      f.rest f.gone drop_world entries in
+      record {
+        goes = drop_goes;
+        holds = drop_holds (omega (arith, more, entry));
+        hubs = λ some.
+            hubs-dropped lost hub a.entries c.entries d.entries x.bares.on left entries some;
+        owned = drops;
+        sound = lost_drops lost b c d path.0 f.others f.rest f.pipes f.gone drop_world table hub a
+            r x.goes.went.spends.onward x drops;
+      }
+
+-- A port was handled
+
+pub finish_done : (path : List ℕ) (h : Hosting) → FinishesAt path (Ok tt) h (Ok tt) h
+finish_done path h = record {
+  goes = goes_none drop_bound h;
+  holds = omega arith;
+  drops = record {
+    owned = record { ends = λ o. o; rooted = λ r within. r };
+    sound = λ p. p;
+    backlog = λ p still. all_none h.world;
+    bulk = λ p still. bulk_none h;
+    plugs = plugs_none h;
+    caused = λ p fair q. q;
+  };
+  left = refl;
+  fewer = λ is. absurd (cc is);
+}
+
+-- its hub was lost, and is dropped
+pub finish_lost : (path hub : List ℕ) (a b : Hosting) (result : Result (Unit {0}) HostFault)
+    → parent_of path ≡ Some hub → DropsOne hub a result b
+    → FinishesAt path (Err ParentLost) a result b
+finish_lost path hub a b result above x =
+    let at = λ (p : IsSomeAnd (parent_of path) (λ hub. IsDroppable hub a)).
+    subst (λ o. IsSomeAnd o (λ hub. IsDroppable hub a)) above p in
+    record {
+      goes = x.goes;
+      holds = x.holds;
+      drops = record {
+        owned = hub_dropped path hub a result b above x.owned;
+        sound = λ p. x.sound.sound (at p);
+        backlog = λ p. x.sound.backlog (at p);
+        bulk = λ p. x.sound.bulk (at p);
+        plugs = x.sound.plugs;
+        caused = λ p fair q.
+            let e = subst (λ o. IsSomeAnd o (λ hub. (pend a.world.roots hub ≡ true)
+            × CausesBut hub a.world a.entries)) above q in
+            x.sound.caused (at p) fair e.0 e.1;
+      };
+      left = loses_parent path hub a.entries b.entries result above x.owned.lost;
+      fewer = λ is has.
+          hubs_dropped result hub a b x.hubs
+          (subst (λ o. IsSomeAnd o (λ hub. IsSome (hub_facts_at hub a.entries))) above has);
+    }
+
+-- a port whose hub was lost is no root port
+pub no_parent : (o : Option (List ℕ)) {P : Type 0} → o ≡ None → IsSome o → P
+no_parent None is some = absurd (cc some)
+no_parent (Some hub) is some = absurd (cc is)

@@ -1,0 +1,333 @@
+-- What the serving and the handling of a port leave.
+use Rattle.std.proofs.Common.{◌≡◌, ◌∙◌, ◌+◌, ◌*◌, ◌≤◌, arith, inr, refl, true, false, ℕ, List, Option, Result, Ok, Err}
+use Rattle.std.specs.Prelude.{IsErr}
+use Rattle.usb_port.specs.declared.status.PortStatus.{PortStatus}
+use Rattle.usb_address.proofs.Interface.{keeps_then}
+use Rattle.usb_pipe.specs.Control.{write_bound}
+use Rattle.usb_enum.specs.Bounds.{read_bound}
+use Rattle.usb_enum.specs.declared.fault.EnumFault.{EnumFault}
+use Rattle.usb_enum.specs.declared.fault.EnumFault.TheVariants.{ParentLost}
+use Rattle.usb_enum.specs.declared.finding.Accepted.{Accepted}
+use Rattle.usb_enum.proofs.Interface.{went_sound}
+use Rattle.usb_table.specs.declared.known.KnownPort.{KnownPort}
+use Rattle.usb_host.specs.Backlog.{hubs}
+use Rattle.usb_host.specs.Bounds.{drop_bound, handling_bound, look_bound, serving_bound}
+use Rattle.usb_host.specs.Changes.{has_failed}
+use Rattle.usb_host.specs.Hosting.{Hosting}
+use Rattle.usb_host.specs.Ownership.{KeepsPort, PortOwned}
+use Rattle.usb_host.specs.PortHandling.{ServesSound, Watches}
+use Rattle.usb_host.specs.Ports.{EndsAs, IsDue, StandsAt, StandsNowhere, Waits}
+use Rattle.usb_host.specs.Progress.{HostWent, Rests}
+use Rattle.usb_host.specs.Requests.{ClearsOwn, SettlesPort, ShowsPort, TidiesPort}
+use Rattle.usb_host.specs.Service.{EndsAt, FinishesAt, HandlesPort, LooksAfterError, LooksAt, LooksOnceMore, ServesOwn, ServesPort}
+use Rattle.usb_host.specs.Soundness.{IsSound, Part}
+use Rattle.usb_host.specs.declared.fault.HostFault.{HostFault}
+use Rattle.usb_host.specs.declared.host.Round.{Round}
+use Rattle.usb_host.specs.declared.host.Round.TheVariants.{Quiet, Worked}
+use Rattle.usb_host.proofs.BulkPipes.{bulk_stays, bulk_then, stay_joined}
+use Rattle.usb_host.proofs.Causes.{causes_rests, tidied_caused, watched_caused}
+use Rattle.usb_host.proofs.Fairness.{fair_after, fair_before}
+use Rattle.usb_host.proofs.FinishedPorts.{finished_sound}
+use Rattle.usb_host.proofs.HandlingPayments.{handling_pays}
+use Rattle.usb_host.proofs.Handlings.{port_finished, port_rests, port_then, stays_rests}
+use Rattle.usb_host.proofs.HubCounts.{hubs-rest, none_rests}
+use Rattle.usb_host.proofs.Joins.{advances_then, goes_none, goes_then, holds_then, rests_then}
+use Rattle.usb_host.proofs.LookPayments.{within_on}
+use Rattle.usb_host.proofs.Looks.{handled, served_on}
+use Rattle.usb_host.proofs.OtherChanges.{failed_on, none_failed, watched_plain}
+use Rattle.usb_host.proofs.Plugs.{plugs_rests, plugs_then}
+use Rattle.usb_host.proofs.Parts.{part-fails, part-none, part-wider}
+use Rattle.usb_host.proofs.Payments.{on_err}
+use Rattle.usb_host.proofs.Roots.{waits_somewhere}
+use Rattle.usb_host.proofs.PortRequests.{requested-fails, requested-then, shows_shown, shows_watches}
+use Rattle.usb_host.proofs.ServedPorts.{rests_stands, tidied_port, tidied_stay, watched_lost, watched_sound, watched_stay}
+use Rattle.usb_host.proofs.ServedWork.{looked_on, rests_holds, status_lost_on, tidied_on}
+use Rattle.usb_host.proofs.ServePayments.{after_look, after_tidy, status_lost, told_there}
+use Rattle.usb_host.proofs.Services.{handled_at, handled_once, handles_at, serves_looked, serves_tidied, status_failed}
+
+-- A port is served
+
+-- its status was not told
+pub serve_fails : (path : List ℕ) (port : KnownPort) (a b : Hosting) (fault : EnumFault)
+    → StandsAt path port a → Rests a b → ShowsPort port.port a (Err fault) b
+    → ServesPort path port a (Err fault) b
+serve_fails path port a b fault s r x =
+    let watches = shows_watches port.port a b (Err fault) x in
+    let went = x.requested.goes.went in
+    let told = x.requested.told in
+    record {
+      requested = requested-fails (Unit {0}) port.port serving_bound (read_bound 4) a b fault
+          x.requested (omega arith);
+      on = λ due.
+          status_lost_on port.port a b r fault (shows_shown port.port a b (Err fault) x);
+      owned = port_rests path a (Err fault) b r went.spends.roots watches.addresses;
+      sound = record {
+        sound = watched_lost (read_bound 4) path port a b s r went fault watches told;
+        bulk = λ i on still.
+            bulk_stays a b
+            (watched_stay (read_bound 4) path port a b s r went (Err fault) watches i);
+        plugs = λ i still. plugs_rests (read_bound 4) a b went r;
+        caused = watched_caused (read_bound 4) path port a b s r went fault watches told;
+      };
+      pays = record {
+        pays = λ i ports still. status_lost path port a b s r went i ports fault watches;
+        few = λ i most plan. omega (arith, went.spends.most);
+      };
+      hubs = omega (arith, hubs-rest a b r);
+      served = λ i. status_failed path port a b s r (read_bound 4) went i.owned fault;
+    }
+
+module _ (path : List ℕ) (port : KnownPort) (a b : Hosting) (s : StandsAt path port a)
+    (r : Rests a b) (status : PortStatus) (x : ShowsPort port.port a (Ok status) b) where
+  shown_watches : Watches port.port a.world (Ok status) b.world
+  shown_watches = shows_watches port.port a b (Ok status) x
+
+  shown_went : HostWent (read_bound 4) a b
+  shown_went = x.requested.goes.went
+
+  shown_sound : IsSound a → IsSound b
+  shown_sound i =
+      watched_sound (read_bound 4) path port a b s r shown_went status shown_watches i
+
+  -- a change of connection was told
+  pub serve_looked : status.connection_changed ≡ true → (result : Result (Unit {0}) EnumFault)
+      (d : Hosting) → LooksAt path port b result d → ServesPort path port a result d
+  serve_looked changed result d y =
+      let then = y.requested.goes.went in
+      record {
+        requested = requested-then port.port serving_bound (read_bound 4) look_bound a b d status
+            result x.requested y.requested (omega arith);
+        on = λ due.
+            looked_on (read_bound 4) port.port a b d result status r
+            (shows_shown port.port a b (Ok status) x) x.requested.goes y.on due;
+        owned = port_then path a b result d
+            (stays_rests a b r shown_went.spends.roots shown_watches.addresses) y.owned;
+        sound = record {
+          sound = λ i. y.sound.sound (shown_sound i);
+          bulk = λ i on still.
+              bulk_then (read_bound 4) look_bound a b d shown_went then still (bulk_stays a b
+              (watched_stay (read_bound 4) path port a b s r shown_went (Ok status) shown_watches
+              i)) (y.sound.bulk (shown_sound i) on still);
+          plugs = λ i still.
+              plugs_then (read_bound 4) look_bound a b d shown_went then still
+              (plugs_rests (read_bound 4) a b shown_went r) (y.sound.plugs (shown_sound i) still);
+          caused = λ i fair caused.
+              let half = fair_before look_bound a.world b.world d.world then fair in
+              y.sound.caused (shown_sound i)
+              (fair_after (read_bound 4) a.world b.world d.world shown_went fair)
+              (causes_rests (read_bound 4) a b r shown_went s.agrees half.still
+              (shown_watches.rests tt) i caused);
+        };
+        pays = record {
+          pays = λ i ports still.
+              after_look path port a b s r shown_went i ports status shown_watches result d
+              (y.pays.pays (shown_sound i) still a.world status ports
+              (told_there path port a b s r shown_went i ports status shown_watches) changed);
+          few = λ i most plan.
+              omega (
+                arith,
+                shown_went.spends.most,
+                y.pays.few (shown_sound i) most
+                    (within_on most (read_bound 4) a b shown_went plan),
+              );
+        };
+        hubs = omega (arith, hubs-rest a b r, y.hubs);
+        served = λ i.
+            serves_looked path port a b s r (read_bound 4) shown_went i.owned status shown_watches
+            changed result d y.looked;
+      }
+
+  -- none was
+  module _ (steady : status.connection_changed ≡ false) (result : Result (Unit {0}) EnumFault)
+      (d : Hosting) (q : Rests b d) (y : SettlesPort port.port status b result d) where
+    settled_went : HostWent (4 * write_bound) b d
+    settled_went = y.requested.goes.went
+
+    settled_tidies : IsSound a → TidiesPort port.port status b result d
+    settled_tidies i =
+        y.tidies (watched_plain path port a b.world s i.owned status shown_watches)
+
+    settled_stands : StandsAt path port b
+    settled_stands = rests_stands (read_bound 4) path port a b s r shown_went
+
+    settled_sound : ServesSound path a result d
+    settled_sound = record {
+      sound = λ i.
+          tidied_port (4 * write_bound) path port b d settled_stands q settled_went result
+          (settled_tidies i).tidies y.requested.told (shown_sound i);
+      bulk = λ i on still.
+          bulk_stays a d (stay_joined a b d
+          (watched_stay (read_bound 4) path port a b s r shown_went (Ok status) shown_watches i)
+          (tidied_stay (4 * write_bound) path port b d settled_stands q settled_went result
+          (settled_tidies i).tidies (shown_sound i)));
+      plugs = λ i still.
+          plugs_then (read_bound 4) (4 * write_bound) a b d shown_went settled_went still
+          (plugs_rests (read_bound 4) a b shown_went r)
+          (plugs_rests (4 * write_bound) b d settled_went q);
+      caused = λ i fair caused.
+          let half = fair_before (4 * write_bound) a.world b.world d.world settled_went fair in
+          tidied_caused (4 * write_bound) path port b d settled_stands q settled_went result
+          (settled_tidies i).tidies y.requested.told (shown_sound i)
+          (fair_after (read_bound 4) a.world b.world d.world shown_went fair)
+          (causes_rests (read_bound 4) a b r shown_went s.agrees half.still
+          (shown_watches.rests tt) i caused);
+    }
+
+    pub serve_settled : ServesPort path port a result d
+    serve_settled = record {
+      requested = requested-then port.port serving_bound (read_bound 4) (4 * write_bound) a b d
+          status result x.requested y.requested (omega arith);
+      on = λ due.
+          tidied_on (4 * write_bound) port.port a b d result status r q
+          (shows_shown port.port a b (Ok status) x) y.requested.goes steady due;
+      owned = port_rests path a result d (rests_then a b d r q)
+          (settled_went.spends.roots ∙ shown_went.spends.roots)
+          (keeps_then a.world b.world d.world shown_watches.addresses y.keeps.addresses);
+      sound = settled_sound;
+      pays = record {
+        pays = λ i ports still.
+            let t = settled_tidies i in
+            let order = i.order (went_sound (read_bound 4) a.world b.world shown_went
+            (went_sound (4 * write_bound) b.world d.world settled_went still)) in
+            after_tidy path port a b s r shown_went i ports status shown_watches steady d
+            (none_rests (2 * write_bound) b d t.requested.goes.went q) order result t.tidies
+            t.clears.reset t.clears.calm;
+        few = λ i most plan. omega (arith, shown_went.spends.most, settled_went.spends.most);
+      };
+      hubs = omega (arith, hubs-rest a b r, hubs-rest b d q);
+      served = λ i.
+          serves_tidied path port a b s r (read_bound 4) shown_went i.owned status shown_watches
+          steady result d q (settled_tidies i).clears;
+    }
+
+  -- its hub has disabled it on an error: no hub of a world does
+  module _ (device : Option Accepted) (failed : has_failed port.port status device ≡ true) where
+    not_failed : IsSound a → ⊥
+    not_failed i = none_failed path port a b.world s i status shown_watches device failed
+
+    pub serve_failed : (result : Result (Unit {0}) EnumFault) (d : Hosting)
+        → LooksAfterError path port b result d → hubs d.entries ≤ hubs b.entries + 1
+        → ServesPort path port a result d
+    serve_failed result d y few = record {
+      requested = requested-then port.port serving_bound (read_bound 4) look_bound a b d status
+          result x.requested y.requested (omega arith);
+      on = λ due.
+          failed_on (read_bound 4) port.port a b d result status r x.requested.goes device failed
+          y.on;
+      owned = port_then path a b result d
+          (stays_rests a b r shown_went.spends.roots shown_watches.addresses) y.owned;
+      sound = record {
+        sound = λ i. absurd (not_failed i);
+        bulk = λ i. absurd (not_failed i);
+        plugs = λ i. absurd (not_failed i);
+        caused = λ i. absurd (not_failed i);
+      };
+      pays = record {
+        pays = λ i. absurd (not_failed i);
+        few = λ i. absurd (not_failed i);
+      };
+      hubs = omega (arith, hubs-rest a b r, few);
+      served = λ i. absurd (not_failed i);
+    }
+
+-- Where its hub was lost, that was dropped
+
+-- the host stopped as the port was served
+pub finish_fails : (path : List ℕ) (served : Result (Unit {0}) EnumFault) (fault : HostFault)
+    (h : Hosting) → (served ≡ Err ParentLost → ⊥)
+    → (PortOwned path served h → h.world.shared ≡ false) → EndsAt path served h (Err fault) h
+    → FinishesAt path served h (Err fault) h
+finish_fails path served fault h other single left = record {
+  goes = goes_none drop_bound h;
+  holds = omega arith;
+  drops = record {
+    owned = record { ends = single; rooted = λ r at. tt };
+    sound = λ p. tt;
+    backlog = λ p. tt;
+    bulk = λ p. tt;
+    plugs = tt;
+    caused = λ p fair q. tt;
+  };
+  left = left;
+  fewer = λ is. absurd (other is);
+}
+
+module _ (path : List ℕ) (port : KnownPort) (a b d : Hosting) (s : StandsAt path port a)
+    (served : Result (Unit {0}) EnumFault) (result : Result (Unit {0}) HostFault)
+    (ends : EndsAs served result) (y : FinishesAt path served b result d) where
+  -- a part of what is done at a port
+  finished_part : (n : ℕ) → HostWent n a b → n + drop_bound ≤ handling_bound
+      → b.stopped ≡ a.stopped → KeepsPort path a served b → ServesSound path a served b
+      → Part handling_bound a result d
+  finished_part n went le same owned sound = record {
+    goes = goes_then handling_bound n drop_bound a b d (record { went = went; going = same })
+        y.goes le;
+    owned = port_finished path port served a b result d s went.spends.roots owned y.drops.owned;
+    sound = finished_sound path n drop_bound served result a b d went y.goes.went ends sound
+        y.drops;
+  }
+
+  pub look_finished : LooksAt path port a served b → Part handling_bound a result d
+  look_finished x =
+      finished_part look_bound x.requested.goes.went (omega arith) x.requested.goes.going x.owned
+      x.sound
+
+  pub handle_finished : ServesPort path port a served b
+      → HandlesPort path (IsDue a.world port.port) a result d
+  handle_finished x = record {
+    part = finished_part serving_bound x.requested.goes.went (omega arith) x.requested.goes.going
+        x.owned x.sound;
+    handled = handles_at path (IsDue a.world port.port) result a d
+        (handled result served a b d ends y.holds x.on)
+        (λ i. handled_at path served result a b d ends y.left (x.served i));
+    pays = handling_pays path port a b d s x.requested.goes.went y.goes.went served result ends
+        x.requested.told x.sound x y;
+  }
+
+  -- the changes of a hub itself
+  pub own_finished : Rests a b → ClearsOwn port.port a served b → ServesOwn a result d
+  own_finished r x =
+      let roots = x.requested.goes.went.spends.roots in
+      record {
+        goes = goes_then handling_bound (read_bound 4 + 2 * write_bound) drop_bound a b d
+            x.requested.goes y.goes (omega arith);
+        holds = holds_then a b d
+            (rests_holds (read_bound 4 + 2 * write_bound) a b x.requested.goes r) y.holds;
+        owned = port_finished path port served a b result d s roots
+            (port_rests path a served b r roots x.addresses) y.drops.owned;
+      }
+
+-- A second look
+
+-- the port stands nowhere
+pub look_nowhere : (path : List ℕ) (h : Hosting) → StandsNowhere path h → Waits path h
+    → LooksOnceMore path h (Ok Quiet) h
+look_nowhere path h none waits = record {
+  part = part-none handling_bound Quiet h;
+  did = record { did = refl; some = λ r. absurd (waits_somewhere path h none waits r) };
+  looked = λ s. absurd (waits_somewhere path h none waits s.rooted);
+}
+
+module _ (path : List ℕ) (port : KnownPort) (a b d : Hosting) (s : StandsAt path port a)
+    (served : Result (Unit {0}) EnumFault) where
+  pub look_once_fails : (fault : HostFault) (ends : EndsAs served (Err fault))
+      → FinishesAt path served b (Err fault) d → LooksAt path port a served b
+      → (other : Result Round HostFault) → IsErr other → LooksOnceMore path a other d
+  look_once_fails fault ends y x other e = record {
+    part = part-fails handling_bound handling_bound a d fault other
+        (look_finished path port a b d s served (Err fault) ends y x) e (omega arith);
+    did = on_err other _ e;
+    looked = on_err other _ e;
+  }
+
+  pub look_once : EndsAs served (Ok tt) → FinishesAt path served b (Ok tt) d → Waits path a
+      → LooksAt path port a served b → LooksOnceMore path a (Ok Worked) d
+  look_once ends y waits x = record {
+    part = part-wider Round handling_bound handling_bound a d tt Worked
+        (look_finished path port a b d s served (Ok tt) ends y x) (omega arith);
+    did = record {
+      did = advances_then a b d (served_on served tt a b ends (x.on (inr waits))) y.holds;
+      some = λ r is. cc is;
+    };
+    looked = λ i. (refl, handled_once path served a b d ends y.left (x.looked i.owned));
+  }

@@ -1,0 +1,19 @@
+use Rattle.std.proofs.Common.{arith}
+use Rattle.usb_host.proofs.Joins.{goes_wider}
+use Rattle.usb_host.proofs.Roots.{on_any}
+use Rattle.usb_host.proofs.host.Host.serve_told.Goals as goal
+
+pub returns-then-bits-eq1-clause-serves : goal.returns-then-bits-eq1-clause-serves
+returns-then-bits-eq1-clause-serves g c known =
+    let x = c.serve_own.ensures.serves known in
+    record {
+      goes = goes_wider _ _ c.args.self.now c.serve_own.new.self x.goes (omega arith);
+      holds = on_any c.serve_own.result _ x.holds;
+      owned = x.owned;
+      ports = λ not. absurd (not c.if-bits-eq1.true);
+    }
+
+pub returns-else-bits-eq1-clause-serves : goal.returns-else-bits-eq1-clause-serves
+returns-else-bits-eq1-clause-serves g c known =
+    let x = c.serve_ports.ensures.serves known in
+    record { goes = x.part.goes; holds = x.holds; owned = x.part.owned; ports = λ not. x }

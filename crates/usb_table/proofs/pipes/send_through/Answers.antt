@@ -1,5 +1,0 @@
-use Rattle.usb_bus.specs.Traces.{still}
-use Rattle.usb_table.proofs.pipes.send_through.Goals as goal
-
-pub returns-in-None-clause-traced : goal.returns-in-None-clause-traced
-returns-in-None-clause-traced g c known = still
