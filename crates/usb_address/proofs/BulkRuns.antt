@@ -17,13 +17,13 @@ Ran s v = (v.spec ≡ s.spec) × (v.registers ≡ s.registers) × (v.changes.hal
 abbrev pub RanIn : State → Reply → Type 0
 RanIn s reply = Ran s reply.1
 
-bulk_acked : (o : Option (ℕ × ℕ)) (s : State) → Ran s (bulk_ack_row s o)
-bulk_acked None s = (refl, refl, refl)
-bulk_acked (Some end) s = (refl, refl, refl)
+bulk_ack_runs : (o : Option (ℕ × ℕ)) (s : State) → Ran s (bulk_ack_row s o)
+bulk_ack_runs None s = (refl, refl, refl)
+bulk_ack_runs (Some end) s = (refl, refl, refl)
 
 module _ (s : State) where
   bulk_given : (b : Bool) → Ran s (if b then forgotten (bulk_ack_row s (bulk_of s true)) else s)
-  bulk_given true = bulk_acked (bulk_of s true) s
+  bulk_given true = bulk_ack_runs (bulk_of s true) s
   bulk_given false = (refl, refl, refl)
 
   source_by : (most max : ℕ) (t2 t3 : Way) (b c : Bool) → Ran s (if b then (heard t2 (Some Stall), s) else if c then (heard t2 (Some Nak), s) else gave s by.Bulk max s.bulk_in.toggle (take most (rest_of s)) t2 t3).1

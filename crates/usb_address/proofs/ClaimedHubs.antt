@@ -5,34 +5,34 @@ use Rattle.usb_request.specs.Layout.{setup_of, bytes_of}
 use Rattle.usb_request.specs.declared.setup.Setup.{Setup}
 use Rattle.usb_device.specs.Request.{Is}
 use Rattle.usb_device.specs.Rows.{State}
-use Rattle.usb_device.specs.Tree.{Spot, path_to, reach_on, state_on}
+use Rattle.usb_device.specs.Tree.{Location, path_to, reach_on, state_on}
 use Rattle.usb_world.specs.declared.types.Attempt.{Attempt}
 use Rattle.usb_world.specs.declared.types.Outcome.{Outcome}
 use Rattle.usb_world.specs.Addresses.{after_reset}
 use Rattle.usb_world.specs.Courses.{is_harmless}
 use Rattle.usb_world.specs.Paths.{address_of, same_path, is_way}
 use Rattle.usb_world.specs.OneHolder.{HolderIn}
-use Rattle.usb_world.specs.Steps.{Step, ready, attempt, after, Course, here}
+use Rattle.usb_world.specs.Steps.{Step, at_attempt, attempt, after, Course, here}
 use Rattle.usb_world.specs.World.{World, Made}
-use Rattle.usb_world.proofs.Interface.{course_then, no, ready_own, same_is, stands, state_stands}
+use Rattle.usb_world.proofs.Interface.{course_then, false_true, ready_own, same_is, stands, state_stands}
 use Rattle.usb_transaction.specs.declared.target.Target.{Target}
-use Rattle.usb_transaction.specs.Trail.{Trail, start, next}
+use Rattle.usb_transaction.specs.AttemptLog.{AttemptLog, start, next}
 use Rattle.usb_transaction.specs.Transactions.{setup_attempt}
-use Rattle.usb_address.specs.Claims.{Claims}
-use Rattle.usb_address.specs.Ownership.{Owned}
+use Rattle.usb_address.specs.Claims.{AddressMap}
+use Rattle.usb_address.specs.Ownership.{MapHolds}
 use Rattle.usb_address.proofs.Ports.{not_way}
-use Rattle.usb_address.proofs.PortResets.{Fits, Resets, step_on, same_way}
+use Rattle.usb_address.proofs.PortResets.{Fits, Resets, step_on, is_way-same_path}
 use Rattle.usb_address.proofs.Steps.{quiet_owned}
 
 -- a path claims an address
 pub record ClaimedAt (q : List ℕ) (address : ℕ) (w : World) : Type 0 where
-  pub claims : Claims
-  pub owned : Owned claims w
+  pub claims : AddressMap
+  pub owned : MapHolds claims w
   pub held : claims q ≡ Some address
 
 module _ (q : List ℕ) (address : ℕ) (w : World) (c : ClaimedAt q address w) where
   -- so a device that is reached and has it is there
-  pub claimed_path : (j : Spot) (s : State) → reach_on w.roots j ≡ true → state_on w.roots j ≡ Some s → address_of s ≡ address → path_to j ≡ q
+  pub claimed_path : (j : Location) (s : State) → reach_on w.roots j ≡ true → state_on w.roots j ≡ Some s → address_of s ≡ address → path_to j ≡ q
   claimed_path j s on there at =
       same_is q (path_to j)
       (c.owned.distinct q (path_to j) address c.held (sym (c.owned.own (path_to j) on) ∙ ap (option_map address_of) there ∙ ap (λ n. Some n) at))
@@ -44,25 +44,25 @@ module _ (q : List ℕ) (address : ℕ) (w : World) (c : ClaimedAt q address w) 
       (c.owned.distinct q (path_to x.spot) address c.held
       (sym (ready_own c.claims w c.owned.own (path_to x.spot) x.on) ∙ ap (option_map address_of) there ∙ ap (λ n. Some n) (x.at ∙ is)))
     where
-      there : state_on (ready w).roots x.spot ≡ Some x.own
-      there = sym (state_stands (ready w).roots x.spot.row x.spot.rest) ∙ ap stands x.stands
+      there : state_on (at_attempt w).roots x.spot ≡ Some x.own
+      there = sym (state_stands (at_attempt w).roots x.spot.row x.spot.rest) ∙ ap stands x.stands
 
 -- what is so at each attempt, and says who holds the address
-pub record Follows (t : Target) (request : Setup) (q : List ℕ) (P : World → Type 0) : Type 0 where
+pub record KeepsClaim (t : Target) (request : Setup) (q : List ℕ) (P : World → Type 0) : Type 0 where
   pub claimed : (w : World) → P w → ClaimedAt q t.addr w
   pub onward : (w : World) → Made w (after (attempt (setup_attempt t (bytes_of request))) w) → P w → P (after (attempt (setup_attempt t (bytes_of request))) w)
 
 pub trail_with : (P : World → Type 0) {K : Step → World → Type 0} {a : Attempt} {old new : World} {outcomes : List Outcome}
     → ((w : World) → Made w (after (attempt a) w) → P w → P (after (attempt a) w)) → ((w : World) → Made w (after (attempt a) w) → P w → K (attempt a) w)
-    → Trail a old outcomes new → P old → P new × Course K old new
+    → AttemptLog a old outcomes new → P old → P new × Course K old new
 trail_with P {old} onward each start p = (p, here old)
 trail_with P {a} onward each (next w t made) p =
     let x : _ = trail_with P onward each t p in
     (onward w made x.0, course_then (attempt a) x.1 (each w made x.0))
 
-module _ (t : Target) (request : Setup) (same : setup_of (bytes_of request) ≡ request) (f : Claims) where
+module _ (t : Target) (request : Setup) (same : setup_of (bytes_of request) ≡ request) (f : AddressMap) where
   -- a request that resets nothing
-  pub quiet_follows : (q : List ℕ) → is_harmless request ≡ true → f q ≡ Some t.addr → Follows t request q (Owned f)
+  pub quiet_follows : (q : List ℕ) → is_harmless request ≡ true → f q ≡ Some t.addr → KeepsClaim t request q (MapHolds f)
   quiet_follows q harmless held = record {
     claimed = λ w o. record { claims = f; owned = o; held = held };
     onward = λ w made o. quiet_owned f (setup_attempt t (bytes_of request)) w (ap is_harmless same ∙ harmless) made o;
@@ -72,24 +72,24 @@ module _ (t : Target) (request : Setup) (same : setup_of (bytes_of request) ≡ 
   module _ (q : List ℕ) (n : ℕ) (names : request.index ≡ n) (other : Is request DEVICE_OUT SET_ADDRESS ≡ false) (held : f q ≡ Some t.addr) (distinct : (x : List ℕ) → f x ≡ Some t.addr → x ≡ q)
       (only : (x : List ℕ) → f x ≡ Some 0 → is_way (q ++ (n ∷ [])) x ≡ true) where
     pub some : t.addr ≡ 0 → ⊥
-    some e = no (sym (not_way q n) ∙ only q (held ∙ ap (λ a. Some a) e))
+    some e = false_true (sym (not_way q n) ∙ only q (held ∙ ap (λ a. Some a) e))
 
     still_held : after_reset f (q ++ (n ∷ [])) q ≡ Some t.addr
     still_held = split (same_path (q ++ (n ∷ [])) q) refl
       where
         split : (b : _) → same_path (q ++ (n ∷ [])) q ≡ b → (if b then Some 0 else if is_way (q ++ (n ∷ [])) q then None else f q) ≡ Some t.addr
-        split true e = no (sym (not_way q n) ∙ same_way (q ++ (n ∷ [])) q e)
+        split true e = false_true (sym (not_way q n) ∙ is_way-same_path (q ++ (n ∷ [])) q e)
         split false e = ap (λ b. if b then None else f q) (not_way q n) ∙ held
 
     pub fits : Fits q n t request same names some f
     fits = record { at = distinct; only = only }
 
-    pub reset_follows : Follows t request q (Resets q n t request same names some f fits other)
+    pub reset_follows : KeepsClaim t request q (Resets q n t request same names some f fits other)
     reset_follows = record {
       claimed = claimed;
       onward = λ w made x. step_on q n t request same names some f fits other w made x;
     }
       where
-        claimed : (w : World) → Owned f w ⊎ Owned (after_reset f (q ++ (n ∷ []))) w → ClaimedAt q t.addr w
+        claimed : (w : World) → MapHolds f w ⊎ MapHolds (after_reset f (q ++ (n ∷ []))) w → ClaimedAt q t.addr w
         claimed w (inl o) = record { claims = f; owned = o; held = held }
         claimed w (inr o) = record { claims = after_reset f (q ++ (n ∷ [])); owned = o; held = still_held }

@@ -15,8 +15,8 @@ use Rattle.usb_transaction.specs.declared.target.Target.{Target}
 use Rattle.usb_transaction.specs.declared.fault.TransFault.{TransFault}
 use Rattle.usb_transaction.specs.declared.fault.TransFault.TheVariants as trans
 use Rattle.usb_transaction.specs.HeardOutcomes.{heard_as, polled_as, heard_when_sent}
-use Rattle.usb_transaction.specs.Transactions.{in_attempt, out_attempt, Worked}
-use Rattle.usb_transaction.specs.Trail.{Trail, start, Transacted}
+use Rattle.usb_transaction.specs.Transactions.{in_attempt, out_attempt, AttemptsMade}
+use Rattle.usb_transaction.specs.AttemptLog.{AttemptLog, start, Transacted}
 use Rattle.usb_pipe.specs.declared.condition.Condition.{Condition}
 use Rattle.usb_pipe.specs.declared.condition.Condition.TheVariants as condition
 use Rattle.usb_pipe.specs.declared.fault.PipeFault.{PipeFault}
@@ -29,9 +29,9 @@ use Rattle.usb_pipe.specs.Moves.{Gave, Came, Puts, Fetches, SendEnds, NotCame, N
 use Rattle.usb_pipe.specs.Moves as moves
 use Rattle.usb_packet.specs.Toggles.{flips}
 use Rattle.usb_pipe.proofs.Interface.{harmless}
-use Rattle.usb_address.specs.Claims.{Claims}
+use Rattle.usb_address.specs.Claims.{AddressMap}
 use Rattle.usb_address.specs.Leaves.{LeavesTrans, LeavesPipe}
-use Rattle.usb_address.specs.Ownership.{Owned, TillFault, KeepsAddresses}
+use Rattle.usb_address.specs.Ownership.{MapHolds, WhileBusWorks, KeepsAddresses}
 use Rattle.usb_address.proofs.TransferSequences.{keeps_none, trail_sound, till, still, owned_alone, write_keeps}
 use Rattle.usb_address.proofs.Polls.{into, out, far_transacted, polls_leave}
 use Rattle.usb_address.proofs.Setups.{same_setup}
@@ -41,7 +41,7 @@ use Rattle.usb_world.proofs.Interface.{unequal}
 -- A bus that has given up makes no attempt
 
 module _ (g : BusFault) where
-  none_made : (a : Attempt) (old : World) → old.fault ≡ Some g → (outcomes : List Outcome) (mid : World) → Trail a old outcomes mid → mid ≡ old
+  none_made : (a : Attempt) (old : World) → old.fault ≡ Some g → (outcomes : List Outcome) (mid : World) → AttemptLog a old outcomes mid → mid ≡ old
   none_made a old e [] mid start = refl
   none_made a old e (o ∷ outcomes) mid made = absurd (cc (e, trail_sound made))
 
@@ -55,16 +55,16 @@ module _ (g : BusFault) where
 
 -- A call that leaves each device at its own address, and does nothing on such a bus
 
-call_keeps : {A : Type 0} (k n : ℕ) (old new : World) (result : Result A PipeFault) → MatchResult result (λ _. Worked k old new) (λ why. FaultAfter n old why new)
-    → ((f : Claims) → Owned f old → LeavesPipe (Owned f) result new) → ((g : BusFault) → old.fault ≡ Some g → new ≡ old) → KeepsAddresses old new
+call_keeps : {A : Type 0} (k n : ℕ) (old new : World) (result : Result A PipeFault) → MatchResult result (λ _. AttemptsMade k old new) (λ why. FaultAfter n old why new)
+    → ((f : AddressMap) → MapHolds f old → LeavesPipe (MapHolds f) result new) → ((g : BusFault) → old.fault ≡ Some g → new ≡ old) → KeepsAddresses old new
 call_keeps k n old new result ends leaves none = record { kept = λ f o. split f o.single o.so old.fault refl }
   where
-    split : (f : Claims) → old.shared ≡ false → (old.fault ≡ None → Owned f old) → (x : Option BusFault) → old.fault ≡ x → TillFault (Owned f) new
-    split f single so None e = till (Owned f) (owned_alone f) old new k n result ends (leaves f (so e))
-    split f single so (Some g) e = still (Owned f) (owned_alone f) old new g e single (none g e)
+    split : (f : AddressMap) → old.shared ≡ false → (old.fault ≡ None → MapHolds f old) → (x : Option BusFault) → old.fault ≡ x → WhileBusWorks (MapHolds f) new
+    split f single so None e = till (MapHolds f) (owned_alone f) old new k n result ends (leaves f (so e))
+    split f single so (Some g) e = still (MapHolds f) (owned_alone f) old new g e single (none g e)
 
-some_worked : {A : Type 0} (k : A → ℕ) (n : ℕ) (old new : World) (result : Result A PipeFault) → MatchResult result (λ x. Worked (k x) old new) (λ why. FaultAfter n old why new)
-    → MatchResult result (λ _. Worked 0 old new) (λ why. FaultAfter n old why new)
+some_worked : {A : Type 0} (k : A → ℕ) (n : ℕ) (old new : World) (result : Result A PipeFault) → MatchResult result (λ x. AttemptsMade (k x) old new) (λ why. FaultAfter n old why new)
+    → MatchResult result (λ _. AttemptsMade 0 old new) (λ why. FaultAfter n old why new)
 some_worked k n old new (Ok x) w = record { sound = w.sound; least = omega (arith, w.least); still = w.still }
 some_worked k n old new (Err why) w = w
 
@@ -95,10 +95,10 @@ polls_keep pipe far old result left new x =
 -- Packets from the host: OUTs, of whatever endpoint
 
 module _ (t : Target) (ep : ℕ) (first : Toggle) where
-  puts_leave : (f : Claims) (toggle : Toggle) (bytes : List ℕ) (old : World) (answer : Result (List ℕ) TransFault) (new : World) → Puts t ep toggle bytes old answer new → Owned f old → LeavesTrans (Owned f) answer new
+  puts_leave : (f : AddressMap) (toggle : Toggle) (bytes : List ℕ) (old : World) (answer : Result (List ℕ) TransFault) (new : World) → Puts t ep toggle bytes old answer new → MapHolds f old → LeavesTrans (MapHolds f) answer new
   puts_leave f toggle bytes = far_transacted f (out_attempt t ep toggle bytes) (out toggle bytes (record { kind = refl; payload = refl })) heard_when_sent
 
-  gave_owned : (f : Claims) {old : World} {n : ℕ} {sent : List ℕ} {new : World} → Gave t ep first old n sent new → Owned f old → Owned f new
+  gave_owned : (f : AddressMap) {old : World} {n : ℕ} {sent : List ℕ} {new : World} → Gave t ep first old n sent new → MapHolds f old → MapHolds f new
   gave_owned f moves.start o = o
   gave_owned f {new} (moves.packet {n} {sent} {mid} bytes before full some fits went) o = puts_leave f (flips n first) bytes mid (Ok []) new went (gave_owned f before o)
 
@@ -109,10 +109,10 @@ module _ (t : Target) (ep : ℕ) (first : Toggle) where
       absurd (cc (ap (λ w. w.fault) same ∙ e, trail_sound went.trail))
 
   module _ (total : List ℕ) (old new : World) where
-    send_leaves : (f : Claims) (result : Result (Unit {0}) PipeFault) → SendEnds t ep first total old result new → Owned f old → LeavesPipe (Owned f) result new
+    send_leaves : (f : AddressMap) (result : Result (Unit {0}) PipeFault) → SendEnds t ep first total old result new → MapHolds f old → LeavesPipe (MapHolds f) result new
     send_leaves f (Ok done) x o = gave_owned f x.gone o
     send_leaves f (Err why) x o =
-        of_fault (Owned f) (Owned f) new (λ h. h) x.fault why x.told
+        of_fault (MapHolds f) (MapHolds f) new (λ h. h) x.fault why x.told
         (puts_leave f (flips x.packets first) (take t.max x.rest) x.mid (Err x.fault) new x.lost (gave_owned f x.before o))
 
     none_sent : (result : Result (Unit {0}) PipeFault) → SendEnds t ep first total old result new → (g : BusFault) → old.fault ≡ Some g → new ≡ old
@@ -140,10 +140,10 @@ sends_keep bytes pipe old result left new x = split pipe.condition refl
 -- Packets to the host: INs of another endpoint than 0
 
 module _ (t : Target) (ep : ℕ) (far : ep ≢ 0) (first : Toggle) where
-  fetches_leave : (f : Claims) (toggle : Toggle) (old : World) (answer : Result (List ℕ) TransFault) (new : World) → Fetches t ep toggle old answer new → Owned f old → LeavesTrans (Owned f) answer new
+  fetches_leave : (f : AddressMap) (toggle : Toggle) (old : World) (answer : Result (List ℕ) TransFault) (new : World) → Fetches t ep toggle old answer new → MapHolds f old → LeavesTrans (MapHolds f) answer new
   fetches_leave f toggle = far_transacted f (in_attempt t ep) (into (record { kind = refl; payload = refl }) (unequal ep 0 far)) (heard_as toggle)
 
-  came_owned : (f : Claims) {old : World} {n : ℕ} {got : List ℕ} {new : World} → Came t ep first old n got new → Owned f old → Owned f new
+  came_owned : (f : AddressMap) {old : World} {n : ℕ} {got : List ℕ} {new : World} → Came t ep first old n got new → MapHolds f old → MapHolds f new
   came_owned f moves.start o = o
   came_owned f {new} (moves.packet {n} {got} {mid} bytes before came full) o = fetches_leave f (flips n first) mid (Ok bytes) new came (came_owned f before o)
 
@@ -154,15 +154,15 @@ module _ (t : Target) (ep : ℕ) (far : ep ≢ 0) (first : Toggle) where
       absurd (cc (ap (λ w. w.fault) same ∙ e, trail_sound came.trail))
 
   module _ (wanted : ℕ) (old new : World) where
-    lost_leaves : (f : Claims) (why : PipeFault) → NotCame t ep first wanted old why new ⊎ NoRoomLeft t ep first wanted old why new → Owned f old → LeavesPipe {A = Unit {0}} (Owned f) (Err why) new
+    lost_leaves : (f : AddressMap) (why : PipeFault) → NotCame t ep first wanted old why new ⊎ NoRoomLeft t ep first wanted old why new → MapHolds f old → LeavesPipe {A = Unit {0}} (MapHolds f) (Err why) new
     lost_leaves f why (inl x) o =
-        of_fault (Owned f) (Owned f) new (λ h. h) x.fault why x.told (fetches_leave f (flips x.packets first) x.mid (Err x.fault) new x.lost (came_owned f x.before o))
+        of_fault (MapHolds f) (MapHolds f) new (λ h. h) x.fault why x.told (fetches_leave f (flips x.packets first) x.mid (Err x.fault) new x.lost (came_owned f x.before o))
     lost_leaves f why (inr x) o =
-        subst (λ y. LeavesPipe {A = Unit {0}} (Owned f) (Err y) new) (sym x.told) (fetches_leave f (flips x.packets first) x.mid (Ok x.last) new x.came (came_owned f x.before o))
+        subst (λ y. LeavesPipe {A = Unit {0}} (MapHolds f) (Err y) new) (sym x.told) (fetches_leave f (flips x.packets first) x.mid (Ok x.last) new x.came (came_owned f x.before o))
 
-    receive_leaves : (f : Claims) (result : Result (Vec ℕ) PipeFault) → ReceiveEnds t ep first wanted old result new → Owned f old → LeavesPipe (Owned f) result new
+    receive_leaves : (f : AddressMap) (result : Result (Vec ℕ) PipeFault) → ReceiveEnds t ep first wanted old result new → MapHolds f old → LeavesPipe (MapHolds f) result new
     receive_leaves f (Ok bytes) x o = fetches_leave f (flips x.packets first) x.mid (Ok x.last) new x.came (came_owned f x.before o)
-    receive_leaves f (Err why) x o = other_call (Unit {0}) (Vec ℕ) (Owned f) why new (lost_leaves f why x o)
+    receive_leaves f (Err why) x o = other_call (Unit {0}) (Vec ℕ) (MapHolds f) why new (lost_leaves f why x o)
 
     none_received : (result : Result (Vec ℕ) PipeFault) → ReceiveEnds t ep first wanted old result new → (g : BusFault) → old.fault ≡ Some g → new ≡ old
     none_received (Ok bytes) x g e =

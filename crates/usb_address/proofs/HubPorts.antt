@@ -9,16 +9,16 @@ use Rattle.usb_device.specs.Tree.{Ports, ended, Place, empty, full}
 use Rattle.usb_world.specs.Paths.{address_of}
 
 -- what stands at the ports of a device
-abbrev pub below_of : Option Place → Ports
-below_of None = ended
-below_of (Some (empty b)) = ended
-below_of (Some (full b s a)) = a
+abbrev pub place_ports : Option Place → Ports
+place_ports None = ended
+place_ports (Some (empty b)) = ended
+place_ports (Some (full b s a)) = a
 
 -- What the hub is asked
 
-pub named : (h : Option Hub) (g : Registers) (n : ℕ) → (port_named h g n ≡ None) ⊎ (port_named h g n ≡ Some (n - 1))
-named None g n = inl refl
-named (Some hub) g n = split (not (g.configuration == 0) && nat_le 1 n && nat_le n hub.ports)
+pub port_named-cases : (h : Option Hub) (g : Registers) (n : ℕ) → (port_named h g n ≡ None) ⊎ (port_named h g n ≡ Some (n - 1))
+port_named-cases None g n = inl refl
+port_named-cases (Some hub) g n = split (not (g.configuration == 0) && nat_le 1 n && nat_le n hub.ports)
   where
     pick : Bool → Option ℕ
     pick b = if b then Some (n - 1) else None

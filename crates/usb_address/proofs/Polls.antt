@@ -9,29 +9,29 @@ use Rattle.usb_packet.specs.Toggles.{is_same}
 use Rattle.usb_device.specs.Transfer.{Stage, idle, refused, reading, read, ending}
 use Rattle.usb_device.specs.Rows.{State, Reply, forgotten, is_busy, nak_row, unless_busy, out_row, status_row, sink_row, sunk, out_bulk_row, bulk_of, data_row}
 use Rattle.usb_device.specs.Attempt.{Way, is_whole, heard, in_law, out_law}
-use Rattle.usb_device.specs.Tree.{Ports, ended, vacant, taken, row_of, reach_at, state_at, Spot}
+use Rattle.usb_device.specs.Tree.{Ports, ended, vacant, taken, row_of, reach_at, state_at, Location}
 use Rattle.usb_device.specs.declared.request.Registers.{Registers}
 use Rattle.usb_world.specs.declared.types.Attempt.{Attempt}
 use Rattle.usb_world.specs.declared.types.Outcome.{Outcome}
 use Rattle.usb_world.specs.Paths.{address_of}
 use Rattle.usb_world.specs.World.{World}
 use Rattle.usb_world.specs.Steps.{attempt, after}
-use Rattle.usb_world.specs.Courses.{Own}
+use Rattle.usb_world.specs.Courses.{HoldsMapped}
 use Rattle.usb_world.specs.Devices.{Was, EachWas, DidIn, DidOut}
 use Rattle.usb_world.specs.OneHolder.{IsOut, IsIn, IsMade}
-use Rattle.usb_world.proofs.Interface.{both, each_in, each_out, made_of, no, unequal}
+use Rattle.usb_world.proofs.Interface.{both, each_in, each_out, made_of, false_true, unequal}
 use Rattle.usb_transaction.specs.declared.fault.TransFault.{TransFault}
 use Rattle.usb_transaction.specs.declared.fault.TransFault.TheVariants.{Stalled, Busy, NoAnswer, Bus}
 use Rattle.usb_transaction.specs.Transactions.{in_attempt}
 use Rattle.usb_transaction.specs.HeardOutcomes.{polled_as}
-use Rattle.usb_transaction.specs.Trail.{Trail, start, next, Transacted, Polled}
+use Rattle.usb_transaction.specs.AttemptLog.{AttemptLog, start, next, Transacted, Polled}
 use Rattle.usb_pipe.specs.declared.fault.PipeFault.{PipeFault}
 use Rattle.usb_pipe.specs.Control.{as_pipe_fault}
 use Rattle.usb_pipe.specs.Interrupt.{Interrupt, PollAsked, Polls}
 use Rattle.usb_address.specs.Leaves.{LeavesTrans, LeavesPipe}
-use Rattle.usb_address.specs.Ownership.{Owned}
-use Rattle.usb_address.proofs.Steps.{attempt_settled, unshared_after}
-use Rattle.usb_address.proofs.Trails.{cut_off}
+use Rattle.usb_address.specs.Ownership.{MapHolds}
+use Rattle.usb_address.proofs.Steps.{settled_attempt, unshared_after}
+use Rattle.usb_address.proofs.Trails.{cut_off_unshared}
 use Rattle.usb_address.proofs.BulkRuns.{in_kept}
 
 module _ (s : State) where
@@ -79,16 +79,16 @@ module _ (s : State) where
 -- Attempts
 
 -- IN of another endpoint than 0, or OUT of any
-pub data IsFar (a : Attempt) : Type 0 where
-  into : IsIn a → (a.ep == 0) ≡ false → IsFar a
-  out : (t : Toggle) (bytes : List ℕ) → IsOut a t bytes → IsFar a
+pub data IsOffEndpointZero (a : Attempt) : Type 0 where
+  into : IsIn a → (a.ep == 0) ≡ false → IsOffEndpointZero a
+  out : (t : Toggle) (bytes : List ℕ) → IsOut a t bytes → IsOffEndpointZero a
 
-in_address : (a : Attempt) (w : World) (i : Spot) (s v : State) → (a.ep == 0) ≡ false → DidIn a w i s v → address_of v ≡ address_of s
+in_address : (a : Attempt) (w : World) (i : Location) (s v : State) → (a.ep == 0) ≡ false → DidIn a w i s v → address_of v ≡ address_of s
 in_address a w i s v far (DidIn.other d same) = ap address_of same
 in_address a w i s v far (DidIn.silent d q o same) = ap address_of same
 in_address a w i s v far (DidIn.asked d q b below p x o same) = ap address_of same ∙ in_far s (row_of below) a.ep a.max x.first x.second x.third far
 
-out_address : (a : Attempt) (t : Toggle) (bytes : List ℕ) (w : World) (i : Spot) (s v : State) → DidOut a t bytes w i s v → address_of v ≡ address_of s
+out_address : (a : Attempt) (t : Toggle) (bytes : List ℕ) (w : World) (i : Location) (s v : State) → DidOut a t bytes w i s v → address_of v ≡ address_of s
 out_address a t bytes w i s v (DidOut.other d same) = ap address_of same
 out_address a t bytes w i s v (DidOut.silent d q o same) = ap address_of same
 out_address a t bytes w i s v (DidOut.asked d q x o same) = ap address_of same ∙ out_far s t bytes a.ep x.first x.second x.third
@@ -105,9 +105,9 @@ reach_stands (taken b s a k) zero (suc j ∷ e) on h = reach_stands a j e (both 
 reach_stands (taken b s a k) (suc i) e on h = reach_stands k i e on h
 
 -- what an attempt leaves each device's address as, where it keeps it
-keeps_own : (R : Spot → State → State → Type 0) → ((i : Spot) (s v : State) → R i s v → address_of v ≡ address_of s) → (f : List ℕ → Option ℕ) (w u : World) → EachWas R w u → Own f w → Own f u
-keeps_own R same f w u each own [] on = no on
-keeps_own R same f w u each own (zero ∷ e) on = no on
+keeps_own : (R : Location → State → State → Type 0) → ((i : Location) (s v : State) → R i s v → address_of v ≡ address_of s) → (f : List ℕ → Option ℕ) (w u : World) → EachWas R w u → HoldsMapped f w → HoldsMapped f u
+keeps_own R same f w u each own [] on = false_true on
+keeps_own R same f w u each own (zero ∷ e) on = false_true on
 keeps_own R same f w u each own (suc i ∷ e) on = go (state_at u.roots i e) refl
   where
     go : (o : Option State) → state_at u.roots i e ≡ o → option_map address_of (state_at u.roots i e) ≡ f (suc i ∷ e)
@@ -116,22 +116,22 @@ keeps_own R same f w u each own (suc i ∷ e) on = go (state_at u.roots i e) ref
         let x : Was R w (record { row = i; rest = e }) v = each (record { row = i; rest = e }) v on h in
         ap (option_map address_of) h ∙ ap (λ n. Some n) (same (record { row = i; rest = e }) x.before v x.so) ∙ sym (ap (option_map address_of) x.stands) ∙ own (suc i ∷ e) x.on
 
-far_own : (f : List ℕ → Option ℕ) (a : Attempt) (w : World) → IsFar a → IsMade a w → (after (attempt a) w).shared ≡ false → Own f w → Own f (after (attempt a) w)
+far_own : (f : List ℕ → Option ℕ) (a : Attempt) (w : World) → IsOffEndpointZero a → IsMade a w → (after (attempt a) w).shared ≡ false → HoldsMapped f w → HoldsMapped f (after (attempt a) w)
 far_own f a w (into is far) m u own = keeps_own (DidIn a w) (λ i s v x. in_address a w i s v far x) f w (after (attempt a) w) (each_in a w m is u) own
 far_own f a w (out t bytes is) m u own = keeps_own (DidOut a t bytes w) (λ i s v x. out_address a t bytes w i s v x) f w (after (attempt a) w) (each_out a w t bytes m is u) own
 
-pub trail_far : (f : List ℕ → Option ℕ) (a : Attempt) → IsFar a → {old new : World} {outcomes : List Outcome} → Trail a old outcomes new → Owned f old → Owned f new
+pub trail_far : (f : List ℕ → Option ℕ) (a : Attempt) → IsOffEndpointZero a → {old new : World} {outcomes : List Outcome} → AttemptLog a old outcomes new → MapHolds f old → MapHolds f new
 trail_far f a far start o = o
 trail_far f a far (next w t made) o =
-    let x : Owned f w = trail_far f a far t o in
-    record { distinct = x.distinct; own = far_own f a w far (made_of a w x.settled made) (unshared_after f a w x) x.own; single = unshared_after f a w x; settled = attempt_settled a w x.settled }
+    let x : MapHolds f w = trail_far f a far t o in
+    record { distinct = x.distinct; own = far_own f a w far (made_of a w x.settled made) (unshared_after f a w x) x.own; single = unshared_after f a w x; settled = settled_attempt a w x.settled }
 
-pub far_transacted : (f : List ℕ → Option ℕ) (a : Attempt) → IsFar a → (hear : _) (old : World) (answer : Result (List ℕ) TransFault) (new : World) → Transacted hear a old answer new → Owned f old → LeavesTrans (Owned f) answer new
+pub far_transacted : (f : List ℕ → Option ℕ) (a : Attempt) → IsOffEndpointZero a → (hear : _) (old : World) (answer : Result (List ℕ) TransFault) (new : World) → Transacted hear a old answer new → MapHolds f old → LeavesTrans (MapHolds f) answer new
 far_transacted f a far hear old (Ok bytes) new e o = trail_far f a far e.trail o
 far_transacted f a far hear old (Err Stalled) new e o = trail_far f a far e.trail o
 far_transacted f a far hear old (Err Busy) new e o = trail_far f a far e.trail o
 far_transacted f a far hear old (Err NoAnswer) new e o = trail_far f a far e.trail o
-far_transacted f a far hear old (Err (Bus fault)) new c o = cut_off f a hear old fault new c (trail_far f a far c.trail o)
+far_transacted f a far hear old (Err (Bus fault)) new c o = cut_off_unshared f a hear old fault new c (trail_far f a far c.trail o)
 
 -- Polls
 
@@ -139,22 +139,22 @@ module _ (f : List ℕ → Option ℕ) (p : Interrupt) (far : p.ep ≢ 0) where
   abbrev ask : Attempt
   ask = in_attempt p.target p.ep
 
-  is_far : IsFar ask
+  is_far : IsOffEndpointZero ask
   is_far = into (record { kind = refl; payload = refl }) (unequal p.ep 0 far)
 
-  failed : (old : World) (fault : TransFault) (new : World) → Polled p.toggle ask old (Err fault) new → Owned f old → LeavesTrans {A = List ℕ} (Owned f) (Err fault) new
+  failed : (old : World) (fault : TransFault) (new : World) → Polled p.toggle ask old (Err fault) new → MapHolds f old → LeavesTrans {A = List ℕ} (MapHolds f) (Err fault) new
   failed old fault new e o = far_transacted f ask is_far (polled_as p.toggle) old (Err fault) new e o
 
-  told : (fault : TransFault) (why : PipeFault) (new : World) → why ≡ as_pipe_fault fault → LeavesTrans {A = List ℕ} (Owned f) (Err fault) new → LeavesPipe {A = Option (ArrayVec ℕ)} (Owned f) (Err why) new
-  told Stalled why new e h = subst (λ x. LeavesPipe {A = Option (ArrayVec ℕ)} (Owned f) (Err x) new) (sym e) h
-  told Busy why new e h = subst (λ x. LeavesPipe {A = Option (ArrayVec ℕ)} (Owned f) (Err x) new) (sym e) h
-  told NoAnswer why new e h = subst (λ x. LeavesPipe {A = Option (ArrayVec ℕ)} (Owned f) (Err x) new) (sym e) h
-  told (Bus fault) why new e h = subst (λ x. LeavesPipe {A = Option (ArrayVec ℕ)} (Owned f) (Err x) new) (sym e) h
+  told : (fault : TransFault) (why : PipeFault) (new : World) → why ≡ as_pipe_fault fault → LeavesTrans {A = List ℕ} (MapHolds f) (Err fault) new → LeavesPipe {A = Option (ArrayVec ℕ)} (MapHolds f) (Err why) new
+  told Stalled why new e h = subst (λ x. LeavesPipe {A = Option (ArrayVec ℕ)} (MapHolds f) (Err x) new) (sym e) h
+  told Busy why new e h = subst (λ x. LeavesPipe {A = Option (ArrayVec ℕ)} (MapHolds f) (Err x) new) (sym e) h
+  told NoAnswer why new e h = subst (λ x. LeavesPipe {A = Option (ArrayVec ℕ)} (MapHolds f) (Err x) new) (sym e) h
+  told (Bus fault) why new e h = subst (λ x. LeavesPipe {A = Option (ArrayVec ℕ)} (MapHolds f) (Err x) new) (sym e) h
 
-  asked : (old : World) (result : Result (Option (ArrayVec ℕ)) PipeFault) (new : World) → PollAsked p old result new → Owned f old → LeavesPipe (Owned f) result new
+  asked : (old : World) (result : Result (Option (ArrayVec ℕ)) PipeFault) (new : World) → PollAsked p old result new → MapHolds f old → LeavesPipe (MapHolds f) result new
   asked old (Ok None) new x o = trail_far f ask is_far x.trail o
   asked old (Ok (Some packet)) new x o = trail_far f ask is_far x.trail o
   asked old (Err why) new x o = told x.fault why new x.told (failed old x.fault new x.polled o)
 
-  pub polls_leave : (old : World) (result : Result (Option (ArrayVec ℕ)) PipeFault) (left : Interrupt) (new : World) → Polls p old result left new → Owned f old → LeavesPipe (Owned f) result new
+  pub polls_leave : (old : World) (result : Result (Option (ArrayVec ℕ)) PipeFault) (left : Interrupt) (new : World) → Polls p old result left new → MapHolds f old → LeavesPipe (MapHolds f) result new
   polls_leave old result left new x o = asked old result new x.asked o

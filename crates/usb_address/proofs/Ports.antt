@@ -8,15 +8,15 @@ use Rattle.usb_request.specs.Requests.{set_port_feature}
 use Rattle.usb_world.specs.Addresses.{after_reset}
 use Rattle.usb_world.specs.Paths.{is_way, same_number}
 use Rattle.usb_world.specs.World.{World}
-use Rattle.usb_world.proofs.Interface.{and_false, no, same_is}
+use Rattle.usb_world.proofs.Interface.{and_false, false_true, same_is}
 use Rattle.usb_transaction.specs.declared.target.Target.{Target}
-use Rattle.usb_transaction.specs.Transactions.{Worked}
+use Rattle.usb_transaction.specs.Transactions.{AttemptsMade}
 use Rattle.usb_pipe.specs.declared.fault.PipeFault.{PipeFault}
 use Rattle.usb_pipe.specs.Control.{FaultAfter}
 use Rattle.usb_pipe.specs.Stages.{Writes}
-use Rattle.usb_address.specs.Claims.{Claims}
+use Rattle.usb_address.specs.Claims.{AddressMap}
 use Rattle.usb_address.specs.Leaves.{LeavesPipe}
-use Rattle.usb_address.specs.Ownership.{Owned, TillFault}
+use Rattle.usb_address.specs.Ownership.{MapHolds, WhileBusWorks}
 use Rattle.usb_address.proofs.TransferSequences.{write_till, either_alone}
 use Rattle.usb_address.proofs.PortResets.{resets_leave}
 use Rattle.usb_address.proofs.Setups.{same_setup}
@@ -29,30 +29,30 @@ unfolding is_way
 not_way [] n = refl
 not_way (m ∷ q) n = rw (not_way q n) (and_false (same_number m m))
 
-pub no_path : IsPath [] → ⊥
-no_path is = omega (arith, is.0)
+pub is_path-empty : IsPath [] → ⊥
+is_path-empty is = omega (arith, is.0)
 
 pub no_root : (e : List ℕ) → IsPath (zero ∷ e) → ⊥
 no_root e is = omega (arith, (is.2 0 0 (omega arith)).0)
 
 -- The clear of PORT_ENABLE
 
-module _ (t : Target) (k n : ℕ) (old new : World) (f : Claims) where
-  pub reset_till : (hub : List ℕ) (port : ℕ) (result : Result (Unit {0}) PipeFault) → f hub ≡ Some t.addr → MatchResult result (λ _. Worked k old new) (λ fault. FaultAfter n old fault new)
-      → Writes t (set_port_feature PORT_RESET port) old result new → ((x : List ℕ) → f x ≡ Some 0 → is_way (hub ++ (port ∷ [])) x ≡ true) → TillFault (Owned f) old
-      → TillFault (λ w. Owned f w ⊎ Owned (after_reset f (hub ++ (port ∷ []))) w) new
+module _ (t : Target) (k n : ℕ) (old new : World) (f : AddressMap) where
+  pub reset_till : (hub : List ℕ) (port : ℕ) (result : Result (Unit {0}) PipeFault) → f hub ≡ Some t.addr → MatchResult result (λ _. AttemptsMade k old new) (λ fault. FaultAfter n old fault new)
+      → Writes t (set_port_feature PORT_RESET port) old result new → ((x : List ℕ) → f x ≡ Some 0 → is_way (hub ++ (port ∷ [])) x ≡ true) → WhileBusWorks (MapHolds f) old
+      → WhileBusWorks (λ w. MapHolds f w ⊎ MapHolds (after_reset f (hub ++ (port ∷ []))) w) new
   unfolding set_port_feature
   reset_till hub port result held ends writes only o =
-      write_till (λ w. Owned f w ⊎ Owned g w) (either_alone f g) old new k n t request o.single result ends writes (λ sound. leaves (o.so sound))
+      write_till (λ w. MapHolds f w ⊎ MapHolds g w) (either_alone f g) old new k n t request o.single result ends writes (λ sound. leaves (o.so sound))
     where
-      g : Claims
+      g : AddressMap
       g = after_reset f (hub ++ (port ∷ []))
 
       request : Setup
       request = set_port_feature PORT_RESET port
 
       some : t.addr ≡ 0 → ⊥
-      some e = no (sym (not_way hub port) ∙ only hub (held ∙ ap (λ a. Some a) e))
+      some e = false_true (sym (not_way hub port) ∙ only hub (held ∙ ap (λ a. Some a) e))
 
-      leaves : Owned f old → LeavesPipe (λ w. Owned f w ⊎ Owned g w) result new
+      leaves : MapHolds f old → LeavesPipe (λ w. MapHolds f w ⊎ MapHolds g w) result new
       leaves own = resets_leave hub port t request (same_setup request) refl some f (record { at = λ x h. sym (same_is x hub (own.distinct x hub t.addr h held)); only = only }) refl old result new writes own

@@ -10,9 +10,9 @@ use Rattle.usb_world.specs.Courses.{resets}
 use Rattle.usb_world.specs.Paths.{is_way, same_number}
 use Rattle.usb_world.specs.Steps.{root_call, after}
 use Rattle.usb_world.specs.World.{World, root_port_at}
-use Rattle.usb_world.proofs.Interface.{both, decided, is_same, no, reset_distinct, reset_own, rest_own, settled_called, step_own}
-use Rattle.usb_address.specs.Claims.{Claims, claims_apart}
-use Rattle.usb_address.specs.Ownership.{Owned, TillFault, KeepsAddresses}
+use Rattle.usb_world.proofs.Interface.{both, decided, same_number-is, false_true, reset_distinct, reset_own, rest_own, settled_called, step_own}
+use Rattle.usb_address.specs.Claims.{AddressMap, map_without}
+use Rattle.usb_address.specs.Ownership.{MapHolds, WhileBusWorks, KeepsAddresses}
 use Rattle.usb_address.proofs.HubPorts.{less_one}
 use Rattle.usb_address.proofs.States.{bared}
 
@@ -28,7 +28,7 @@ module _ (c : PortCall) (n : ℕ) (w : World) where
   unfolding after
   same_mark = refl
 
-  quiet_owned : (f : Claims) → is_reset c ≡ false → Owned f w → Owned f v
+  quiet_owned : (f : AddressMap) → is_reset c ≡ false → MapHolds f w → MapHolds f v
   unfolding after
   quiet_owned f quiet o = record {
     distinct = o.distinct;
@@ -45,11 +45,11 @@ module _ (n : ℕ) (w : World) where
   abbrev u : World
   u = after (root_call SetReset n) w
 
-  reset_owned : (f : Claims) → ((x : List ℕ) → f x ≡ Some 0 → is_way (n ∷ []) x ≡ true) → Owned f w → Owned f u ⊎ Owned (after_reset f (n ∷ [])) u
+  reset_owned : (f : AddressMap) → ((x : List ℕ) → f x ≡ Some 0 → is_way (n ∷ []) x ≡ true) → MapHolds f w → MapHolds f u ⊎ MapHolds (after_reset f (n ∷ [])) u
   unfolding after
   reset_owned f only o = split (decided (resets (root_call SetReset n) w (n ∷ [])))
     where
-      split : (resets (root_call SetReset n) w (n ∷ []) ≡ true) ⊎ (resets (root_call SetReset n) w (n ∷ []) ≡ false) → Owned f u ⊎ Owned (after_reset f (n ∷ [])) u
+      split : (resets (root_call SetReset n) w (n ∷ []) ≡ true) ⊎ (resets (root_call SetReset n) w (n ∷ []) ≡ false) → MapHolds f u ⊎ MapHolds (after_reset f (n ∷ [])) u
       split (inl e) = inr (record {
         distinct = reset_distinct f (n ∷ []) o.distinct only;
         own = reset_own f n w e o.own;
@@ -63,7 +63,7 @@ module _ (n : ℕ) (w : World) where
         settled = settled_called SetReset w.roots (n ∷ []) o.settled;
       })
 
-  pub root_resets : (f : Claims) → ((x : List ℕ) → f x ≡ Some 0 → is_way (n ∷ []) x ≡ true) → TillFault (Owned f) w → TillFault (λ w. Owned f w ⊎ Owned (after_reset f (n ∷ [])) w) u
+  pub root_resets : (f : AddressMap) → ((x : List ℕ) → f x ≡ Some 0 → is_way (n ∷ []) x ≡ true) → WhileBusWorks (MapHolds f) w → WhileBusWorks (λ w. MapHolds f w ⊎ MapHolds (after_reset f (n ∷ [])) w) u
   unfolding after
   root_resets f only o = record { so = λ e. reset_owned f only (o.so e); single = o.single }
 
@@ -78,12 +78,12 @@ shut_index (taken b s a k) zero (zero ∷ r) h = refl
 shut_index (taken b s a k) zero (suc m ∷ r) h = rw h refl
 shut_index (taken b s a k) (suc i) r h = shut_index k i r h
 
-shut_at : (n : ℕ) (w : World) → (root_port_at w n).enable ≡ false → (x : List ℕ) → is_way (n ∷ []) x ≡ true → reach w.roots x ≡ false
+reach-root_disabled : (n : ℕ) (w : World) → (root_port_at w n).enable ≡ false → (x : List ℕ) → is_way (n ∷ []) x ≡ true → reach w.roots x ≡ false
 unfolding root_port_at is_way
-shut_at n w h [] way = refl
-shut_at n w h (zero ∷ r) way = refl
-shut_at zero w h (suc i ∷ r) way = no way
-shut_at (suc j) w h (suc i ∷ r) way = rw (is_same j i (both (same_number j i) true way).0) (shut_index w.roots j r (subst (λ k. (slice_index_or (row_of w.roots) k off).enable ≡ false) (less_one j) h))
+reach-root_disabled n w h [] way = refl
+reach-root_disabled n w h (zero ∷ r) way = refl
+reach-root_disabled zero w h (suc i ∷ r) way = false_true way
+reach-root_disabled (suc j) w h (suc i ∷ r) way = rw (same_number-is j i (both (same_number j i) true way).0) (shut_index w.roots j r (subst (λ k. (slice_index_or (row_of w.roots) k off).enable ≡ false) (less_one j) h))
 
-pub root_shut : (f : Claims) (n : ℕ) (w : World) → (root_port_at w n).enable ≡ false → TillFault (Owned f) w → TillFault (Owned (claims_apart f (n ∷ []))) w
-root_shut f n w off o = record { so = λ e. bared f (n ∷ []) w (shut_at n w off) (o.so e); single = o.single }
+pub root_shut : (f : AddressMap) (n : ℕ) (w : World) → (root_port_at w n).enable ≡ false → WhileBusWorks (MapHolds f) w → WhileBusWorks (MapHolds (map_without f (n ∷ []))) w
+root_shut f n w off o = record { so = λ e. bared f (n ∷ []) w (reach-root_disabled n w off) (o.so e); single = o.single }

@@ -5,15 +5,15 @@ use Rattle.usb_request.specs.Codes.{SET_ADDRESS, DEVICE_OUT}
 use Rattle.usb_request.specs.Layout.{setup_of, bytes_of, IsToHost}
 use Rattle.usb_request.specs.declared.setup.Setup.{Setup}
 use Rattle.usb_device.specs.Request.{Is}
-use Rattle.usb_pipe.proofs.Interface.{two_bytes}
+use Rattle.usb_pipe.proofs.Interface.{two_bytes_word}
 
 -- what is sent is what is read
 pub same_setup : (s : Setup) → setup_of (bytes_of s) ≡ s
 unfolding setup_of bytes_of
-same_setup s = rw (two_bytes s.value, two_bytes s.index, two_bytes s.length) refl
+same_setup s = rw (two_bytes_word s.value, two_bytes_word s.index, two_bytes_word s.length) refl
 
-other_type : (n m : ℕ) → 128 ≤ n → m ≤ 127 → (n == m) ≡ false
-other_type n m far near = grind (arith, nat_tests, far, near)
+request_type-apart : (n m : ℕ) → 128 ≤ n → m ≤ 127 → (n == m) ≡ false
+request_type-apart n m far near = grind (arith, nat_tests, far, near)
 
 pub reads_other : (s : Setup) → IsToHost s → Is s DEVICE_OUT SET_ADDRESS ≡ false
-reads_other s reads = rw (other_type s.request_type DEVICE_OUT reads (omega arith)) refl
+reads_other s reads = rw (request_type-apart s.request_type DEVICE_OUT reads (omega arith)) refl

@@ -7,24 +7,24 @@ use Rattle.usb_world.specs.Paths.{same_path, is_way, address_of}
 use Rattle.usb_world.specs.World.{World}
 use Rattle.usb_world.specs.Courses.{Injective, address_at}
 use Rattle.usb_world.specs.Addresses.{after_reset, after_taking}
-use Rattle.usb_world.proofs.Interface.{no, same_is, taken_distinct, way_itself}
-use Rattle.usb_address.specs.Claims.{Free, claims_apart, Unused}
-use Rattle.usb_address.specs.Ownership.{Owned, Enumerating}
+use Rattle.usb_world.proofs.Interface.{false_true, same_is, taken_distinct, way_itself}
+use Rattle.usb_address.specs.Claims.{Free, map_without, Unused}
+use Rattle.usb_address.specs.Ownership.{MapHolds, Enumerating}
 use Rattle.usb_address.proofs.Polls.{reach_stands}
 use Rattle.usb_address.proofs.PortResets.{owned_as}
 
 -- where a device is reached there is an address
-stands : (w : World) (q : List ℕ) → reach w.roots q ≡ true → address_at w.roots q ≡ None → ⊥
-stands w [] on h = cc on
-stands w (zero ∷ q) on h = cc on
-stands w (suc i ∷ q) on h = go (state_at w.roots i q) refl h
+reach-has_address : (w : World) (q : List ℕ) → reach w.roots q ≡ true → address_at w.roots q ≡ None → ⊥
+reach-has_address w [] on h = cc on
+reach-has_address w (zero ∷ q) on h = cc on
+reach-has_address w (suc i ∷ q) on h = go (state_at w.roots i q) refl h
   where
     go : (o : Option Device) → state_at w.roots i q ≡ o → option_map address_of o ≡ None → ⊥
     go None e h = reach_stands w.roots i q on e
     go (Some v) e h = cc h
 
 -- a claim may be made where none is, and no device is reached
-pub weaken : (f : List ℕ → Option ℕ) (p : List ℕ) (n : ℕ) (w : World) → f p ≡ None → Unused f n → Owned f w → Owned (after_taking f p n) w
+pub weaken : (f : List ℕ → Option ℕ) (p : List ℕ) (n : ℕ) (w : World) → f p ≡ None → Unused f n → MapHolds f w → MapHolds (after_taking f p n) w
 weaken f p n w free unused o = record {
   distinct = taken_distinct f p n o.distinct (λ q h. elim (unused q h) [ ]);
   own = own;
@@ -39,37 +39,37 @@ weaken f p n w free unused o = record {
         nowhere e = o.own q on ∙ ap f (same_is p q e) ∙ free
 
         split : (x : Bool) → same_path p q ≡ x → address_at w.roots q ≡ (if x then Some n else f q)
-        split true e = elim (stands w q on (nowhere e)) [ ]
+        split true e = elim (reach-has_address w q on (nowhere e)) [ ]
         split false e = o.own q on
 
 -- where nothing is reached at a path or below it, its claims may go
-pub bared : (f : List ℕ → Option ℕ) (p : List ℕ) (w : World) → ((x : List ℕ) → is_way p x ≡ true → reach w.roots x ≡ false) → Owned f w → Owned (claims_apart f p) w
+pub bared : (f : List ℕ → Option ℕ) (p : List ℕ) (w : World) → ((x : List ℕ) → is_way p x ≡ true → reach w.roots x ≡ false) → MapHolds f w → MapHolds (map_without f p) w
 bared f p w bare o = record { distinct = distinct; own = own; single = o.single; settled = o.settled }
   where
-    of_cleared : (x : List ℕ) (a : ℕ) → claims_apart f p x ≡ Some a → f x ≡ Some a
+    of_cleared : (x : List ℕ) (a : ℕ) → map_without f p x ≡ Some a → f x ≡ Some a
     of_cleared x a h = split (is_way p x) h
       where
         split : (b : Bool) → (if b then None else f x) ≡ Some a → f x ≡ Some a
         split true h = cc h
         split false h = h
 
-    distinct : Injective (claims_apart f p)
+    distinct : Injective (map_without f p)
     distinct x y a h k = o.distinct x y a (of_cleared x a h) (of_cleared y a k)
 
-    own : (q : List ℕ) → reach w.roots q ≡ true → address_at w.roots q ≡ claims_apart f p q
+    own : (q : List ℕ) → reach w.roots q ≡ true → address_at w.roots q ≡ map_without f p q
     own q on = split (is_way p q) refl
       where
         split : (b : Bool) → is_way p q ≡ b → address_at w.roots q ≡ (if b then None else f q)
-        split true e = no (sym (bare q e) ∙ on)
+        split true e = false_true (sym (bare q e) ∙ on)
         split false e = o.own q on
 
 -- The state
 
-pub begins : (f : List ℕ → Option ℕ) (p : List ℕ) (a : ℕ) (w : World) → Free f p → Unused f 0 → Owned f w → Enumerating f p a w
-begins f p a w free unused o = record { has = 0; is = inl refl; owned = weaken f p 0 w (free p (way_itself p)) unused o }
+pub enumerating_begins : (f : List ℕ → Option ℕ) (p : List ℕ) (a : ℕ) (w : World) → Free f p → Unused f 0 → MapHolds f w → Enumerating f p a w
+enumerating_begins f p a w free unused o = record { has = 0; is = inl refl; owned = weaken f p 0 w (free p (way_itself p)) unused o }
 
 -- PORT_RESET leaves it so
-pub after_a_reset : (f : List ℕ → Option ℕ) (p : List ℕ) (a c : ℕ) (w : World) → Free f p → (c ≡ 0) ⊎ (c ≡ a) → Owned (after_taking f p c) w ⊎ Owned (after_reset (after_taking f p c) p) w → Enumerating f p a w
+pub after_a_reset : (f : List ℕ → Option ℕ) (p : List ℕ) (a c : ℕ) (w : World) → Free f p → (c ≡ 0) ⊎ (c ≡ a) → MapHolds (after_taking f p c) w ⊎ MapHolds (after_reset (after_taking f p c) p) w → Enumerating f p a w
 after_a_reset f p a c w free is (inl o) = record { has = c; is = is; owned = o }
 after_a_reset f p a c w free is (inr o) = record { has = 0; is = inl refl; owned = owned_as (after_reset (after_taking f p c) p) (after_taking f p 0) w same o }
   where
@@ -82,7 +82,7 @@ after_a_reset f p a c w free is (inr o) = record { has = 0; is = inl refl; owned
         split false false e = refl
 
 -- SET_ADDRESS leaves it so
-pub after_an_address : (f : List ℕ → Option ℕ) (p : List ℕ) (a c : ℕ) (w : World) → (c ≡ 0) ⊎ (c ≡ a) → Owned (after_taking f p c) w ⊎ Owned (after_taking (after_taking f p c) p a) w → Enumerating f p a w
+pub after_an_address : (f : List ℕ → Option ℕ) (p : List ℕ) (a c : ℕ) (w : World) → (c ≡ 0) ⊎ (c ≡ a) → MapHolds (after_taking f p c) w ⊎ MapHolds (after_taking (after_taking f p c) p a) w → Enumerating f p a w
 after_an_address f p a c w is (inl o) = record { has = c; is = is; owned = o }
 after_an_address f p a c w is (inr o) = record { has = a; is = inr refl; owned = owned_as (after_taking (after_taking f p c) p a) (after_taking f p a) w same o }
   where
@@ -94,16 +94,16 @@ after_an_address f p a c w is (inr o) = record { has = a; is = inr refl; owned =
         split false = refl
 
 -- what SET_ADDRESS at address 0 asks of it
-pub at_zero : (f : List ℕ → Option ℕ) (p : List ℕ) (c : ℕ) (q : List ℕ) → Unused f 0 → after_taking f p c q ≡ Some 0 → q ≡ p
-at_zero f p c q unused h = split (same_path p q) refl h
+pub after_taking-zero : (f : List ℕ → Option ℕ) (p : List ℕ) (c : ℕ) (q : List ℕ) → Unused f 0 → after_taking f p c q ≡ Some 0 → q ≡ p
+after_taking-zero f p c q unused h = split (same_path p q) refl h
   where
     split : (y : Bool) → same_path p q ≡ y → (if y then Some c else f q) ≡ Some 0 → q ≡ p
     split true e h = same_is p q e
     split false e h = elim (unused q h) [ ]
 
-pub not_both : (f : List ℕ → Option ℕ) (p : List ℕ) (a c : ℕ) (q r : List ℕ) → Unused f 0 → Unused f a → (a ≡ 0 → ⊥) → (c ≡ 0) ⊎ (c ≡ a)
+pub after_taking-not_both : (f : List ℕ → Option ℕ) (p : List ℕ) (a c : ℕ) (q r : List ℕ) → Unused f 0 → Unused f a → (a ≡ 0 → ⊥) → (c ≡ 0) ⊎ (c ≡ a)
     → after_taking f p c q ≡ Some a → after_taking f p c r ≡ Some 0 → ⊥
-not_both f p a c q r no_zero no_a some is h g = split (same_path p q) h (same_path p r) g
+after_taking-not_both f p a c q r no_zero no_a some is h g = split (same_path p q) h (same_path p r) g
   where
     split : (y : Bool) → (if y then Some c else f q) ≡ Some a → (z : Bool) → (if z then Some c else f r) ≡ Some 0 → ⊥
     split false h z g = no_a q h

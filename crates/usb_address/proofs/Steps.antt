@@ -6,7 +6,7 @@ use Rattle.usb_device.specs.Attempt.{Way, is_whole, heard}
 use Rattle.usb_device.specs.declared.answer.Answer.TheVariants as answer
 use Rattle.usb_device.specs.Request.{outcome}
 use Rattle.usb_device.specs.Rows.{State, Reply, accepted}
-use Rattle.usb_device.specs.Tree.{row_of, Spot, path_to, reach_on, state_on}
+use Rattle.usb_device.specs.Tree.{row_of, Location, path_to, reach_on, state_on}
 use Rattle.usb_world.specs.declared.types.Attempt.{Attempt}
 use Rattle.usb_world.specs.declared.types.BusFault.{BusFault}
 use Rattle.usb_world.specs.declared.types.BusFault.TheVariants.{LimitReached, Memory, TraceFailed}
@@ -14,45 +14,45 @@ use Rattle.usb_world.specs.declared.types.Outcome.TheVariants.{Ack}
 use Rattle.usb_world.specs.Paths.{address_of}
 use Rattle.usb_world.specs.AttemptPackets.{IsSettled}
 use Rattle.usb_world.specs.World.{World, Made}
-use Rattle.usb_world.specs.Steps.{ready, attempt, after, outcome_in, here, step, AttemptFails}
+use Rattle.usb_world.specs.Steps.{at_attempt, attempt, after, outcome_in, here, step, AttemptFails}
 use Rattle.usb_world.specs.Courses.{resets, is_quiet}
 use Rattle.usb_world.specs.OneHolder.{IsSetup, IsOut, IsIn, IsMade, got}
 use Rattle.usb_world.specs.Devices.{Was, DidIn, DidOut, DidSetup}
 use Rattle.usb_world.specs.Addresses.{is_setup, NoneTakes}
-use Rattle.usb_world.proofs.Interface.{course_keeps, due_back, each_in, each_out, each_setup, equal_same, given_up_shared, no, same_equal, settled_after, step_own, step_unshared}
+use Rattle.usb_world.proofs.Interface.{course_keeps, due_back, each_in, each_out, each_setup, equal_same, given_up_shared, false_true, same_equal, settled_after, step_own, step_unshared}
 use Rattle.usb_address.specs.Aims.{Aims, AllAim, TakesOnly, Never}
-use Rattle.usb_address.specs.Ownership.{Owned}
+use Rattle.usb_address.specs.Ownership.{MapHolds}
 use Rattle.usb_address.proofs.Stages.{none_takes, in_keeps, out_keeps}
 use Rattle.usb_address.proofs.AddressRequests.{first_aims}
 
 -- Events that are due
 
-pub aim_ready : (Q : ℕ → Type 0) (n : ℕ) (w : World) → AllAim Q n w → AllAim Q n (ready w)
+pub aim_ready : (Q : ℕ → Type 0) (n : ℕ) (w : World) → AllAim Q n w → AllAim Q n (at_attempt w)
 aim_ready Q n w h i s on there at =
     let was : _ = due_back w i on in h i s was.0 (sym was.1 ∙ there) at
 
-none_ready : (n : ℕ) (w : World) → AllAim Never n w → NoneTakes n (ready w).roots
+none_ready : (n : ℕ) (w : World) → AllAim Never n w → NoneTakes n (at_attempt w).roots
 none_ready n w h i e s on there at = none_takes s.stage (aim_ready Never n w h (record { row = i; rest = e }) s on there at)
 
 -- IN and OUT
 
 module _ (Q : ℕ → Type 0) where
-  in_place : (a : Attempt) (w : World) (i : Spot) (s v : State) → DidIn a w i s v → Aims Q s.stage → Aims Q v.stage
+  in_place : (a : Attempt) (w : World) (i : Location) (s v : State) → DidIn a w i s v → Aims Q s.stage → Aims Q v.stage
   in_place a w i s v (DidIn.other d same) h = subst (λ x. Aims Q x.stage) (sym same) h
   in_place a w i s v (DidIn.silent d q o same) h = subst (λ x. Aims Q x.stage) (sym same) h
   in_place a w i s v (DidIn.asked d q b below p x o same) h = subst (λ x. Aims Q x.stage) (sym same) (in_keeps Q s (row_of below) a.ep a.max x.first x.second x.third h)
 
-  out_place : (a : Attempt) (t : Toggle) (bytes : List ℕ) (w : World) (i : Spot) (s v : State) → DidOut a t bytes w i s v → Aims Q s.stage → Aims Q v.stage
+  out_place : (a : Attempt) (t : Toggle) (bytes : List ℕ) (w : World) (i : Location) (s v : State) → DidOut a t bytes w i s v → Aims Q s.stage → Aims Q v.stage
   out_place a t bytes w i s v (DidOut.other d same) h = subst (λ x. Aims Q x.stage) (sym same) h
   out_place a t bytes w i s v (DidOut.silent d q o same) h = subst (λ x. Aims Q x.stage) (sym same) h
   out_place a t bytes w i s v (DidOut.asked d q x o same) h = subst (λ x. Aims Q x.stage) (sym same) (out_keeps Q s a.ep t bytes x.first x.second x.third h)
 
-  in_at : (a : Attempt) (w : World) (i : Spot) (s v : State) → DidIn a w i s v → address_of v ≡ a.addr → address_of s ≡ a.addr
+  in_at : (a : Attempt) (w : World) (i : Location) (s v : State) → DidIn a w i s v → address_of v ≡ a.addr → address_of s ≡ a.addr
   in_at a w i s v (DidIn.other d same) h = ap address_of (sym same) ∙ h
   in_at a w i s v (DidIn.silent d q o same) h = equal_same (address_of s) a.addr d
   in_at a w i s v (DidIn.asked d q b below p x o same) h = equal_same (address_of s) a.addr d
 
-  out_at : (a : Attempt) (t : Toggle) (bytes : List ℕ) (w : World) (i : Spot) (s v : State) → DidOut a t bytes w i s v → address_of v ≡ a.addr → address_of s ≡ a.addr
+  out_at : (a : Attempt) (t : Toggle) (bytes : List ℕ) (w : World) (i : Location) (s v : State) → DidOut a t bytes w i s v → address_of v ≡ a.addr → address_of s ≡ a.addr
   out_at a t bytes w i s v (DidOut.other d same) h = ap address_of (sym same) ∙ h
   out_at a t bytes w i s v (DidOut.silent d q o same) h = equal_same (address_of s) a.addr d
   out_at a t bytes w i s v (DidOut.asked d q x o same) h = equal_same (address_of s) a.addr d
@@ -78,11 +78,11 @@ module _ (Q : ℕ → Type 0) where
 
   then_is : (c : Bool) (x y : Reply) → c ≡ true → (taken_or c x y).1 ≡ x.1
   then_is true x y h = refl
-  then_is false x y h = no h
+  then_is false x y h = false_true h
 
-  set_up_place : (a : Attempt) (bytes : List ℕ) (w : World) (i : Spot) (s v : State) → ((s : State) → TakesOnly Q (outcome s.spec s.registers (setup_of bytes)))
+  set_up_place : (a : Attempt) (bytes : List ℕ) (w : World) (i : Location) (s v : State) → ((s : State) → TakesOnly Q (outcome s.spec s.registers (setup_of bytes)))
       → DidSetup a bytes w i s v → outcome_in a w ≡ Ack → address_of v ≡ a.addr → Aims Q v.stage
-  set_up_place a bytes w i s v c (DidSetup.other d same) h at = no (sym d ∙ same_equal (address_of s) a.addr (ap address_of (sym same) ∙ at))
+  set_up_place a bytes w i s v c (DidSetup.other d same) h at = false_true (sym d ∙ same_equal (address_of s) a.addr (ap address_of (sym same) ∙ at))
   set_up_place a bytes w i s v c (DidSetup.silent d q o same) h at = absurd (cc (o, h))
   set_up_place a bytes w i s v c (DidSetup.asked d q b below p x o same) h at =
       subst (λ x. Aims Q x.stage)
@@ -90,7 +90,7 @@ module _ (Q : ℕ → Type 0) where
       (first_aims Q (row_of below) (setup_of bytes).length (outcome s.spec s.registers (setup_of bytes)) (c s))
 
   pub set_up_aims : (a : Attempt) (bytes : List ℕ) (w : World) → IsMade a w → IsSetup a bytes → (after (attempt a) w).shared ≡ false → ((s : State) → TakesOnly Q (outcome s.spec s.registers (setup_of bytes)))
-      → outcome_in a w ≡ Ack → (i : Spot) (v : State) → resets (attempt a) w (path_to i) ≡ false
+      → outcome_in a w ≡ Ack → (i : Location) (v : State) → resets (attempt a) w (path_to i) ≡ false
       → reach_on (after (attempt a) w).roots i ≡ true → state_on (after (attempt a) w).roots i ≡ Some v → address_of v ≡ a.addr → Aims Q v.stage
   set_up_aims a bytes w m is u c h i v rest on there at =
       let x : Was (DidSetup a bytes w) w i v = each_setup a w bytes m is u i v rest on there in
@@ -99,28 +99,28 @@ module _ (Q : ℕ → Type 0) where
 -- Addresses
 
 -- an attempt leaves the ports settled, whether it is made or not
-pub attempt_settled : (a : Attempt) (w : World) → IsSettled w.roots → IsSettled (after (attempt a) w).roots
-attempt_settled a w = settled_after (attempt a) w
+pub settled_attempt : (a : Attempt) (w : World) → IsSettled w.roots → IsSettled (after (attempt a) w).roots
+settled_attempt a w = settled_after (attempt a) w
 
-pub unshared_after : (f : List ℕ → Option ℕ) (a : Attempt) (w : World) → Owned f w → (after (attempt a) w).shared ≡ false
+pub unshared_after : (f : List ℕ → Option ℕ) (a : Attempt) (w : World) → MapHolds f w → (after (attempt a) w).shared ≡ false
 unshared_after f a w o = step_unshared f o.distinct (attempt a) w o.own o.single
 
-pub data_owned : (f : List ℕ → Option ℕ) (a : Attempt) (w : World) → is_setup a.kind ≡ false → Owned f w → AllAim Never a.addr w → Owned f (after (attempt a) w)
+pub data_owned : (f : List ℕ → Option ℕ) (a : Attempt) (w : World) → is_setup a.kind ≡ false → MapHolds f w → AllAim Never a.addr w → MapHolds f (after (attempt a) w)
 data_owned f a w kind o h =
     let x : _ = course_keeps f o.distinct (step (attempt a) (inr (kind, none_ready a.addr w h)) (here (after (attempt a) w))) o.settled o.own o.single in
     record { distinct = o.distinct; own = x.0; single = x.1; settled = x.2 }
 
-pub quiet_owned : (f : List ℕ → Option ℕ) (a : Attempt) (w : World) → is_quiet (attempt a) ≡ true → Made w (after (attempt a) w) → Owned f w → Owned f (after (attempt a) w)
+pub quiet_owned : (f : List ℕ → Option ℕ) (a : Attempt) (w : World) → is_quiet (attempt a) ≡ true → Made w (after (attempt a) w) → MapHolds f w → MapHolds f (after (attempt a) w)
 quiet_owned f a w q made o = record {
   distinct = o.distinct;
   own = step_own f (attempt a) w q o.own;
   single = unshared_after f a w o;
-  settled = attempt_settled a w o.settled;
+  settled = settled_attempt a w o.settled;
 }
 
 -- An attempt that the bus gave up: no address was held twice at it
 
-pub fails_unshared : (f : List ℕ → Option ℕ) (a : Attempt) (w v : World) (fault : BusFault) → Owned f w → AttemptFails a w (Err fault) v → v.shared ≡ false
+pub fails_unshared : (f : List ℕ → Option ℕ) (a : Attempt) (w v : World) (fault : BusFault) → MapHolds f w → AttemptFails a w (Err fault) v → v.shared ≡ false
 fails_unshared f a w v LimitReached o h = ap (λ x. x.shared) h ∙ unshared_after f a w o
 fails_unshared f a w v Memory o h = given_up_shared a w v Memory h f o.distinct o.own o.single
 fails_unshared f a w v TraceFailed o h =

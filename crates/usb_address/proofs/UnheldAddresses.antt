@@ -9,10 +9,10 @@ use Rattle.usb_world.specs.declared.types.Attempt.{Attempt}
 use Rattle.usb_world.specs.Exchange.{token_out, payload_out}
 use Rattle.usb_world.specs.AttemptPackets.{after_sent, IfOut, IsTokenFor, IsSettled, NobodyHolds}
 use Rattle.usb_world.specs.PortRequests.{AsksNothing}
-use Rattle.usb_world.specs.Steps.{ready, damage_in, attempt}
+use Rattle.usb_world.specs.Steps.{at_attempt, damage_in, attempt}
 use Rattle.usb_world.specs.WayEffects.{resets_at}
 use Rattle.usb_world.specs.World.{World}
-use Rattle.usb_world.proofs.Interface.{NoneAsks, calm_sent, goes, nothing_asked, ready_settled, rest_state, rested_effect, settled_memory, token_calls, token_out as token_calm, unreset}
+use Rattle.usb_world.proofs.Interface.{NoneAsks, calm_sent, goes, none_asks_nothing, ready_settled, rest_state, rested_effect, settled_memory, token_calls, token_out as token_calm, unreset}
 
 -- after its token no device remembers anything
 none_remembers : (n : ℕ) (t : Option Sent) → IfOut (IsTokenFor n) t → (k : Ports) → IsSettled k → NobodyHolds n k
@@ -25,10 +25,10 @@ none_remembers n (Some q) is k settled nobody i e v at = settled_memory k i e v 
         rest_state q false k i e (λ u h on. (settled_memory k i e u settled h, token_calls n q.content u is (nobody i e u h on)))
         ∙ unreset (resets_at q false k i e) (state_at k i e) (calm_sent (Some q) (token_calm n (Some q) is) k i e)
 
-pub nobody_asks_nothing : (a : Attempt) (w : World) (x : List ℕ) → NobodyHolds a.addr (ready w).roots → IsSettled w.roots → AsksNothing (attempt a) w x
-nobody_asks_nothing a w x nobody settled = nothing_asked a w x none
+pub nobody_asks_nothing : (a : Attempt) (w : World) (x : List ℕ) → NobodyHolds a.addr (at_attempt w).roots → IsSettled w.roots → AsksNothing (attempt a) w x
+nobody_asks_nothing a w x nobody settled = none_asks_nothing a w x none
   where
-    none : NoneAsks (payload_out a (damage_in (ready w))) (after_sent (token_out a (damage_in (ready w))) (ready w).roots)
+    none : NoneAsks (payload_out a (damage_in (at_attempt w))) (after_sent (token_out a (damage_in (at_attempt w))) (at_attempt w).roots)
     none q o j e t at dp =
         rested_effect q dp t
-        (none_remembers a.addr (token_out a (damage_in (ready w))) (goes a (damage_in (ready w)) (ready w).roots).token (ready w).roots (ready_settled w settled) nobody j e t at)
+        (none_remembers a.addr (token_out a (damage_in (at_attempt w))) (goes a (damage_in (at_attempt w)) (at_attempt w).roots).token (at_attempt w).roots (ready_settled w settled) nobody j e t at)

@@ -8,7 +8,7 @@ use Rattle.usb_device.specs.declared.effect.Effect.{Effect}
 use Rattle.usb_device.specs.declared.effect.Effect.TheVariants.{Leaves, Calls, PortsOff}
 use Rattle.usb_device.specs.Rows.{State}
 use Rattle.usb_device.specs.Tree.{Ports, ended, vacant, taken, Place, empty, full, before, all_off, acted, called, changed_at, reset_where}
-use Rattle.usb_world.proofs.Interface.{both, no}
+use Rattle.usb_world.proofs.Interface.{both, false_true}
 use Rattle.usb_backlog.specs.Marks.{charged, devices_in, PortMark, below_first, after_first, allowed, devices_by, looks_by, ports_by, strays_by}
 use Rattle.usb_backlog.specs.PortSettings.{gives_power}
 
@@ -34,14 +34,14 @@ less-then one two = record {
 
 -- Ports
 
-bit-or : (x y z : Bool) → bit y ≤ bit z → bit (x || y) ≤ bit (x || z)
-bit-or true y z h = omega arith
-bit-or false y z h = h
+bit-or_less : (x y z : Bool) → bit y ≤ bit z → bit (x || y) ≤ bit (x || z)
+bit-or_less true y z h = omega arith
+bit-or_less false y z h = h
 
 -- the change of connection, unless the port is marked and given power
 connection-called : (x : Bool) (c : PortCall) → (x || not (gives_power c)) ≡ true → (b : PortState) (n : ℕ) → charged (x || (called_port c b).connection_changed) n ≤ charged (x || b.connection_changed) n
 connection-called true c h b n = omega arith
-connection-called false SetPower h b n = no h
+connection-called false SetPower h b n = false_true h
 connection-called false SetReset h b n = split (b.power && is_attached b.attached)
   where
     split : (x : Bool) → charged (if x then record b { enable = true; reset_changed = true } else b).connection_changed n ≤ charged b.connection_changed n
@@ -73,8 +73,8 @@ seen-called false SetReset b = split (b.power && is_attached b.attached)
     split true = omega arith
     split false = omega arith
 seen-called false ClearEnable b = omega arith
-seen-called false ClearPower b = bit-or (is_attached b.attached) false b.connection_changed (omega arith)
-seen-called false ClearConnectionChange b = bit-or (is_attached b.attached) false b.connection_changed (omega arith)
+seen-called false ClearPower b = bit-or_less (is_attached b.attached) false b.connection_changed (omega arith)
+seen-called false ClearConnectionChange b = bit-or_less (is_attached b.attached) false b.connection_changed (omega arith)
 seen-called false ClearEnableChange b = omega arith
 seen-called false ClearResetChange b = omega arith
 
@@ -103,7 +103,7 @@ reset-called false SetPower h b = split b.power
     split : (x : Bool) → bit (if x then b else record b { power = true; connection_changed = is_attached b.attached || b.connection_changed }).reset_changed ≤ bit b.reset_changed
     split true = omega arith
     split false = omega arith
-reset-called false SetReset h b = no h
+reset-called false SetReset h b = false_true h
 reset-called false ClearEnable h b = omega arith
 reset-called false ClearPower h b = omega arith
 reset-called false ClearConnectionChange h b = omega arith

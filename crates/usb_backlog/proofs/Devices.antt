@@ -5,9 +5,9 @@ use Rattle.usb_device.specs.Spec.{Spec, Hub}
 use Rattle.usb_device.specs.Tree.{Ports, ended, vacant, taken, new_ports, first_ports, replaced, changed_at}
 use Rattle.usb_backlog.specs.Marks.{charged, devices_in}
 
-pub charged-less : (x : Bool) (m n : ℕ) → m ≤ n → charged x m ≤ charged x n
-charged-less true m n h = h
-charged-less false m n h = omega arith
+pub charged-rises : (x : Bool) (m n : ℕ) → m ≤ n → charged x m ≤ charged x n
+charged-rises true m n h = h
+charged-rises false m n h = omega arith
 
 pub charged-more : (x : Bool) (m n : ℕ) → m ≤ n + 1 → charged x m ≤ charged x n + 1
 charged-more true m n h = h

@@ -10,11 +10,11 @@ use Rattle.usb_world.specs.declared.event.Action.TheVariants.{Change, Ask}
 use Rattle.usb_world.specs.declared.event.Change.TheVariants.{Plug, Unplug}
 use Rattle.usb_world.specs.declared.event.Event.{Event}
 use Rattle.usb_world.specs.PlanCourses.{AtPorts, PlugsAtPort}
-use Rattle.usb_world.specs.Steps.{after, event, happened, ready, took, with_plugged}
+use Rattle.usb_world.specs.Steps.{after, event, after_change, at_attempt, after_event, with_plugged}
 use Rattle.usb_world.specs.World.{World}
 use Rattle.usb_world.proofs.Interface.{OverEvents, over_ready, over_taken}
 use Rattle.usb_backlog.specs.Marks.{charged, devices_in, Few, KeepsBy, PortMark, after_first, below_first, devices_by, looks_by, strays_by}
-use Rattle.usb_backlog.proofs.Devices.{charged-less, charged-more, charged-most}
+use Rattle.usb_backlog.proofs.Devices.{charged-rises, charged-more, charged-most}
 use Rattle.usb_backlog.proofs.Devices.{devices_in-plugged, devices_in-unplugged, own-most}
 
 -- The ports of a new device
@@ -94,7 +94,7 @@ looks_by-unplugged m (taken b t a k) zero [] = omega arith
 looks_by-unplugged m (taken b t a k) zero (zero ∷ p) = omega arith
 looks_by-unplugged m (taken b t a k) zero (suc j ∷ p) =
     let less : charged (m zero [] || b.connection_changed) (1 + devices_in (changed_at (replaced None) a j p)) ≤ charged (m zero [] || b.connection_changed) (1 + devices_in a) =
-    charged-less (m zero [] || b.connection_changed) (1 + devices_in (changed_at (replaced None) a j p)) (1 + devices_in a) (omega (arith, devices_in-unplugged a j p)) in
+    charged-rises (m zero [] || b.connection_changed) (1 + devices_in (changed_at (replaced None) a j p)) (1 + devices_in a) (omega (arith, devices_in-unplugged a j p)) in
     omega (arith, looks_by-unplugged (below_first m) a j p, less)
 looks_by-unplugged m (taken b t a k) (suc i) p = omega (arith, looks_by-unplugged (after_first m) k i p)
 
@@ -109,17 +109,17 @@ devices_by-unplugged m (taken b t a k) zero (zero ∷ p) = omega arith
 devices_by-unplugged m (taken b t a k) zero (suc j ∷ p) = omega (arith, devices_by-unplugged (below_first m) a j p)
 devices_by-unplugged m (taken b t a k) (suc i) p = omega (arith, devices_by-unplugged (after_first m) k i p)
 
-bit-most : (x : Bool) → bit x ≤ 1
-bit-most true = omega arith
-bit-most false = omega arith
+bit-one : (x : Bool) → bit x ≤ 1
+bit-one true = omega arith
+bit-one false = omega arith
 
 strays_by-unplugged : (v r : PortMark) (k : Ports) (i : ℕ) (p : List ℕ) → strays_by v r (changed_at (replaced None) k i p) ≤ strays_by v r k + 1
 unfolding strays_by changed_at
 strays_by-unplugged v r ended i p = omega arith
-strays_by-unplugged v r (vacant b k) zero [] = omega (arith, bit-most (v zero [] || (b.power || b.connection_changed)))
+strays_by-unplugged v r (vacant b k) zero [] = omega (arith, bit-one (v zero [] || (b.power || b.connection_changed)))
 strays_by-unplugged v r (vacant b k) zero (n ∷ p) = omega arith
 strays_by-unplugged v r (vacant b k) (suc i) p = omega (arith, strays_by-unplugged (after_first v) (after_first r) k i p)
-strays_by-unplugged v r (taken b t a k) zero [] = omega (arith, bit-most (v zero [] || (b.power || b.connection_changed)))
+strays_by-unplugged v r (taken b t a k) zero [] = omega (arith, bit-one (v zero [] || (b.power || b.connection_changed)))
 strays_by-unplugged v r (taken b t a k) zero (zero ∷ p) = omega arith
 strays_by-unplugged v r (taken b t a k) zero (suc j ∷ p) = omega (arith, strays_by-unplugged (below_first v) (below_first r) a j p)
 strays_by-unplugged v r (taken b t a k) (suc i) p = omega (arith, strays_by-unplugged (after_first v) (after_first r) k i p)
@@ -146,7 +146,7 @@ module _ (m v r : PortMark) (few : Few v r) where
     devices = λ d. devices_by-plugged d s k i p;
   }
 
-  adds-unplugged : (path : List ℕ) (devices : List Spec) (k : Ports) → Adds k (happened (Change (Unplug path)) devices k)
+  adds-unplugged : (path : List ℕ) (devices : List Spec) (k : Ports) → Adds k (after_change (Change (Unplug path)) devices k)
   adds-unplugged [] devices k = adds-none k
   adds-unplugged (zero ∷ p) devices k = adds-none k
   adds-unplugged (suc i ∷ p) devices k = record {
@@ -155,7 +155,7 @@ module _ (m v r : PortMark) (few : Few v r) where
     devices = λ d. omega (arith, devices_by-unplugged d k i p);
   }
 
-  adds-happened : (action : Action) (devices : List Spec) (k : Ports) → PlugsAtPort action → Adds k (happened action devices k)
+  adds-happened : (action : Action) (devices : List Spec) (k : Ports) → PlugsAtPort action → Adds k (after_change action devices k)
   adds-happened (Change (Plug path device)) devices k h = adds-plugged (slice_get devices device) path k h.1
   adds-happened (Change (Unplug path)) devices k h = adds-unplugged path devices k
   adds-happened (Ask ask) devices k h = adds-none k
@@ -173,10 +173,10 @@ module _ (m v r : PortMark) (few : Few v r) where
     still = λ e d. two.still (omega (arith, one.onward, two.onward, e)) d ∙ one.still (omega (arith, one.onward, two.onward, e)) d;
   }
 
-  keeps-took : (e : Event) (events : List Event) (w : World) → AtPorts (e ∷ events) → KeepsBy m v r w (took e events w)
-  unfolding took
+  keeps-took : (e : Event) (events : List Event) (w : World) → AtPorts (e ∷ events) → KeepsBy m v r w (after_event e events w)
+  unfolding after_event
   keeps-took e events w h =
-      let adds : Adds w.roots (happened e.action w.devices w.roots) = adds-happened e.action w.devices w.roots (All-head (λ x. PlugsAtPort x.action) e events h) in
+      let adds : Adds w.roots (after_change e.action w.devices w.roots) = adds-happened e.action w.devices w.roots (All-head (λ x. PlugsAtPort x.action) e events h) in
       record {
         looks = omega (arith, adds.looks);
         strays = omega (arith, adds.strays);
@@ -202,7 +202,7 @@ module _ (m v r : PortMark) (few : Few v r) where
   }
 
   -- those that are due before an attempt
-  pub keeps-ready : (w : World) → AtPorts w.left → KeepsBy m v r w (ready w)
+  pub keeps-ready : (w : World) → AtPorts w.left → KeepsBy m v r w (at_attempt w)
   keeps-ready = over_ready keeps-events
 
   -- and one that is applied

@@ -1,7 +1,7 @@
 -- What calls add, one after the other.
 use Rattle.std.proofs.Common.{◌≡◌, ℕ, zero, suc, true, false, List, [], ◌∷◌, ◌++◌, refl, subst}
 use Rattle.usb_port.specs.declared.call.PortCall.{PortCall}
-use Rattle.usb_device.specs.Tree.{Spot, path_to}
+use Rattle.usb_device.specs.Tree.{Location, path_to}
 use Rattle.usb_world.specs.World.{World}
 use Rattle.usb_backlog.specs.Marks.{Few, KeepsAll, KeepsBy, KeepsCall, KeepsFound, is_marked, only, ports_at, unmarked}
 use Rattle.usb_backlog.specs.PortSettings.{gives_power}
@@ -40,5 +40,5 @@ pub found_called : (p : List ℕ) (c : PortCall) {a b : World} → gives_power c
 found_called p c quiet x = record { found = λ ports. x.covered ports (ports_at p) unmarked (only p) (few-only p) (record { power = λ g. absurd (cc (quiet, g)); reset = λ g. is_itself p }) }
 
 -- and one that gives power to a port of the device there
-pub ports_covered : (p : List ℕ) (x : Spot) (n : ℕ) → path_to x ≡ p → ports_at p x.row (x.rest ++ (suc n ∷ [])) ≡ true
+pub ports_covered : (p : List ℕ) (x : Location) (n : ℕ) → path_to x ≡ p → ports_at p x.row (x.rest ++ (suc n ∷ [])) ≡ true
 ports_covered p x n same = subst (λ q. ports_at q x.row (x.rest ++ (suc n ∷ [])) ≡ true) same (ports_cover x.row x.rest n)

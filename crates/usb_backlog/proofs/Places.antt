@@ -5,7 +5,7 @@ use Rattle.usb_port.specs.PortState.{PortState, is_attached, bit}
 use Rattle.usb_device.specs.Rows.{State}
 use Rattle.usb_device.specs.Tree.{Ports, ended, vacant, taken, Place, empty, full, new_ports, place_at, port_of}
 use Rattle.usb_world.specs.Paths.{same_number, same_path}
-use Rattle.usb_world.proofs.Interface.{both, no, same_is, self_number, self_path}
+use Rattle.usb_world.proofs.Interface.{both, false_true, same_is, self_number, self_path}
 use Rattle.usb_backlog.specs.Marks.{charged, devices_in, Few, PortMark, after_first, below_first, devices_by, is_child, is_nil, just, looks_by, ports_by, ports_of, shifted, strays_by, unmarked}
 
 -- Marks add, and no mark takes away
@@ -40,23 +40,23 @@ strays_by-less v r (taken b s a k) =
 abbrev in_row : PortMark
 in_row i p = is_nil p
 
-charged-most : (x y : Bool) (n : ℕ) → charged (x || y) n ≤ charged y n + n
-charged-most true y n = omega arith
-charged-most false y n = omega arith
+charged-or : (x y : Bool) (n : ℕ) → charged (x || y) n ≤ charged y n + n
+charged-or true y n = omega arith
+charged-or false y n = omega arith
 
 looks_by-row : (k : Ports) → looks_by in_row k ≤ looks_by unmarked k + devices_in k
 unfolding looks_by devices_in
 looks_by-row ended = omega arith
 looks_by-row (vacant b k) = looks_by-row k
-looks_by-row (taken b s a k) = omega (arith, looks_by-row k, charged-most true b.connection_changed (1 + devices_in a))
+looks_by-row (taken b s a k) = omega (arith, looks_by-row k, charged-or true b.connection_changed (1 + devices_in a))
 
 -- where a device stands whose change is cleared, its ports may be marked in place of its own, and one look is paid
 pub looks_by-found : (k : Ports) (i : ℕ) (e : List ℕ) (b : PortState) (s : State) (a : Ports) → place_at k i e ≡ Some (full b s a) → b.connection_changed ≡ false
     → looks_by (ports_of i e) k + 1 ≤ looks_by (just i e) k
 unfolding looks_by place_at
-looks_by-found ended i e b s a at h = no (ap is_some at)
+looks_by-found ended i e b s a at h = false_true (ap is_some at)
 looks_by-found (vacant c k) zero [] b s a at h = absurd (cc at)
-looks_by-found (vacant c k) zero (n ∷ e) b s a at h = no (ap is_some at)
+looks_by-found (vacant c k) zero (n ∷ e) b s a at h = false_true (ap is_some at)
 looks_by-found (vacant c k) (suc i) e b s a at h = looks_by-found k i e b s a at h
 looks_by-found (taken c t d k) zero [] b s a at h =
     let off : charged c.connection_changed (1 + devices_in d) ≡ 0 = ap (λ x. charged x (1 + devices_in d)) (ap change (same_Some (full c t d) (full b s a) at) ∙ h) in
@@ -65,7 +65,7 @@ looks_by-found (taken c t d k) zero [] b s a at h =
     change : Place → Bool
     change (empty b) = b.connection_changed
     change (full b s a) = b.connection_changed
-looks_by-found (taken c t d k) zero (zero ∷ e) b s a at h = no (ap is_some at)
+looks_by-found (taken c t d k) zero (zero ∷ e) b s a at h = false_true (ap is_some at)
 looks_by-found (taken c t d k) zero (suc j ∷ e) b s a at h = omega (arith, looks_by-found d j e b s a at h)
 looks_by-found (taken c t d k) (suc i) e b s a at h = omega (arith, looks_by-found k i e b s a at h)
 
@@ -85,28 +85,28 @@ looks_by-nowhere (taken c t d k) (suc i) e h = omega (arith, looks_by-nowhere k 
 -- a change of connection that is set is counted, marked or not
 pub looks_by-set : (k : Ports) (i : ℕ) (e : List ℕ) (q : Place) → place_at k i e ≡ Some q → (port_of q).connection_changed ≡ true → looks_by (just i e) k ≡ looks_by unmarked k
 unfolding looks_by place_at
-looks_by-set ended i e q at h = no (ap is_some at)
+looks_by-set ended i e q at h = false_true (ap is_some at)
 looks_by-set (vacant c k) zero e q at h = refl
 looks_by-set (vacant c k) (suc i) e q at h = looks_by-set k i e q at h
 looks_by-set (taken c t d k) zero [] q at h =
     ap (λ x. charged x (1 + devices_in d) + looks_by unmarked d + looks_by unmarked k) (sym (ap (λ x. (port_of x).connection_changed) (same_Some (full c t d) q at) ∙ h))
-looks_by-set (taken c t d k) zero (zero ∷ e) q at h = no (ap is_some at)
+looks_by-set (taken c t d k) zero (zero ∷ e) q at h = false_true (ap is_some at)
 looks_by-set (taken c t d k) zero (suc j ∷ e) q at h = omega (arith, looks_by-set d j e q at h)
 looks_by-set (taken c t d k) (suc i) e q at h = omega (arith, looks_by-set k i e q at h)
 
-bit-or : (x y : Bool) → y ≡ true → bit (x || y) ≡ 1
-bit-or true y h = refl
-bit-or false y h = ap bit h
+bit-or_true : (x y : Bool) → y ≡ true → bit (x || y) ≡ 1
+bit-or_true true y h = refl
+bit-or_true false y h = ap bit h
 
 pub strays_by-set : (k : Ports) (i : ℕ) (e : List ℕ) (q : Place) → place_at k i e ≡ Some q → (port_of q).connection_changed ≡ true → strays_by (just i e) unmarked k ≡ strays_by unmarked unmarked k
 unfolding strays_by place_at
-strays_by-set ended i e q at h = no (ap is_some at)
+strays_by-set ended i e q at h = false_true (ap is_some at)
 strays_by-set (vacant c k) zero [] q at h =
-    omega (arith, bit-or (is_attached c.attached) c.connection_changed (ap (λ x. (port_of x).connection_changed) (same_Some (empty c) q at) ∙ h))
-strays_by-set (vacant c k) zero (n ∷ e) q at h = no (ap is_some at)
+    omega (arith, bit-or_true (is_attached c.attached) c.connection_changed (ap (λ x. (port_of x).connection_changed) (same_Some (empty c) q at) ∙ h))
+strays_by-set (vacant c k) zero (n ∷ e) q at h = false_true (ap is_some at)
 strays_by-set (vacant c k) (suc i) e q at h = omega (arith, strays_by-set k i e q at h)
 strays_by-set (taken c t d k) zero [] q at h = refl
-strays_by-set (taken c t d k) zero (zero ∷ e) q at h = no (ap is_some at)
+strays_by-set (taken c t d k) zero (zero ∷ e) q at h = false_true (ap is_some at)
 strays_by-set (taken c t d k) zero (suc j ∷ e) q at h = omega (arith, strays_by-set d j e q at h)
 strays_by-set (taken c t d k) (suc i) e q at h = omega (arith, strays_by-set k i e q at h)
 
@@ -114,61 +114,61 @@ strays_by-set (taken c t d k) (suc i) e q at h = omega (arith, strays_by-set k i
 pub strays_by-cleared : (k : Ports) (i : ℕ) (e : List ℕ) (b : PortState) → place_at k i e ≡ Some (empty b) → is_attached b.attached ≡ false → b.connection_changed ≡ false
     → strays_by unmarked unmarked k + 1 ≡ strays_by (just i e) unmarked k
 unfolding strays_by place_at
-strays_by-cleared ended i e b at f h = no (ap is_some at)
+strays_by-cleared ended i e b at f h = false_true (ap is_some at)
 strays_by-cleared (vacant c k) zero [] b at f h =
     let same : c ≡ b = ap port_of (same_Some (empty c) (empty b) at) in
     let none : bit (is_attached c.attached || c.connection_changed) ≡ 0 = rw (same, f, h) refl in
     omega (arith, none)
-strays_by-cleared (vacant c k) zero (n ∷ e) b at f h = no (ap is_some at)
+strays_by-cleared (vacant c k) zero (n ∷ e) b at f h = false_true (ap is_some at)
 strays_by-cleared (vacant c k) (suc i) e b at f h = omega (arith, strays_by-cleared k i e b at f h)
 strays_by-cleared (taken c t d k) zero [] b at f h = absurd (cc at)
-strays_by-cleared (taken c t d k) zero (zero ∷ e) b at f h = no (ap is_some at)
+strays_by-cleared (taken c t d k) zero (zero ∷ e) b at f h = false_true (ap is_some at)
 strays_by-cleared (taken c t d k) zero (suc j ∷ e) b at f h = omega (arith, strays_by-cleared d j e b at f h)
 strays_by-cleared (taken c t d k) (suc i) e b at f h = omega (arith, strays_by-cleared k i e b at f h)
 
 -- a mark counts for one at most
-bit-most : (x y : Bool) → bit (x || y) ≤ bit y + 1
-bit-most true y = omega arith
-bit-most false y = omega arith
+bit-or_most : (x y : Bool) → bit (x || y) ≤ bit y + 1
+bit-or_most true y = omega arith
+bit-or_most false y = omega arith
 
 pub strays_by-reset : (k : Ports) (i : ℕ) (e : List ℕ) → strays_by unmarked (just i e) k ≤ strays_by unmarked unmarked k + 1
 unfolding strays_by
 strays_by-reset ended i e = omega arith
-strays_by-reset (vacant c k) zero [] = omega (arith, bit-most true c.reset_changed)
+strays_by-reset (vacant c k) zero [] = omega (arith, bit-or_most true c.reset_changed)
 strays_by-reset (vacant c k) zero (n ∷ e) = omega arith
 strays_by-reset (vacant c k) (suc i) e = omega (arith, strays_by-reset k i e)
-strays_by-reset (taken c t d k) zero [] = omega (arith, bit-most true c.reset_changed)
+strays_by-reset (taken c t d k) zero [] = omega (arith, bit-or_most true c.reset_changed)
 strays_by-reset (taken c t d k) zero (zero ∷ e) = omega arith
 strays_by-reset (taken c t d k) zero (suc j ∷ e) = omega (arith, strays_by-reset d j e)
 strays_by-reset (taken c t d k) (suc i) e = omega (arith, strays_by-reset k i e)
 
 pub strays_by-told : (k : Ports) (i : ℕ) (e : List ℕ) (q : Place) → place_at k i e ≡ Some q → (port_of q).reset_changed ≡ true → strays_by unmarked (just i e) k ≡ strays_by unmarked unmarked k
 unfolding strays_by place_at
-strays_by-told ended i e q at h = no (ap is_some at)
+strays_by-told ended i e q at h = false_true (ap is_some at)
 strays_by-told (vacant c k) zero [] q at h =
     let set : bit c.reset_changed ≡ 1 = ap bit (ap (λ x. (port_of x).reset_changed) (same_Some (empty c) q at) ∙ h) in
     omega (arith, set)
-strays_by-told (vacant c k) zero (n ∷ e) q at h = no (ap is_some at)
+strays_by-told (vacant c k) zero (n ∷ e) q at h = false_true (ap is_some at)
 strays_by-told (vacant c k) (suc i) e q at h = omega (arith, strays_by-told k i e q at h)
 strays_by-told (taken c t d k) zero [] q at h =
     let set : bit c.reset_changed ≡ 1 = ap bit (ap (λ x. (port_of x).reset_changed) (same_Some (full c t d) q at) ∙ h) in
     omega (arith, set)
-strays_by-told (taken c t d k) zero (zero ∷ e) q at h = no (ap is_some at)
+strays_by-told (taken c t d k) zero (zero ∷ e) q at h = false_true (ap is_some at)
 strays_by-told (taken c t d k) zero (suc j ∷ e) q at h = omega (arith, strays_by-told d j e q at h)
 strays_by-told (taken c t d k) (suc i) e q at h = omega (arith, strays_by-told k i e q at h)
 
 pub strays_by-tidied : (k : Ports) (i : ℕ) (e : List ℕ) (q : Place) → place_at k i e ≡ Some q → (port_of q).reset_changed ≡ false → strays_by unmarked unmarked k + 1 ≡ strays_by unmarked (just i e) k
 unfolding strays_by place_at
-strays_by-tidied ended i e q at h = no (ap is_some at)
+strays_by-tidied ended i e q at h = false_true (ap is_some at)
 strays_by-tidied (vacant c k) zero [] q at h =
     let set : bit c.reset_changed ≡ 0 = ap bit (ap (λ x. (port_of x).reset_changed) (same_Some (empty c) q at) ∙ h) in
     omega (arith, set)
-strays_by-tidied (vacant c k) zero (n ∷ e) q at h = no (ap is_some at)
+strays_by-tidied (vacant c k) zero (n ∷ e) q at h = false_true (ap is_some at)
 strays_by-tidied (vacant c k) (suc i) e q at h = omega (arith, strays_by-tidied k i e q at h)
 strays_by-tidied (taken c t d k) zero [] q at h =
     let set : bit c.reset_changed ≡ 0 = ap bit (ap (λ x. (port_of x).reset_changed) (same_Some (full c t d) q at) ∙ h) in
     omega (arith, set)
-strays_by-tidied (taken c t d k) zero (zero ∷ e) q at h = no (ap is_some at)
+strays_by-tidied (taken c t d k) zero (zero ∷ e) q at h = false_true (ap is_some at)
 strays_by-tidied (taken c t d k) zero (suc j ∷ e) q at h = omega (arith, strays_by-tidied d j e q at h)
 strays_by-tidied (taken c t d k) (suc i) e q at h = omega (arith, strays_by-tidied k i e q at h)
 
@@ -182,12 +182,12 @@ devices_by-none (taken b s a k) = omega (arith, devices_by-none a, devices_by-no
 
 pub devices_by-there : (k : Ports) (i : ℕ) (e : List ℕ) (b : PortState) (s : State) (a : Ports) → place_at k i e ≡ Some (full b s a) → devices_by (just i e) k ≡ 1
 unfolding devices_by place_at
-devices_by-there ended i e b s a at = no (ap is_some at)
+devices_by-there ended i e b s a at = false_true (ap is_some at)
 devices_by-there (vacant c k) zero [] b s a at = absurd (cc at)
-devices_by-there (vacant c k) zero (n ∷ e) b s a at = no (ap is_some at)
+devices_by-there (vacant c k) zero (n ∷ e) b s a at = false_true (ap is_some at)
 devices_by-there (vacant c k) (suc i) e b s a at = devices_by-there k i e b s a at
 devices_by-there (taken c t d k) zero [] b s a at = omega (arith, devices_by-none d, devices_by-none k)
-devices_by-there (taken c t d k) zero (zero ∷ e) b s a at = no (ap is_some at)
+devices_by-there (taken c t d k) zero (zero ∷ e) b s a at = false_true (ap is_some at)
 devices_by-there (taken c t d k) zero (suc j ∷ e) b s a at = omega (arith, devices_by-there d j e b s a at, devices_by-none k)
 devices_by-there (taken c t d k) (suc i) e b s a at = omega (arith, devices_by-there k i e b s a at, devices_by-none d)
 
@@ -198,7 +198,7 @@ devices_by-empty (vacant c k) zero [] b at = devices_by-none k
 devices_by-empty (vacant c k) zero (n ∷ e) b at = devices_by-none k
 devices_by-empty (vacant c k) (suc i) e b at = devices_by-empty k i e b at
 devices_by-empty (taken c t d k) zero [] b at = absurd (cc at)
-devices_by-empty (taken c t d k) zero (zero ∷ e) b at = no (ap is_some at)
+devices_by-empty (taken c t d k) zero (zero ∷ e) b at = false_true (ap is_some at)
 devices_by-empty (taken c t d k) zero (suc j ∷ e) b at = omega (arith, devices_by-empty d j e b at, devices_by-none k)
 devices_by-empty (taken c t d k) (suc i) e b at = omega (arith, devices_by-empty k i e b at, devices_by-none d)
 
@@ -223,12 +223,12 @@ ports_by-none (taken b s a k) = omega (arith, ports_by-none a, ports_by-none k)
 
 pub ports_by-there : (k : Ports) (i : ℕ) (e : List ℕ) (q : Place) → place_at k i e ≡ Some q → ports_by (just i e) k ≡ 1
 unfolding ports_by place_at
-ports_by-there ended i e q at = no (ap is_some at)
+ports_by-there ended i e q at = false_true (ap is_some at)
 ports_by-there (vacant c k) zero [] q at = omega (arith, ports_by-none k)
-ports_by-there (vacant c k) zero (n ∷ e) q at = no (ap is_some at)
+ports_by-there (vacant c k) zero (n ∷ e) q at = false_true (ap is_some at)
 ports_by-there (vacant c k) (suc i) e q at = omega (arith, ports_by-there k i e q at)
 ports_by-there (taken c t d k) zero [] q at = omega (arith, ports_by-none d, ports_by-none k)
-ports_by-there (taken c t d k) zero (zero ∷ e) q at = no (ap is_some at)
+ports_by-there (taken c t d k) zero (zero ∷ e) q at = false_true (ap is_some at)
 ports_by-there (taken c t d k) zero (suc j ∷ e) q at = omega (arith, ports_by-there d j e q at, ports_by-none k)
 ports_by-there (taken c t d k) (suc i) e q at = omega (arith, ports_by-there k i e q at, ports_by-none d)
 
@@ -245,50 +245,50 @@ ports_by-nowhere (taken c t d k) (suc i) e at = omega (arith, ports_by-nowhere k
 
 -- Fewer ports that are marked count fewer devices, and one fewer where a device stands at one that is not marked any more
 
-charged-less : (x y : Bool) → (x ≡ true → y ≡ true) → charged x 1 ≤ charged y 1
-charged-less true y h = let set : charged y 1 ≡ 1 = ap (λ z. charged z 1) (h refl) in omega (arith, set)
-charged-less false y h = omega arith
+charged-implied : (x y : Bool) → (x ≡ true → y ≡ true) → charged x 1 ≤ charged y 1
+charged-implied true y h = let set : charged y 1 ≡ 1 = ap (λ z. charged z 1) (h refl) in omega (arith, set)
+charged-implied false y h = omega arith
 
 pub devices_by-less : (m n : PortMark) → ((i : ℕ) (p : List ℕ) → m i p ≡ true → n i p ≡ true) → (k : Ports) → devices_by m k ≤ devices_by n k
 unfolding devices_by
 devices_by-less m n h ended = omega arith
 devices_by-less m n h (vacant b k) = devices_by-less (after_first m) (after_first n) (λ i p. h (suc i) p) k
 devices_by-less m n h (taken b s a k) =
-    omega (arith, charged-less (m zero []) (n zero []) (h zero []), devices_by-less (below_first m) (below_first n) (λ i p. h zero (suc i ∷ p)) a, devices_by-less (after_first m) (after_first n) (λ i p. h (suc i) p) k)
+    omega (arith, charged-implied (m zero []) (n zero []) (h zero []), devices_by-less (below_first m) (below_first n) (λ i p. h zero (suc i ∷ p)) a, devices_by-less (after_first m) (after_first n) (λ i p. h (suc i) p) k)
 
 pub devices_by-fewer : (m n : PortMark) → ((i : ℕ) (p : List ℕ) → m i p ≡ true → n i p ≡ true) → (k : Ports) (i : ℕ) (e : List ℕ) (b : PortState) (s : State) (a : Ports) → place_at k i e ≡ Some (full b s a)
     → m i e ≡ false → n i e ≡ true → devices_by m k + 1 ≤ devices_by n k
 unfolding devices_by place_at
-devices_by-fewer m n h ended i e b s a at x y = no (ap is_some at)
+devices_by-fewer m n h ended i e b s a at x y = false_true (ap is_some at)
 devices_by-fewer m n h (vacant c k) zero [] b s a at x y = absurd (cc at)
-devices_by-fewer m n h (vacant c k) zero (u ∷ e) b s a at x y = no (ap is_some at)
+devices_by-fewer m n h (vacant c k) zero (u ∷ e) b s a at x y = false_true (ap is_some at)
 devices_by-fewer m n h (vacant c k) (suc i) e b s a at x y = devices_by-fewer (after_first m) (after_first n) (λ i p. h (suc i) p) k i e b s a at x y
 devices_by-fewer m n h (taken c t d k) zero [] b s a at x y =
     let was : charged (n zero []) 1 ≡ 1 = ap (λ z. charged z 1) y in
     let now : charged (m zero []) 1 ≡ 0 = ap (λ z. charged z 1) x in
     omega (arith, was, now, devices_by-less (below_first m) (below_first n) (λ i p. h zero (suc i ∷ p)) d, devices_by-less (after_first m) (after_first n) (λ i p. h (suc i) p) k)
-devices_by-fewer m n h (taken c t d k) zero (zero ∷ e) b s a at x y = no (ap is_some at)
+devices_by-fewer m n h (taken c t d k) zero (zero ∷ e) b s a at x y = false_true (ap is_some at)
 devices_by-fewer m n h (taken c t d k) zero (suc j ∷ e) b s a at x y =
-    omega (arith, charged-less (m zero []) (n zero []) (h zero []), devices_by-fewer (below_first m) (below_first n) (λ i p. h zero (suc i ∷ p)) d j e b s a at x y, devices_by-less (after_first m) (after_first n) (λ i p. h (suc i) p) k)
+    omega (arith, charged-implied (m zero []) (n zero []) (h zero []), devices_by-fewer (below_first m) (below_first n) (λ i p. h zero (suc i ∷ p)) d j e b s a at x y, devices_by-less (after_first m) (after_first n) (λ i p. h (suc i) p) k)
 devices_by-fewer m n h (taken c t d k) (suc i) e b s a at x y =
-    omega (arith, charged-less (m zero []) (n zero []) (h zero []), devices_by-less (below_first m) (below_first n) (λ i p. h zero (suc i ∷ p)) d, devices_by-fewer (after_first m) (after_first n) (λ i p. h (suc i) p) k i e b s a at x y)
+    omega (arith, charged-implied (m zero []) (n zero []) (h zero []), devices_by-less (below_first m) (below_first n) (λ i p. h zero (suc i ∷ p)) d, devices_by-fewer (after_first m) (after_first n) (λ i p. h (suc i) p) k i e b s a at x y)
 
 -- At most one port of a new device is marked
 
 -- no two ports of a row are
-Once : (ℕ → Bool) → Type 0
-Once f = (i j : ℕ) → f i ≡ true → f j ≡ true → same_number i j ≡ true
+MarksOne : (ℕ → Bool) → Type 0
+MarksOne f = (i j : ℕ) → f i ≡ true → f j ≡ true → same_number i j ≡ true
 
-rest_none : (f : ℕ → Bool) → Once f → f zero ≡ true → (i : ℕ) → f (suc i) ≡ false
-unfolding Once
+rest_none : (f : ℕ → Bool) → MarksOne f → f zero ≡ true → (i : ℕ) → f (suc i) ≡ false
+unfolding MarksOne
 rest_none f h x i = pick (f (suc i)) refl
   where
     pick : (b : Bool) → f (suc i) ≡ b → f (suc i) ≡ false
-    pick true e = no (h zero (suc i) x e)
+    pick true e = false_true (h zero (suc i) x e)
     pick false e = e
 
 bit-off : (x : Bool) → x ≡ false → bit (x || false) ≡ 0
-bit-off true h = no (sym h)
+bit-off true h = false_true (sym h)
 bit-off false h = refl
 
 new-none : (v r : PortMark) → ((i : ℕ) → v i [] ≡ false) → ((i : ℕ) → r i [] ≡ false) → (n : ℕ) → strays_by v r (new_ports n) ≡ 0
@@ -301,8 +301,8 @@ one_of : (b : Bool) (m : ℕ) → m ≤ 1 → (b ≡ true → m ≡ 0) → bit (
 one_of true m h g = let none : m ≡ 0 = g refl in omega (arith, none)
 one_of false m h g = omega (arith, h)
 
-new-vacant : (v r : PortMark) → Once (λ i. v i []) → ((i : ℕ) → r i [] ≡ false) → (n : ℕ) → strays_by v r (new_ports n) ≤ 1
-unfolding strays_by new_ports Once
+new-vacant : (v r : PortMark) → MarksOne (λ i. v i []) → ((i : ℕ) → r i [] ≡ false) → (n : ℕ) → strays_by v r (new_ports n) ≤ 1
+unfolding strays_by new_ports MarksOne
 new-vacant v r x y zero = omega arith
 new-vacant v r x y (suc n) =
     omega (
@@ -312,8 +312,8 @@ new-vacant v r x y (suc n) =
           (λ e. new-none (after_first v) (after_first r) (rest_none (λ i. v i []) x e) (λ i. y (suc i)) n),
     )
 
-new-reset : (v r : PortMark) → ((i : ℕ) → v i [] ≡ false) → Once (λ i. r i []) → (n : ℕ) → strays_by v r (new_ports n) ≤ 1
-unfolding strays_by new_ports Once
+new-reset : (v r : PortMark) → ((i : ℕ) → v i [] ≡ false) → MarksOne (λ i. r i []) → (n : ℕ) → strays_by v r (new_ports n) ≤ 1
+unfolding strays_by new_ports MarksOne
 new-reset v r x y zero = omega arith
 new-reset v r x y (suc n) =
     omega (
@@ -323,8 +323,8 @@ new-reset v r x y (suc n) =
           (λ e. new-none (after_first v) (after_first r) (λ i. x (suc i)) (rest_none (λ i. r i []) y e) n),
     )
 
-last_same : (e p : List ℕ) (i j : ℕ) → same_path e (p ++ (suc i ∷ [])) ≡ true → same_path e (p ++ (suc j ∷ [])) ≡ true → same_number i j ≡ true
-last_same e p i j x y = ends p (same_is e (p ++ (suc i ∷ [])) x ∙ sym (same_is e (p ++ (suc j ∷ [])) y))
+same_path-last : (e p : List ℕ) (i j : ℕ) → same_path e (p ++ (suc i ∷ [])) ≡ true → same_path e (p ++ (suc j ∷ [])) ≡ true → same_number i j ≡ true
+same_path-last e p i j x y = ends p (same_is e (p ++ (suc i ∷ [])) x ∙ sym (same_is e (p ++ (suc j ∷ [])) y))
   where
     head : List ℕ → ℕ
     head [] = zero
@@ -338,9 +338,9 @@ last_same e p i j x y = ends p (same_is e (p ++ (suc i ∷ [])) x ∙ sym (same_
     ends [] h = subst (λ n. same_number (suc i) n ≡ true) (ap head h) (self_number i)
     ends (n ∷ p) h = ends p (ap tail h)
 
-once_just : (j : ℕ) (e : List ℕ) (i : ℕ) (p : List ℕ) → Once (λ n. shifted (just j e) i p n [])
-unfolding Once
-once_just j e i p m n x y = last_same e p m n (both (same_number j i) _ x).1 (both (same_number j i) _ y).1
+once_just : (j : ℕ) (e : List ℕ) (i : ℕ) (p : List ℕ) → MarksOne (λ n. shifted (just j e) i p n [])
+unfolding MarksOne
+once_just j e i p m n x y = same_path-last e p m n (both (same_number j i) _ x).1 (both (same_number j i) _ y).1
 
 pub few-none : Few unmarked unmarked
 few-none i p n = let none : strays_by unmarked unmarked (new_ports n) ≡ 0 = new-none unmarked unmarked (λ i. refl) (λ i. refl) n in omega (arith, none)

@@ -20,9 +20,9 @@ use Rattle.usb_world.specs.AttemptPackets.{IfOut, IsSettled}
 use Rattle.usb_world.specs.Exchange.{payload_out}
 use Rattle.usb_world.specs.OneHolder.{HolderIn, IsSetup}
 use Rattle.usb_world.specs.Paths.{same_number, same_path}
-use Rattle.usb_world.specs.Steps.{damage_in, ready}
+use Rattle.usb_world.specs.Steps.{damage_in, at_attempt}
 use Rattle.usb_world.specs.World.{World}
-use Rattle.usb_world.proofs.Interface.{Allows, AllowsOut, PayloadAllows, and_of, both, data_asks_none, decided, equal_same, is_same, no, or_right, others_leave, payload_allowed, same_is, self_number, sent_allowed}
+use Rattle.usb_world.proofs.Interface.{Allows, AllowsOut, PayloadAllows, and_of, both, data_asks_none, decided, equal_same, same_number-is, false_true, or_right, others_leave, payload_allowed, same_is, self_number, sent_allowed}
 use Rattle.usb_backlog.specs.Marks.{PortMark, allowed}
 use Rattle.usb_backlog.specs.PortSettings.{gives_power, sets_feature}
 use Rattle.usb_backlog.proofs.Steps.{AttemptAllows}
@@ -41,8 +41,8 @@ sets_none PortsOff = true
 
 none_allowed : (m r : ℕ → Bool) (e : Effect) → sets_none e ≡ true → allowed m r e ≡ true
 none_allowed m r Leaves h = refl
-none_allowed m r (Calls SetPower i) h = no h
-none_allowed m r (Calls SetReset i) h = no h
+none_allowed m r (Calls SetPower i) h = false_true h
+none_allowed m r (Calls SetReset i) h = false_true h
 none_allowed m r (Calls ClearEnable i) h = and_of (m i || true) (r i || true) (or_right (m i) true refl) (or_right (r i) true refl)
 none_allowed m r (Calls ClearPower i) h = and_of (m i || true) (r i || true) (or_right (m i) true refl) (or_right (r i) true refl)
 none_allowed m r (Calls ClearConnectionChange i) h = and_of (m i || true) (r i || true) (or_right (m i) true refl) (or_right (r i) true refl)
@@ -64,25 +64,25 @@ clears_none f c h = split (f == PORT_ENABLE) (f == PORT_POWER) (f == C_PORT_CONN
     split false false true u v e = is ClearConnectionChange refl e
     split false false false true v e = is ClearEnableChange refl e
     split false false false false true e = is ClearResetChange refl e
-    split false false false false false e = no (ap is_some e)
+    split false false false false false e = false_true (ap is_some e)
 
-denied : {A : Type 0} (x : Bool) → x ≡ false → x ≡ true → A
-denied x f t = no (sym f ∙ t)
+false_not_true : {A : Type 0} (x : Bool) → x ≡ false → x ≡ true → A
+false_not_true x f t = false_true (sym f ∙ t)
 
 -- a request that is not SetPortFeature
 pub request_sets_none : (q : Setup) → Is q PORT_OUT SET_FEATURE ≡ false → Allows sets_none q
 request_sets_none q h = record {
   rests = refl;
   off = λ e. refl;
-  set = λ e c i x y. denied (Is q PORT_OUT SET_FEATURE) h e;
+  set = λ e c i x y. false_not_true (Is q PORT_OUT SET_FEATURE) h e;
   clear = λ e c i x y. clears_none q.value c x;
 }
 
-sent_of : (T : Effect → Bool) → T Leaves ≡ true → (a : Attempt) (w : World) → PayloadAllows T a.payload → (q : Sent) → payload_out a (damage_in (ready w)) ≡ Some q → (deep : Bool) (s : State) → T (effect_of q deep s) ≡ true
-sent_of T l a w h q o = sent_allowed T l q (subst (IfOut (AllowsOut T)) o (payload_allowed T l a (damage_in (ready w)) h))
+payload_effect : (T : Effect → Bool) → T Leaves ≡ true → (a : Attempt) (w : World) → PayloadAllows T a.payload → (q : Sent) → payload_out a (damage_in (at_attempt w)) ≡ Some q → (deep : Bool) (s : State) → T (effect_of q deep s) ≡ true
+payload_effect T l a w h q o = sent_allowed T l q (subst (IfOut (AllowsOut T)) o (payload_allowed T l a (damage_in (at_attempt w)) h))
 
 pub payload_sets_none : (m r : PortMark) (a : Attempt) (w : World) → PayloadAllows sets_none a.payload → AttemptAllows m r a w
-payload_sets_none m r a w h q o j e t at deep = none_allowed _ _ (effect_of q deep t) (sent_of sets_none refl a w h q o deep t)
+payload_sets_none m r a w h q o j e t at deep = none_allowed _ _ (effect_of q deep t) (payload_effect sets_none refl a w h q o deep t)
 
 -- SetPortFeature, where one device holds the address
 
@@ -104,21 +104,21 @@ sets_as f c d x y = subst (λ z. ((gives_power z || not (gives_power c)) && (is_
     itself ClearEnableChange = refl
     itself ClearResetChange = refl
 
-same_after : (m n : ℕ) → suc m ≡ suc n → same_number m n ≡ true
-same_after m n e = subst (λ x. same_number m x ≡ true) (ap pred e) (self_number m)
+same_number-suc : (m n : ℕ) → suc m ≡ suc n → same_number m n ≡ true
+same_number-suc m n e = subst (λ x. same_number m x ≡ true) (ap pred e) (self_number m)
   where
     pred : ℕ → ℕ
     pred zero = zero
     pred (suc n) = n
 
-apart : {A : Type 0} (q : Setup) → Is q PORT_OUT SET_FEATURE ≡ true → Is q DEVICE_OUT SET_CONFIGURATION ≡ true → A
-apart q x y = no (ap (λ z. z == DEVICE_OUT) (sym (equal q.request_type PORT_OUT (both (q.request_type == PORT_OUT) (q.request == SET_FEATURE) x).0)) ∙ (both (q.request_type == DEVICE_OUT) (q.request == SET_CONFIGURATION) y).0)
+power_not_configuration : {A : Type 0} (q : Setup) → Is q PORT_OUT SET_FEATURE ≡ true → Is q DEVICE_OUT SET_CONFIGURATION ≡ true → A
+power_not_configuration q x y = false_true (ap (λ z. z == DEVICE_OUT) (sym (equal q.request_type PORT_OUT (both (q.request_type == PORT_OUT) (q.request == SET_FEATURE) x).0)) ∙ (both (q.request_type == DEVICE_OUT) (q.request == SET_CONFIGURATION) y).0)
   where
     equal : (m n : ℕ) → (m == n) ≡ true → m ≡ n
     equal m n e = equal_same m n e
 
 apart_clear : {A : Type 0} (q : Setup) → Is q PORT_OUT SET_FEATURE ≡ true → Is q PORT_OUT CLEAR_FEATURE ≡ true → A
-apart_clear q x y = no (ap (λ z. z == CLEAR_FEATURE) (sym (equal q.request SET_FEATURE (both (q.request_type == PORT_OUT) (q.request == SET_FEATURE) x).1)) ∙ (both (q.request_type == PORT_OUT) (q.request == CLEAR_FEATURE) y).1)
+apart_clear q x y = false_true (ap (λ z. z == CLEAR_FEATURE) (sym (equal q.request SET_FEATURE (both (q.request_type == PORT_OUT) (q.request == SET_FEATURE) x).1)) ∙ (both (q.request_type == PORT_OUT) (q.request == CLEAR_FEATURE) y).1)
   where
     equal : (m n : ℕ) → (m == n) ≡ true → m ≡ n
     equal m n e = equal_same m n e
@@ -126,8 +126,8 @@ apart_clear q x y = no (ap (λ z. z == CLEAR_FEATURE) (sym (equal q.request SET_
 request_only_at : (q : Setup) (n : ℕ) (d : PortCall) → Is q PORT_OUT SET_FEATURE ≡ true → q.index ≡ suc n → set_call q.value ≡ Some d → Allows (only_at n d) q
 request_only_at q n d h names is = record {
   rests = refl;
-  off = λ e. apart q h e;
-  set = λ e c i x y. and_of (same_number n i) _ (same_after n i (sym names ∙ y)) (sets_as q.value c d x is);
+  off = λ e. power_not_configuration q h e;
+  set = λ e c i x y. and_of (same_number n i) _ (same_number-suc n i (sym names ∙ y)) (sets_as q.value c d x is);
   clear = λ e c i x y. apart_clear q h e;
 }
 
@@ -136,13 +136,13 @@ pub record Covers (m r : PortMark) (j : ℕ) (p : List ℕ) (n : ℕ) (d : PortC
   pub power : gives_power d ≡ true → m j (p ++ (suc n ∷ [])) ≡ true
   pub reset : is_reset d ≡ true → r j (p ++ (suc n ∷ [])) ≡ true
 
-covered : (m r : ℕ → Bool) (n : ℕ) (d : PortCall) → (gives_power d ≡ true → m n ≡ true) → (is_reset d ≡ true → r n ≡ true) → (e : Effect) → only_at n d e ≡ true → allowed m r e ≡ true
-covered m r n d power reset Leaves h = refl
-covered m r n d power reset PortsOff h = no h
-covered m r n d power reset (Calls c i) h =
+only_at-allowed : (m r : ℕ → Bool) (n : ℕ) (d : PortCall) → (gives_power d ≡ true → m n ≡ true) → (is_reset d ≡ true → r n ≡ true) → (e : Effect) → only_at n d e ≡ true → allowed m r e ≡ true
+only_at-allowed m r n d power reset Leaves h = refl
+only_at-allowed m r n d power reset PortsOff h = false_true h
+only_at-allowed m r n d power reset (Calls c i) h =
     let one : _ = both (same_number n i) ((gives_power d || not (gives_power c)) && (is_reset d || not (is_reset c))) h in
     let two : _ = both (gives_power d || not (gives_power c)) (is_reset d || not (is_reset c)) one.1 in
-    subst (λ k. ((m k || not (gives_power c)) && (r k || not (is_reset c))) ≡ true) (sym (is_same n i one.0))
+    subst (λ k. ((m k || not (gives_power c)) && (r k || not (is_reset c))) ≡ true) (sym (same_number-is n i one.0))
     (and_of (m n || not (gives_power c)) (r n || not (is_reset c)) (pick (gives_power d) (m n) (gives_power c) power two.0) (pick (is_reset d) (r n) (is_reset c) reset two.1))
   where
     pick : (x y z : Bool) → (x ≡ true → y ≡ true) → (x || not z) ≡ true → (y || not z) ≡ true
@@ -155,14 +155,14 @@ pub holder_allows : (m r : PortMark) (a : Attempt) (w : World) (h : HolderIn a w
 holder_allows m r a w h bytes is sets n names d call covers q o j e t at deep = pick (decided (same_number j h.spot.row && same_path e h.spot.rest))
   where
     asked : only_at n d (effect_of q deep t) ≡ true
-    asked = sent_of (only_at n d) refl a w (subst (PayloadAllows (only_at n d)) (sym is.payload) (request_only_at (setup_of bytes) n d sets names call)) q o deep t
+    asked = payload_effect (only_at n d) refl a w (subst (PayloadAllows (only_at n d)) (sym is.payload) (request_only_at (setup_of bytes) n d sets names call)) q o deep t
 
     pick : ((same_number j h.spot.row && same_path e h.spot.rest) ≡ true) ⊎ ((same_number j h.spot.row && same_path e h.spot.rest) ≡ false)
         → allowed (λ i. m j (e ++ (suc i ∷ []))) (λ i. r j (e ++ (suc i ∷ []))) (effect_of q deep t) ≡ true
     pick (inl x) =
         let there : _ = both (same_number j h.spot.row) (same_path e h.spot.rest) x in
-        covered (λ i. m j (e ++ (suc i ∷ []))) (λ i. r j (e ++ (suc i ∷ []))) n d
-        (λ g. subst (λ j. m j (e ++ (suc n ∷ [])) ≡ true) (is_same j h.spot.row there.0) (subst (λ e. m h.spot.row (e ++ (suc n ∷ [])) ≡ true) (same_is e h.spot.rest there.1) (covers.power g)))
-        (λ g. subst (λ j. r j (e ++ (suc n ∷ [])) ≡ true) (is_same j h.spot.row there.0) (subst (λ e. r h.spot.row (e ++ (suc n ∷ [])) ≡ true) (same_is e h.spot.rest there.1) (covers.reset g)))
+        only_at-allowed (λ i. m j (e ++ (suc i ∷ []))) (λ i. r j (e ++ (suc i ∷ []))) n d
+        (λ g. subst (λ j. m j (e ++ (suc n ∷ [])) ≡ true) (same_number-is j h.spot.row there.0) (subst (λ e. m h.spot.row (e ++ (suc n ∷ [])) ≡ true) (same_is e h.spot.rest there.1) (covers.power g)))
+        (λ g. subst (λ j. r j (e ++ (suc n ∷ [])) ≡ true) (same_number-is j h.spot.row there.0) (subst (λ e. r h.spot.row (e ++ (suc n ∷ [])) ≡ true) (same_is e h.spot.rest there.1) (covers.reset g)))
         (effect_of q deep t) asked
     pick (inr x) = ap (allowed _ _) (others_leave a w h j e t x at q deep)

@@ -11,7 +11,7 @@ use Rattle.usb_world.specs.AttemptPackets.{NobodyHolds, after_sent}
 use Rattle.usb_world.specs.Exchange.{payload_out, ports_in, reply_out, token_out}
 use Rattle.usb_world.specs.OneHolder.{IsMade}
 use Rattle.usb_world.specs.PlanCourses.{AtPorts}
-use Rattle.usb_world.specs.Steps.{Course, Step, after, attempt, damage_in, event, here, ready, report, root_call, step, with_attempt}
+use Rattle.usb_world.specs.Steps.{Course, Step, after, attempt, damage_in, event, here, at_attempt, report, root_call, step, with_attempt}
 use Rattle.usb_world.specs.World.{World}
 use Rattle.usb_world.proofs.Interface.{OverSteps, ack_out, both, goes, made_is, nobody_in, over_course, over_step, token_out as token_calm, with_call, with_limit_told}
 use Rattle.usb_backlog.specs.Marks.{AllowsMarks, Few, KeepsBy, PortMark}
@@ -22,7 +22,7 @@ use Rattle.usb_backlog.proofs.Packets.{less-calm, less-forgotten, less-sent}
 
 -- what each device asks at an attempt is allowed
 abbrev pub AttemptAllows : PortMark → PortMark → Attempt → World → Type 0
-AttemptAllows m r a w = (q : Sent) → payload_out a (damage_in (ready w)) ≡ Some q → AllowsMarks m r q (after_sent (token_out a (damage_in (ready w))) (ready w).roots)
+AttemptAllows m r a w = (q : Sent) → payload_out a (damage_in (at_attempt w)) ≡ Some q → AllowsMarks m r q (after_sent (token_out a (damage_in (at_attempt w))) (at_attempt w).roots)
 
 -- so is a call at a root port
 abbrev pub root_allowed : PortMark → PortMark → PortCall → ℕ → Bool
@@ -67,8 +67,8 @@ module _ (m v r : PortMark) (few : Few v r) where
   keeps-steps = record {
     events = keeps-events m v r few;
     made = λ a w made k h.
-        keeps-less (ready w) (with_attempt a (ready w)) refl refl h
-        (less-attempt a (damage_in (ready w)) (ready w).roots k);
+        keeps-less (at_attempt w) (with_attempt a (at_attempt w)) refl refl h
+        (less-attempt a (damage_in (at_attempt w)) (at_attempt w).roots k);
     root = λ c n w k h. keeps-less w (with_call c n w) refl refl h (less-root c n w.roots k);
     refused = λ w h. keeps-less w (with_limit_told w) refl refl h (less-same m v r w.roots);
   }
@@ -86,13 +86,13 @@ module _ (m v r : PortMark) (few : Few v r) where
   keeps-course h c = over_course keeps-steps c h
 
   -- an attempt that nobody hears
-  pub keeps-unheard : (a : Attempt) (w : World) → AtPorts w.left → IsMade a w → NobodyHolds a.addr (ready w).roots → KeepsBy m v r w (after (attempt a) w)
+  pub keeps-unheard : (a : Attempt) (w : World) → AtPorts w.left → IsMade a w → NobodyHolds a.addr (at_attempt w).roots → KeepsBy m v r w (after (attempt a) w)
   unfolding with_attempt
   keeps-unheard a w h made nobody =
-      let came : KeepsBy m v r w (ready w) = keeps-ready m v r few w h in
+      let came : KeepsBy m v r w (at_attempt w) = keeps-ready m v r few w h in
       keeps-then m v r few came
-      (keeps-less (ready w) (after (attempt a) w) (ap (λ x. x.taken) (made_is a w made)) (ap (λ x. x.left) (made_is a w made)) came.left
-      (subst (Less m v r (ready w).roots) (sym (nobody_in a w made nobody).1) (less-same m v r (ready w).roots)))
+      (keeps-less (at_attempt w) (after (attempt a) w) (ap (λ x. x.taken) (made_is a w made)) (ap (λ x. x.left) (made_is a w made)) came.left
+      (subst (Less m v r (at_attempt w).roots) (sym (nobody_in a w made nobody).1) (less-same m v r (at_attempt w).roots)))
 
   -- the same where each step says so itself
   abbrev pub KeepsStep : Step → World → Type 0

@@ -4,7 +4,7 @@ use Rattle.std.specs.Io.KnownBytes.{Appends}
 use Rattle.std.specs.Option.{option_to_list}
 use Rattle.std.proofs.KnownBytes.{Appends-trans, Appends-nil}
 use Rattle.usb_device.specs.Tree.{Ports}
-use Rattle.usb_device.specs.Delivery.{held, is_twice}
+use Rattle.usb_device.specs.Delivery.{held_addresses, repeats}
 use Rattle.usb_world.specs.declared.event.Event.{Event}
 use Rattle.usb_world.specs.declared.event.Ask.{Ask}
 use Rattle.usb_world.specs.declared.types.BusFault.{BusFault}
@@ -14,58 +14,58 @@ use Rattle.usb_world.specs.declared.types.Attempt.{Attempt}
 use Rattle.usb_world.specs.Exchange.{exchange_in, ports_in}
 use Rattle.usb_world.specs.Losses.{counted, after_clearing}
 use Rattle.usb_world.specs.World.{World}
-use Rattle.usb_world.specs.Steps.{Coming, next_came, happened, is_due, has_due, took, took_first, due_from, ready, damage_in, made_in, with_attempt, outcome_made, outcome_in, ask_of}
+use Rattle.usb_world.specs.Steps.{Coming, next_came, after_change, is_due, has_due, after_event, after_first_event, after_due_events, at_attempt, damage_in, made_in, with_attempt, outcome_made, outcome_in, ask_of}
 use Rattle.usb_bus.specs.Lines.{action_line, next_due, lines_between, made_line, step_lines}
 use Rattle.usb_bus.specs.Watch.{AppendsFront, WritesText}
-use Rattle.usb_bus.proofs.Fronts.{front_of, front_after_first}
+use Rattle.usb_bus.proofs.Fronts.{appends_front, front_after_first}
 use Rattle.std.proofs.lemmas.Bool.{eq-eqb}
 use Rattle.usb_bus.specs.Trace.{attempt_line}
-use Rattle.usb_world.proofs.Interface.{first_fault, if_no, if_yes, unequal}
+use Rattle.usb_world.proofs.Interface.{first_fault, if-false, if-true, unequal}
 
 -- the next event came
-pub came : (w : World) (e : Event) (events left : List Event) (roots : Ports) → w.left ≡ e ∷ events → left ≡ events → roots ≡ happened e.action w.devices w.roots
-    → record w { roots = roots; left = left; taken = w.taken + 1; attempts_then = w.attempts } ≡ took_first w.left w
-unfolding took
-came w e events left roots split rest h =
+pub took_first-arrival : (w : World) (e : Event) (events left : List Event) (roots : Ports) → w.left ≡ e ∷ events → left ≡ events → roots ≡ after_change e.action w.devices w.roots
+    → record w { roots = roots; left = left; taken = w.taken + 1; attempts_then = w.attempts } ≡ after_first_event w.left w
+unfolding after_event
+took_first-arrival w e events left roots split rest h =
     let made : Ports → List Event → World
     = λ r l. record w { roots = r; left = l; taken = w.taken + 1; attempts_then = w.attempts } in
     rw split (ap₂ made h rest)
 
 -- the same with a fault
 pub came_faulted : (w : World) (e : Event) (events left : List Event) (roots : Ports) (f : Option BusFault) → w.left ≡ e ∷ events → left ≡ events
-    → roots ≡ happened e.action w.devices w.roots
-    → record w { roots = roots; left = left; taken = w.taken + 1; attempts_then = w.attempts; fault = f } ≡ record (took_first w.left w) { fault = f }
+    → roots ≡ after_change e.action w.devices w.roots
+    → record w { roots = roots; left = left; taken = w.taken + 1; attempts_then = w.attempts; fault = f } ≡ record (after_first_event w.left w) { fault = f }
 came_faulted w e events left roots f split rest h =
     let faulted : World → World = λ x. record x { fault = f } in
-    ap faulted (came w e events left roots split rest h)
+    ap faulted (took_first-arrival w e events left roots split rest h)
 
 pub came_sound : (w : World) (e : Event) (events left : List Event) (roots : Ports) → w.fault ≡ None → w.left ≡ e ∷ events → left ≡ events
-    → roots ≡ happened e.action w.devices w.roots
-    → record w { roots = roots; left = left; taken = w.taken + 1; attempts_then = w.attempts; fault = None } ≡ took_first w.left w
+    → roots ≡ after_change e.action w.devices w.roots
+    → record w { roots = roots; left = left; taken = w.taken + 1; attempts_then = w.attempts; fault = None } ≡ after_first_event w.left w
 came_sound w e events left roots sound split rest h =
-    let faulted : Option BusFault → World = λ o. record (took_first w.left w) { fault = o } in
+    let faulted : Option BusFault → World = λ o. record (after_first_event w.left w) { fault = o } in
     came_faulted w e events left roots None split rest h ∙ ap faulted (sym (first_fault w.left w ∙ sound))
 
 pub due_next : (w : World) (e : Event) (events : List Event) → w.left ≡ e ∷ events → Some (ask_of e.action) ≡ next_due w
 unfolding next_due
 due_next w e events split = rw split refl
 
-step_at : (w : World) (left : List Event) → w.left ≡ left → (elim left [ [] ↦ false | e ∷ events ↦ is_due e w ]) ≡ true → due_from w.left w ≡ due_from (took_first w.left w).left (took_first w.left w)
-unfolding due_from took
+step_at : (w : World) (left : List Event) → w.left ≡ left → (elim left [ [] ↦ false | e ∷ events ↦ is_due e w ]) ≡ true → after_due_events w.left w ≡ after_due_events (after_first_event w.left w).left (after_first_event w.left w)
+unfolding after_due_events after_event
 step_at w [] e h = cc
-step_at w (x ∷ events) e h = rw e (if_yes (is_due x w) _ _ h)
+step_at w (x ∷ events) e h = rw e (if-true (is_due x w) _ _ h)
 
-due_step : (w : World) → has_due w ≡ true → due_from w.left w ≡ due_from (took_first w.left w).left (took_first w.left w)
+due_step : (w : World) → has_due w ≡ true → after_due_events w.left w ≡ after_due_events (after_first_event w.left w).left (after_first_event w.left w)
 unfolding has_due
 due_step w h = step_at w w.left refl h
 
 -- nothing is due
-end_at : (w : World) (left : List Event) → w.left ≡ left → (elim left [ [] ↦ false | e ∷ events ↦ is_due e w ]) ≡ false → due_from w.left w ≡ w
-unfolding due_from
+end_at : (w : World) (left : List Event) → w.left ≡ left → (elim left [ [] ↦ false | e ∷ events ↦ is_due e w ]) ≡ false → after_due_events w.left w ≡ w
+unfolding after_due_events
 end_at w [] e h = rw e refl
-end_at w (x ∷ events) e h = rw e (if_no (is_due x w) _ _ h)
+end_at w (x ∷ events) e h = rw e (if-false (is_due x w) _ _ h)
 
-due_end : (w : World) → has_due w ≡ false → due_from w.left w ≡ w
+due_end : (w : World) → has_due w ≡ false → after_due_events w.left w ≡ w
 unfolding has_due
 due_end w h = end_at w w.left refl h
 
@@ -144,25 +144,25 @@ next_due_event w h = next_at w w.left refl h
 
 -- what has come so far of what was due at first
 pub record DueSoFar (first now : World) (had has : Option (List ℕ)) : Type 0 where
-  pub after : due_from first.left first ≡ due_from now.left now
+  pub after : after_due_events first.left first ≡ after_due_events now.left now
   pub later : Later first now
   pub written : Appends had has (lines_between first now)
 
 pub due_begins : (w : World) (had : Option (List ℕ)) → DueSoFar w w had had
 due_begins w had = record { after = refl; later = later_none w; written = subst (Appends had had) (no_lines w w refl) (Appends-nil had) }
 
-took_is : (w v : World) (e : Event) (events : List Event) → w.left ≡ e ∷ events → v ≡ took_first w.left w → (v.taken ≡ w.taken + 1) × (v.left ≡ events) × (v.devices ≡ w.devices)
-unfolding took
+took_is : (w v : World) (e : Event) (events : List Event) → w.left ≡ e ∷ events → v ≡ after_first_event w.left w → (v.taken ≡ w.taken + 1) × (v.left ≡ events) × (v.devices ≡ w.devices)
+unfolding after_event
 took_is w v e events split is =
-    let same = is ∙ ap (λ l. took_first l w) split in
+    let same = is ∙ ap (λ l. after_first_event l w) split in
     (ap (λ x. x.taken) same, ap (λ x. x.left) same, ap (λ x. x.devices) same)
 
-pub due_goes_on : (first w v : World) (had has now : Option (List ℕ)) → DueSoFar first w had has → has_due w ≡ true → v ≡ took_first w.left w → Appends has now (lines_between w v) → DueSoFar first v had now
+pub due_goes_on : (first w v : World) (had has now : Option (List ℕ)) → DueSoFar first w had has → has_due w ≡ true → v ≡ after_first_event w.left w → Appends has now (lines_between w v) → DueSoFar first v had now
 due_goes_on first w v had has now d h is line =
     let (e, events, split) = next_due_event w h in
     let t = took_is w v e events split is in
     record {
-      after = d.after ∙ due_step w h ∙ ap (λ x. due_from x.left x) (sym is);
+      after = d.after ∙ due_step w h ∙ ap (λ x. after_due_events x.left x) (sym is);
       later = later_next first w v e events d.later split t.0 t.1 t.2;
       written = subst (Appends had now) (lines_on first w v e events d.later split t.0) (Appends-trans had has now _ _ d.written line);
     }
@@ -186,7 +186,7 @@ pub writes_none : {A : Type 0} (r : Result A BusFault) (w v : World) (t : Option
 writes_none (Ok x) w v t e = subst (Appends t t) (no_lines w v e) (Appends-nil t)
 writes_none (Err LimitReached) w v t e = subst (Appends t t) (no_lines w v e) (Appends-nil t)
 writes_none (Err Memory) w v t e = subst (Appends t t) (no_lines w v e) (Appends-nil t)
-writes_none (Err TraceFailed) w v t e = front_of t t [] (lines_between w v) (lines_between w v) refl (Appends-nil t)
+writes_none (Err TraceFailed) w v t e = appends_front t t [] (lines_between w v) (lines_between w v) refl (Appends-nil t)
 
 -- one event came: its line, or a front of it
 pub appends_event : (w v : World) (e : Event) (events : List Event) (t s : Option (List ℕ)) → w.left ≡ e ∷ events → v.taken ≡ w.taken + 1 → Appends t s (action_line e.action w.devices) → Appends t s (lines_between w v)
@@ -213,7 +213,7 @@ writes_memory (Err TraceFailed) t s text is h = cc is
 
 -- an event that was due did not come whole
 pub due_cut : (r : Result (Option (Option Ask)) BusFault) (f : BusFault) (first w v : World) (had has now : Option (List ℕ)) → r ≡ Err f → DueSoFar first w had has → has_due w ≡ true
-    → IfErr r (λ x. x ≢ LimitReached) → (r ≡ Err Memory → v ≡ record w { fault = Some Memory }) → (r ≡ Err TraceFailed → v ≡ record (took_first w.left w) { fault = Some TraceFailed })
+    → IfErr r (λ x. x ≢ LimitReached) → (r ≡ Err Memory → v ≡ record w { fault = Some Memory }) → (r ≡ Err TraceFailed → v ≡ record (after_first_event w.left w) { fault = Some TraceFailed })
     → WritesText r has now (lines_between w v) → WritesText r had now (lines_between first v)
 due_cut (Ok x) f first w v had has now is d h other kept cut text = cc is
 due_cut (Err LimitReached) f first w v had has now is d h other kept cut text = absurd (other refl)
@@ -223,10 +223,10 @@ due_cut (Err Memory) f first w v had has now is d h other kept cut text =
     (Appends-trans had has now (lines_between first w) [] d.written (subst (Appends has now) (sym (no_lines w v same)) text))
 due_cut (Err TraceFailed) f first w v had has now is d h other kept cut text =
     let (e, events, split) = next_due_event w h in
-    let one : v.taken ≡ w.taken + 1 = ap (λ (x : World). x.taken) (cut refl) ∙ (took_is w (took_first w.left w) e events split refl).0 in
+    let one : v.taken ≡ w.taken + 1 = ap (λ (x : World). x.taken) (cut refl) ∙ (took_is w (after_first_event w.left w) e events split refl).0 in
     subst (AppendsFront had now) (lines_on first w v e events d.later split one) (front_after_first had has now _ _ d.written text)
 
-pub came_next : (first w v : World) → Coming first w → has_due w ≡ true → v ≡ took_first w.left w → Coming first v
+pub came_next : (first w v : World) → Coming first w → has_due w ≡ true → v ≡ after_first_event w.left w → Coming first v
 came_next first w v c h e = subst (Coming first) (sym e) (next_came c h)
 
 unfaulted : (w v : World) (f : BusFault) → w.fault ≡ None → v ≡ record w { fault = Some f } → record v { fault = None } ≡ w
@@ -236,66 +236,66 @@ unfaulted w v f sound e =
 
 -- an event that was cut came, or it did not
 pub coming_cut : (r : Result (Option (Option Ask)) BusFault) (f : BusFault) (first w v : World) → r ≡ Err f → Coming first w → has_due w ≡ true → w.fault ≡ None → IfErr r (λ x. x ≢ LimitReached)
-    → (r ≡ Err Memory → v ≡ record w { fault = Some Memory }) → (r ≡ Err TraceFailed → v ≡ record (took_first w.left w) { fault = Some TraceFailed })
+    → (r ≡ Err Memory → v ≡ record w { fault = Some Memory }) → (r ≡ Err TraceFailed → v ≡ record (after_first_event w.left w) { fault = Some TraceFailed })
     → Coming first (record v { fault = None })
 coming_cut (Ok x) f first w v is c h sound other kept cut = cc is
 coming_cut (Err LimitReached) f first w v is c h sound other kept cut = absurd (other refl)
 coming_cut (Err Memory) f first w v is c h sound other kept cut = subst (Coming first) (sym (unfaulted w v Memory sound (kept refl))) c
 coming_cut (Err TraceFailed) f first w v is c h sound other kept cut =
-    came_next first w (record v { fault = None }) c h (unfaulted (took_first w.left w) v TraceFailed (first_fault w.left w ∙ sound) (cut refl))
+    came_next first w (record v { fault = None }) c h (unfaulted (after_first_event w.left w) v TraceFailed (first_fault w.left w ∙ sound) (cut refl))
 
-pub on_err : {A E : Type 0} {P : Type 0} (r : Result A E) → P → OnErr r P
-on_err (Ok x) h = tt
-on_err (Err x) h = h
+pub on_err_holds : {A E : Type 0} {P : Type 0} (r : Result A E) → P → OnErr r P
+on_err_holds (Ok x) h = tt
+on_err_holds (Err x) h = h
 
-pub due_ends : (first w : World) (had has : Option (List ℕ)) → DueSoFar first w had has → has_due w ≡ false → w ≡ ready first
-unfolding ready
+pub due_ends : (first w : World) (had has : Option (List ℕ)) → DueSoFar first w had has → has_due w ≡ false → w ≡ at_attempt first
+unfolding at_attempt
 due_ends first w had has d h = sym (d.after ∙ due_end w h)
 
 -- no event is left
-none_of : (events : List Event) → length events ≡ 0 → events ≡ []
-none_of [] h = refl
-none_of (e ∷ events) h = absurd (omega (arith, h))
+length-no_events : (events : List Event) → length events ≡ 0 → events ≡ []
+length-no_events [] h = refl
+length-no_events (e ∷ events) h = absurd (omega (arith, h))
 
-pub next_none : (w : World) → length w.left ≡ 0 → w ≡ took_first w.left w
-next_none w h = rw (none_of w.left h) refl
+pub next_none : (w : World) → length w.left ≡ 0 → w ≡ after_first_event w.left w
+next_none w h = rw (length-no_events w.left h) refl
 
 pub due_none : (w : World) → length w.left ≡ 0 → None ≡ next_due w
 unfolding next_due
-due_none w h = rw (none_of w.left h) refl
+due_none w h = rw (length-no_events w.left h) refl
 
 -- the first event leaves
 pub popped : (left rest : List Event) (o : Option Event) (e : Event) → left ≡ option_to_list o ++ rest → o ≡ Some e → left ≡ e ∷ rest
 popped left rest o e h is = h ∙ ap (λ (x : Option Event). option_to_list x ++ rest) is
 
-pub front_is : (left rest : List Event) (e f : Event) → left ≡ e ∷ rest → f ≡ get_or left 0 f → f ≡ e
-front_is left rest e f split h = h ∙ ap (λ (l : List Event). get_or l 0 f) split
+pub get_or-head : (left rest : List Event) (e f : Event) → left ≡ e ∷ rest → f ≡ get_or left 0 f → f ≡ e
+get_or-head left rest e f split h = h ∙ ap (λ (l : List Event). get_or l 0 f) split
 
 -- the lines of a step in which no attempt was made, and of one in which one was made
 pub lines_alone : (a : Attempt) (w v : World) → v.attempts ≡ w.attempts → lines_between w v ≡ step_lines a w v
 unfolding step_lines
-lines_alone a w v e = sym (append-nil (lines_between w v)) ∙ ap (λ l. lines_between w v ++ l) (sym (if_yes (v.attempts == w.attempts) [] (made_line a (ready w)) (eq-eqb v.attempts w.attempts e)))
+lines_alone a w v e = sym (append-nil (lines_between w v)) ∙ ap (λ l. lines_between w v ++ l) (sym (if-true (v.attempts == w.attempts) [] (made_line a (at_attempt w)) (eq-eqb v.attempts w.attempts e)))
 
 pub writes_alone : {A : Type 0} (r : Result A BusFault) (a : Attempt) (w v : World) (t s : Option (List ℕ)) → v.attempts ≡ w.attempts → WritesText r t s (lines_between w v) → WritesText r t s (step_lines a w v)
 writes_alone r a w v t s e h = subst (WritesText r t s) (lines_alone a w v e) h
 
-pub lines_made : (a : Attempt) (w mid v : World) (n : ℕ) (x : Exchange) → mid ≡ ready w → n ≡ mid.attempts + 1 → mid.attempts ≡ w.attempts → v.attempts ≡ w.attempts + 1 → v.taken ≡ mid.taken
+pub lines_made : (a : Attempt) (w mid v : World) (n : ℕ) (x : Exchange) → mid ≡ at_attempt w → n ≡ mid.attempts + 1 → mid.attempts ≡ w.attempts → v.attempts ≡ w.attempts + 1 → v.taken ≡ mid.taken
     → x ≡ made_in a mid → lines_between w mid ++ (attempt_line n a.pre x ++ 10 ∷ []) ≡ step_lines a w v
 unfolding step_lines
 lines_made a w mid v n x em en same one taken ex =
-    let line : attempt_line n a.pre x ++ 10 ∷ [] ≡ made_line a (ready w) =
+    let line : attempt_line n a.pre x ++ 10 ∷ [] ≡ made_line a (at_attempt w) =
     ap₂ (λ (m : ℕ) (y : Exchange). attempt_line m a.pre y ++ 10 ∷ []) (en ∙ ap (λ (u : World). u.attempts + 1) em) (ex ∙ ap (λ (u : World). made_in a u) em) in
-    ap₂ (λ l r. l ++ r) (lines_same w mid v taken) (line ∙ sym (if_no (v.attempts == w.attempts) [] (made_line a (ready w)) (unequal v.attempts w.attempts (λ e. absurd (omega (arith, e, one))))))
+    ap₂ (λ l r. l ++ r) (lines_same w mid v taken) (line ∙ sym (if-false (v.attempts == w.attempts) [] (made_line a (at_attempt w)) (unequal v.attempts w.attempts (λ e. absurd (omega (arith, e, one))))))
 
 -- the attempt is made where the due events came
-pub attempt_made : (a : Attempt) (w mid : World) (x : Exchange) (roots : Ports) → mid ≡ ready w → x ≡ made_in a mid → roots ≡ ports_in a (damage_in mid) mid.roots
-    → record mid { roots = roots; attempts = mid.attempts + 1; losses = counted x.address_lost (after_clearing x.change_cleared mid.losses); shared = mid.shared || is_twice (held mid.roots) } ≡ with_attempt a (ready w)
+pub made_in-attempt : (a : Attempt) (w mid : World) (x : Exchange) (roots : Ports) → mid ≡ at_attempt w → x ≡ made_in a mid → roots ≡ ports_in a (damage_in mid) mid.roots
+    → record mid { roots = roots; attempts = mid.attempts + 1; losses = counted x.address_lost (after_clearing x.change_cleared mid.losses); shared = mid.shared || repeats (held_addresses mid.roots) } ≡ with_attempt a (at_attempt w)
 unfolding with_attempt exchange_in
-attempt_made a w mid x roots em ex er =
+made_in-attempt a w mid x roots em ex er =
     let made : Exchange → Ports → World
-    = λ y r. record mid { roots = r; attempts = mid.attempts + 1; losses = counted y.address_lost (after_clearing y.change_cleared mid.losses); shared = mid.shared || is_twice (held mid.roots) } in
+    = λ y r. record mid { roots = r; attempts = mid.attempts + 1; losses = counted y.address_lost (after_clearing y.change_cleared mid.losses); shared = mid.shared || repeats (held_addresses mid.roots) } in
     ap₂ made ex er ∙ ap (λ (v : World). with_attempt a v) em
 
-pub outcome_made_in : (a : Attempt) (w mid : World) (x : Exchange) → mid ≡ ready w → x ≡ made_in a mid → outcome_made a x ≡ outcome_in a w
+pub outcome_made_in : (a : Attempt) (w mid : World) (x : Exchange) → mid ≡ at_attempt w → x ≡ made_in a mid → outcome_made a x ≡ outcome_in a w
 unfolding outcome_in exchange_in
 outcome_made_in a w mid x em ex = ap (λ (y : Exchange). outcome_made a y) (ex ∙ ap (λ (v : World). made_in a v) em)

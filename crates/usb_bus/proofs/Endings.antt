@@ -9,10 +9,10 @@ use Rattle.usb_world.specs.declared.types.Outcome.{Outcome}
 use Rattle.usb_world.specs.declared.types.BusFault.{BusFault}
 use Rattle.usb_world.specs.declared.types.BusFault.TheVariants.{LimitReached, Memory, TraceFailed}
 use Rattle.usb_world.specs.World.{World}
-use Rattle.usb_world.specs.Steps.{ready, with_attempt, attempted, attempt, event, event_taken, took_first, after, fault_of, Left, Coming, at_event, at_packet, at_line, AttemptFails, IsCut, damage_in}
+use Rattle.usb_world.specs.Steps.{at_attempt, with_attempt, attempted, attempt, event, event_taken, after_first_event, after, fault_of, Left, Coming, at_event, at_packet, at_line, AttemptFails, IsCut, damage_in}
 use Rattle.usb_device.specs.Tree.{Ports}
 use Rattle.std.specs.Prelude.{List, IfOk, IsSome, is_some, ◌+◌}
-use Rattle.usb_world.specs.World.{AttemptEnds, Spends, to_come}
+use Rattle.usb_world.specs.World.{AttemptEnds, AttemptsWithin, to_come}
 use Rattle.usb_world.specs.Steps.{EventEnds}
 use Rattle.usb_world.proofs.Interface.{spends_none, spends_wider, unequal}
 use Rattle.usb_bus.specs.Lines.{step_lines}
@@ -20,44 +20,44 @@ use Rattle.usb_bus.specs.Watch.{WritesText}
 use Rattle.usb_bus.specs.Parts.{AttemptMade, OneEventCame}
 use Rattle.usb_bus.specs.Traces.{Attempts, TakesEvent}
 use Rattle.usb_bus.proofs.Arrivals.{writes_none, writes_alone}
-use Rattle.usb_device.specs.Delivery.{held, is_twice}
+use Rattle.usb_device.specs.Delivery.{held_addresses, repeats}
 
 pub after_fault : (a : Attempt) (w : World) (f : BusFault) → w.fault ≡ Some f → w ≡ after (attempt a) w
 unfolding after
 after_fault a w f e = ap (λ o. attempted a o w) (sym e)
 
-if_yes : {X : Type 0} (b : Bool) (x y : X) → b ≡ true → x ≡ (if b then x else y)
-if_yes true x y h = refl
-if_yes false x y h = cc
+if_true_is : {X : Type 0} (b : Bool) (x y : X) → b ≡ true → x ≡ (if b then x else y)
+if_true_is true x y h = refl
+if_true_is false x y h = cc
 
-if_no : {X : Type 0} (b : Bool) (x y : X) → b ≡ false → y ≡ (if b then x else y)
-if_no false x y h = refl
-if_no true x y h = cc
+if_false_is : {X : Type 0} (b : Bool) (x y : X) → b ≡ false → y ≡ (if b then x else y)
+if_false_is false x y h = refl
+if_false_is true x y h = cc
 
 -- nothing is applied where the attempts equal the limit
-pub at_limit : (a : Attempt) (w : World) → w.fault ≡ None → w.attempts ≡ w.limit → record w { fault = Some LimitReached } ≡ after (attempt a) w
+pub after-limit : (a : Attempt) (w : World) → w.fault ≡ None → w.attempts ≡ w.limit → record w { fault = Some LimitReached } ≡ after (attempt a) w
 unfolding after
-at_limit a w sound e = if_yes (w.attempts == w.limit) (record w { fault = Some LimitReached }) (with_attempt a (ready w)) (eq-eqb w.attempts w.limit e) ∙ ap (λ o. attempted a o w) (sym sound)
+after-limit a w sound e = if_true_is (w.attempts == w.limit) (record w { fault = Some LimitReached }) (with_attempt a (at_attempt w)) (eq-eqb w.attempts w.limit e) ∙ ap (λ o. attempted a o w) (sym sound)
 
 -- else the attempt is made
-pub made : (a : Attempt) (w : World) → w.fault ≡ None → (w.attempts ≡ w.limit → ⊥) → with_attempt a (ready w) ≡ after (attempt a) w
+pub made : (a : Attempt) (w : World) → w.fault ≡ None → (w.attempts ≡ w.limit → ⊥) → with_attempt a (at_attempt w) ≡ after (attempt a) w
 unfolding after
-made a w sound e = if_no (w.attempts == w.limit) (record w { fault = Some LimitReached }) (with_attempt a (ready w)) (unequal w.attempts w.limit e) ∙ ap (λ o. attempted a o w) (sym sound)
+made a w sound e = if_false_is (w.attempts == w.limit) (record w { fault = Some LimitReached }) (with_attempt a (at_attempt w)) (unequal w.attempts w.limit e) ∙ ap (λ o. attempted a o w) (sym sound)
 
 pub without_fault : (w v : World) (f : Option BusFault) → w ≡ v → w.fault ≡ None → f ≡ None → record w { fault = f } ≡ v
 without_fault w v f e sound is = ap (λ x. record w { fault = x }) (is ∙ sym sound) ∙ e
 
 pub made_exact : (r : Result Outcome BusFault) (a : Attempt) (w m : World) → w.fault ≡ None → (w.attempts ≡ w.limit → ⊥)
-    → OnOk r (m ≡ with_attempt a (ready w)) → OnOk r (m ≡ after (attempt a) w)
+    → OnOk r (m ≡ with_attempt a (at_attempt w)) → OnOk r (m ≡ after (attempt a) w)
 made_exact (Ok o) a w m sound below e = e ∙ made a w sound below
 made_exact (Err x) a w m sound below e = e
 
-pub event_exact : (r : Result (Option (Option Ask)) BusFault) (w m : World) → w.fault ≡ None → OnOk r (m ≡ took_first w.left w) → OnOk r (m ≡ after event w)
+pub event_exact : (r : Result (Option (Option Ask)) BusFault) (w m : World) → w.fault ≡ None → OnOk r (m ≡ after_first_event w.left w) → OnOk r (m ≡ after event w)
 unfolding after
 event_exact (Ok o) w m sound e = e ∙ ap (λ o. event_taken o w) (sym sound)
 event_exact (Err x) w m sound e = e
 
-pub event_cut : (w m : World) → w.fault ≡ None → m ≡ record (took_first w.left w) { fault = Some TraceFailed } → m ≡ record (after event w) { fault = Some TraceFailed }
+pub event_cut : (w m : World) → w.fault ≡ None → m ≡ record (after_first_event w.left w) { fault = Some TraceFailed } → m ≡ record (after event w) { fault = Some TraceFailed }
 unfolding after
 event_cut w m sound e = e ∙ ap (λ o. record (event_taken o w) { fault = Some TraceFailed }) (sym sound)
 
@@ -67,16 +67,16 @@ left_at_event (Ok x) a w m c = tt
 left_at_event (Err f) a w m c = at_event c
 
 -- memory was refused while the host's data went
-pub left_at_packet : {T : Type 0} (r : Result T BusFault) (a : Attempt) (w m v : World) (k : Ports) → IsErrAnd r (λ f. f ≡ Memory) → m ≡ ready w → IsCut a (damage_in m) m.roots k
-    → v ≡ record m { roots = k; shared = m.shared || is_twice (held m.roots) } → IfErr r (λ f. Left a w f v)
+pub left_at_packet : {T : Type 0} (r : Result T BusFault) (a : Attempt) (w m v : World) (k : Ports) → IsErrAnd r (λ f. f ≡ Memory) → m ≡ at_attempt w → IsCut a (damage_in m) m.roots k
+    → v ≡ record m { roots = k; shared = m.shared || repeats (held_addresses m.roots) } → IfErr r (λ f. Left a w f v)
 left_at_packet (Ok x) a w m v k is e cut made = tt
 left_at_packet (Err f) a w m v k is e cut made =
     let P : World → Type 0 = λ x. IsCut a (damage_in x) x.roots k in
-    let left : World → World = λ x. record x { roots = k; shared = x.shared || is_twice (held x.roots) } in
+    let left : World → World = λ x. record x { roots = k; shared = x.shared || repeats (held_addresses x.roots) } in
     at_packet k is (subst P e cut) (made ∙ ap left e)
 
 -- only the line was not written
-pub left_at_line : {T : Type 0} (r : Result T BusFault) (a : Attempt) (w v : World) → IsErrAnd r (λ f. f ≡ TraceFailed) → v ≡ with_attempt a (ready w) → IfErr r (λ f. Left a w f v)
+pub left_at_line : {T : Type 0} (r : Result T BusFault) (a : Attempt) (w v : World) → IsErrAnd r (λ f. f ≡ TraceFailed) → v ≡ with_attempt a (at_attempt w) → IfErr r (λ f. Left a w f v)
 left_at_line (Ok x) a w v is e = tt
 left_at_line (Err f) a w v is e = at_line is e
 
@@ -89,10 +89,10 @@ fails_at (Err TraceFailed) a w m is below other left = record { below = below; l
 
 -- What an attempt is, at each of its ends
 
-abbrev faulted : BusFault → Result Outcome BusFault
-faulted f = Err f
+abbrev fault_result : BusFault → Result Outcome BusFault
+fault_result f = Err f
 
-at_limit_spends : (w : World) → Spends 1 w (record w { fault = Some LimitReached })
+at_limit_spends : (w : World) → AttemptsWithin 1 w (record w { fault = Some LimitReached })
 at_limit_spends w = record {
   limit = refl;
   roots = refl;
@@ -104,11 +104,11 @@ at_limit_spends w = record {
   served = omega arith;
 }
 
-same_err : (f x : BusFault) → Some f ≡ Some x → faulted f ≡ faulted x
+same_err : (f x : BusFault) → Some f ≡ Some x → fault_result f ≡ fault_result x
 same_err f x e = cc e
 
-nothing_written : (f : BusFault) (a : Attempt) (w v : World) (t : Option (List ℕ)) → v.taken ≡ w.taken → v.attempts ≡ w.attempts → WritesText (faulted f) t t (step_lines a w v)
-nothing_written f a w v t e same = writes_alone (faulted f) a w v t t same (writes_none (faulted f) w v t e)
+nothing_written : (f : BusFault) (a : Attempt) (w v : World) (t : Option (List ℕ)) → v.taken ≡ w.taken → v.attempts ≡ w.attempts → WritesText (fault_result f) t t (step_lines a w v)
+nothing_written f a w v t e same = writes_alone (fault_result f) a w v t t same (writes_none (fault_result f) w v t e)
 
 -- a fault was told before
 pub again_attempts : (a : Attempt) (w : World) (t : Option (List ℕ)) (f : BusFault) → Some f ≡ w.fault → (w.fault ≡ Some LimitReached → w.attempts ≡ w.limit) → Attempts a w t (Err f) w t
@@ -136,7 +136,7 @@ limit_attempts a w t sound e = record {
   };
   exact = tt;
   outcome = tt;
-  fails = λ none. at_limit a w sound e;
+  fails = λ none. after-limit a w sound e;
   text = nothing_written LimitReached a w (record w { fault = Some LimitReached }) t refl refl;
 }
 
@@ -161,25 +161,25 @@ made_attempts r a w v t s sound below made = record {
 
 -- What an event is, at each of its ends
 
-abbrev untaken : BusFault → Result (Option (Option Ask)) BusFault
-untaken f = Err f
+abbrev due_result : BusFault → Result (Option (Option Ask)) BusFault
+due_result f = Err f
 
-same_fault : (f x : BusFault) → Some f ≡ Some x → untaken f ≡ untaken x
-same_fault f x e = cc e
+fault_untaken : (f x : BusFault) → Some f ≡ Some x → due_result f ≡ due_result x
+fault_untaken f x e = cc e
 
 pub again_takes : (w : World) (t : Option (List ℕ)) (f : BusFault) → Some f ≡ w.fault → (w.fault ≡ Some LimitReached → w.attempts ≡ w.limit) → TakesEvent w t (Err f) w t
 again_takes w t f told limit = record {
   took = record {
     spends = spends_none w;
     ends = record { told = sym told; at_limit = λ e. limit (sym told ∙ ap Some e) };
-    again = λ x e. (same_fault f x (told ∙ e), refl);
+    again = λ x e. (fault_untaken f x (told ∙ e), refl);
   };
   asked = tt;
   exact = tt;
   kept = λ e none. absurd (cc (told, none));
   cut = λ e none. absurd (cc (told, none));
   limit = λ e. ap is_some (sym told);
-  text = writes_none (untaken f) w w t refl;
+  text = writes_none (due_result f) w w t refl;
 }
 
 event_ends : (r : Result (Option (Option Ask)) BusFault) (w v : World) → w.fault ≡ None → v.fault ≡ fault_of r → (r ≡ Ok None → (to_come w ≡ 0) × (v ≡ w)) → IfOk r (λ due. IsSome due → v.taken ≡ w.taken + 1) → IfErr r (λ x. x ≢ LimitReached) → EventEnds w r v

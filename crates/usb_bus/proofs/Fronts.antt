@@ -6,17 +6,17 @@ use Rattle.std.specs.Io.KnownBytes.{Appends, Keeps}
 use Rattle.std.proofs.KnownBytes.{Appends-trans, Appends-kept, Appends-nil}
 use Rattle.usb_bus.specs.Watch.{AppendsFront, PutsText}
 
-pub front_of : (a b : Option (List ℕ)) (gone rest piece : List ℕ) → piece ≡ gone ++ rest → Appends a b gone → AppendsFront a b piece
-front_of a b gone rest piece e h = record { gone = gone; rest = rest; split = e; appended = h }
+pub appends_front : (a b : Option (List ℕ)) (gone rest piece : List ℕ) → piece ≡ gone ++ rest → Appends a b gone → AppendsFront a b piece
+appends_front a b gone rest piece e h = record { gone = gone; rest = rest; split = e; appended = h }
 
 -- a failed write changes no known byte
 pub front_kept : (a b c : Option (List ℕ)) (gone rest piece : List ℕ) → piece ≡ gone ++ rest → Appends a b gone → Keeps b c → AppendsFront a c piece
-front_kept a b c gone rest piece e h k = front_of a c gone rest piece e (Appends-kept a b c gone h k)
+front_kept a b c gone rest piece e h k = appends_front a c gone rest piece e (Appends-kept a b c gone h k)
 
 -- a front of the second part after all of the first
 pub front_after : (a b c : Option (List ℕ)) (xs ys more all : List ℕ) → all ≡ xs ++ (ys ++ more) → Appends a b xs → AppendsFront b c ys → AppendsFront a c all
 front_after a b c xs ys more all e h f =
-    front_of a c (xs ++ f.gone) (f.rest ++ more) all
+    appends_front a c (xs ++ f.gone) (f.rest ++ more) all
     (e ∙ ap (λ l. xs ++ (l ++ more)) f.split ∙ ap (λ l. xs ++ l) (append_assoc f.gone f.rest more) ∙ sym (append_assoc xs f.gone (f.rest ++ more)))
     (Appends-trans a b c xs f.gone h f.appended)
 
@@ -32,24 +32,24 @@ unmarked_by false new n k e h = e ∙ grind (arith, nat_tests)
 -- a front of the first of two parts
 pub first_front : (a b : Option (List ℕ)) (xs ys : List ℕ) → AppendsFront a b xs → AppendsFront a b (xs ++ ys)
 first_front a b xs ys f =
-    front_of a b f.gone (f.rest ++ ys) (xs ++ ys) (ap (λ l. l ++ ys) f.split ∙ append_assoc f.gone f.rest ys) f.appended
+    appends_front a b f.gone (f.rest ++ ys) (xs ++ ys) (ap (λ l. l ++ ys) f.split ∙ append_assoc f.gone f.rest ys) f.appended
 
 -- all of the first part, then a front of the second
 pub front_after_first : (a b c : Option (List ℕ)) (xs ys : List ℕ) → Appends a b xs → AppendsFront b c ys → AppendsFront a c (xs ++ ys)
 front_after_first a b c xs ys h f =
-    front_of a c (xs ++ f.gone) f.rest (xs ++ ys) (ap (λ l. xs ++ l) f.split ∙ sym (append_assoc xs f.gone f.rest)) (Appends-trans a b c xs f.gone h f.appended)
+    appends_front a c (xs ++ f.gone) f.rest (xs ++ ys) (ap (λ l. xs ++ l) f.split ∙ sym (append_assoc xs f.gone f.rest)) (Appends-trans a b c xs f.gone h f.appended)
 
 -- nothing is known of the text, before and after
 pub puts_unknown : {T A E : Type 0} (text : T → Option (List ℕ)) (failed : T → Bool) (t : T) (x : A) (put : List ℕ) → text t ≡ None → PutsText {E = E} text failed t (Ok x) t put
 puts_unknown text failed t x put e =
     let appended = subst (λ o. Appends o o put) (sym e) tt in
-    record { front = front_of (text t) (text t) put [] put (sym (append-nil put)) appended; ok = appended; unmarked = refl; marked = tt }
+    record { front = appends_front (text t) (text t) put [] put (sym (append-nil put)) appended; ok = appended; unmarked = refl; marked = tt }
 
 -- no text
-pub puts_none : {T A E : Type 0} (text : T → Option (List ℕ)) (failed : T → Bool) (t : T) (x : A) → PutsText {E = E} text failed t (Ok x) t []
-puts_none text failed t x =
+pub puts_no_text : {T A E : Type 0} (text : T → Option (List ℕ)) (failed : T → Bool) (t : T) (x : A) → PutsText {E = E} text failed t (Ok x) t []
+puts_no_text text failed t x =
     let appended = Appends-nil (text t) in
-    record { front = front_of (text t) (text t) [] [] [] refl appended; ok = appended; unmarked = refl; marked = tt }
+    record { front = appends_front (text t) (text t) [] [] [] refl appended; ok = appended; unmarked = refl; marked = tt }
 
 -- a text of two parts: the first went out, and what came of the second
 pub puts_then : {T A E : Type 0} (text : T → Option (List ℕ)) (failed : T → Bool) (a b c : T) (r : Result A E) (xs ys all : List ℕ) → all ≡ xs ++ ys → Appends (text a) (text b) xs

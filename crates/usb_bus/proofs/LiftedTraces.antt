@@ -1,20 +1,20 @@
 -- What holds over the parts of a step, and over a fault, holds over a trace of steps.
 use Rattle.std.proofs.Common.{◌≡◌, ℕ, ◌||◌, true, List, Option, None, Some, Result, Ok, Err, refl, sym, subst}
-use Rattle.usb_device.specs.Delivery.{held, is_twice}
+use Rattle.usb_device.specs.Delivery.{held_addresses, repeats}
 use Rattle.usb_device.specs.Tree.{Ports}
 use Rattle.usb_world.specs.declared.types.Attempt.{Attempt}
 use Rattle.usb_world.specs.declared.types.BusFault.{BusFault}
 use Rattle.usb_world.specs.declared.types.BusFault.TheVariants.{LimitReached, Memory, TraceFailed}
 use Rattle.usb_world.specs.declared.types.Outcome.{Outcome}
 use Rattle.usb_world.specs.Courses.{is_made}
-use Rattle.usb_world.specs.Steps.{AnyStep, Left, at_event, at_packet, at_line, GaveUp, attempt, root_call, ready}
+use Rattle.usb_world.specs.Steps.{AnyStep, Left, at_event, at_packet, at_line, GaveUp, attempt, root_call, at_attempt}
 use Rattle.usb_world.specs.World.{World}
 use Rattle.usb_world.proofs.Interface.{OverSteps, over_coming, over_ready, over_step, unequal}
 use Rattle.usb_bus.specs.Traces.{Attempts, Traced, still, attempted, called}
 
 -- memory was refused for the host's data, which some devices had
 abbrev pub with_cut : Ports → World → World
-with_cut k w = record w { roots = k; shared = w.shared || is_twice (held w.roots) }
+with_cut k w = record w { roots = k; shared = w.shared || repeats (held_addresses w.roots) }
 
 -- a relation that holds besides over packets that were cut, and over a fault that is told
 pub record OverFaults (R : World → World → Type 0) : Type 0 where
@@ -26,14 +26,14 @@ module _ {R : World → World → Type 0} (l : OverFaults R) where
   joined : (w m v : World) → R w m → R m v → R w v
   joined = l.steps.events.joined
 
-  from_ready : (w v : World) → R (ready w) v → R w v
-  from_ready w v = joined w (ready w) v (over_ready l.steps.events w)
+  from_ready : (w v : World) → R (at_attempt w) v → R w v
+  from_ready w v = joined w (at_attempt w) v (over_ready l.steps.events w)
 
   over_left : (a : Attempt) (w v : World) (fault : BusFault) → is_made w.fault w ≡ true
       → Left a w fault v → R w v
   over_left a w v fault made (at_event c) = over_coming l.steps.events c
   over_left a w v fault made (at_packet k e c is) =
-      subst (R w) (sym is) (from_ready w _ (l.cut k (ready w)))
+      subst (R w) (sym is) (from_ready w _ (l.cut k (at_attempt w)))
   over_left a w v fault made (at_line e is) =
       subst (R w) (sym is) (from_ready w _ (l.steps.made a w made tt))
 

@@ -6,20 +6,20 @@ use Rattle.usb_port.proofs.Interface.{call_is}
 use Rattle.usb_world.specs.World.{World}
 use Rattle.usb_world.specs.Steps.{SetsRoot, ClearsRoot, after, root_call}
 use Rattle.usb_world.proofs.Interface.{spends_none, spends_then, spends_wider}
-use Rattle.usb_bus.specs.Traces.{Traced, still, attempted, called, WentOn}
+use Rattle.usb_bus.specs.Traces.{Traced, still, attempted, called, StepRun}
 
 pub traced_then : {a b : World} {t r : Option (List ℕ)} {c : World} {s : Option (List ℕ)} → Traced a t b r → Traced b r c s → Traced a t c s
 traced_then x still = x
 traced_then x (attempted at result fits before made) = attempted at result fits (traced_then x before) made
 traced_then x (called call port before) = called call port (traced_then x before)
 
-pub went_none : {a : World} {t : Option (List ℕ)} → WentOn 0 a t a t
+pub went_none : {a : World} {t : Option (List ℕ)} → StepRun 0 a t a t
 went_none {a} = record { spends = spends_none a; traced = still }
 
-pub went_then : (m n : ℕ) {a b c : World} {t r s : Option (List ℕ)} → WentOn m a t b r → WentOn n b r c s → WentOn (m + n) a t c s
+pub went_then : (m n : ℕ) {a b c : World} {t r s : Option (List ℕ)} → StepRun m a t b r → StepRun n b r c s → StepRun (m + n) a t c s
 went_then m n {a} {b} {c} p q = record { spends = spends_then m n a b c p.spends q.spends; traced = traced_then p.traced q.traced }
 
-pub went_wider : (m n : ℕ) {a b : World} {t s : Option (List ℕ)} → WentOn m a t b s → m ≤ n → WentOn n a t b s
+pub went_wider : (m n : ℕ) {a b : World} {t s : Option (List ℕ)} → StepRun m a t b s → m ≤ n → StepRun n a t b s
 went_wider m n {a} {b} p le = record { spends = spends_wider m n a b p.spends le; traced = p.traced }
 
 -- one root call more

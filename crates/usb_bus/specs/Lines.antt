@@ -7,7 +7,7 @@ use Rattle.usb_world.specs.declared.event.Change.TheVariants.{Plug, Unplug}
 use Rattle.usb_world.specs.declared.event.Ask.{Ask as Asked}
 use Rattle.usb_world.specs.declared.types.Attempt.{Attempt}
 use Rattle.usb_world.specs.World.{World}
-use Rattle.usb_world.specs.Steps.{ready, made_in, ask_of}
+use Rattle.usb_world.specs.Steps.{at_attempt, made_in, ask_of}
 use Rattle.usb_bus.specs.Shown.{shown_name}
 use Rattle.usb_bus.specs.Trace.{plug_line, unplug_line, attempt_line}
 
@@ -37,4 +37,4 @@ made_line a w = attempt_line (w.attempts + 1) a.pre (made_in a w) ++ 10 ∷ []
 
 -- the lines of a step that may have made an attempt: those of the events that came, and the attempt's where it was made
 unfoldable pub step_lines : Attempt → World → World → List ℕ
-step_lines a w v = lines_between w v ++ (if v.attempts == w.attempts then [] else made_line a (ready w))
+step_lines a w v = lines_between w v ++ (if v.attempts == w.attempts then [] else made_line a (at_attempt w))

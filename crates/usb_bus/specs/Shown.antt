@@ -10,15 +10,15 @@ abbrev pub ends_line : ℕ → Bool
 ends_line c = is_control c || c == 0x2028 || c == 0x2029
 
 -- one of these, or the backslash, which begins what stands for them
-abbrev pub is_marked : ℕ → Bool
-is_marked c = ends_line c || c == 92
+abbrev pub is_escaped : ℕ → Bool
+is_escaped c = ends_line c || c == 92
 
 -- \u and four digits
 abbrev pub escaped : ℕ → List ℕ
 escaped c = codes "\\u" ++ encode_upper (c / 256 ∷ []) ++ encode_upper (c % 256 ∷ [])
 
 abbrev pub shown_char : ℕ → List ℕ
-shown_char c = if is_marked c then escaped c else encode_utf8 c
+shown_char c = if is_escaped c then escaped c else encode_utf8 c
 
 abbrev pub shown_name : List ℕ → List ℕ
 shown_name name = flat_map shown_char (chars name)

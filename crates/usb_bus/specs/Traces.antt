@@ -6,7 +6,7 @@ use Rattle.usb_world.specs.declared.event.Ask.{Ask}
 use Rattle.usb_world.specs.declared.types.BusFault.{BusFault}
 use Rattle.usb_world.specs.declared.types.BusFault.TheVariants.{LimitReached, Memory, TraceFailed}
 use Rattle.usb_world.specs.declared.types.Outcome.{Outcome}
-use Rattle.usb_world.specs.World.{World, IsAttempt, Attempted, Spends}
+use Rattle.usb_world.specs.World.{World, IsAttempt, Attempted, AttemptsWithin}
 use Rattle.usb_world.specs.Steps.{AttemptFails, TookEvent, after, attempt, event, outcome_in, root_call}
 use Rattle.usb_bus.specs.Lines.{lines_between, next_due, step_lines}
 use Rattle.usb_bus.specs.Watch.{WritesText}
@@ -36,9 +36,9 @@ pub data Traced (old : World) (before : Option (List ℕ)) : World → Option (L
   called : {w : World} {t : Option (List ℕ)} (c : PortCall) (port : ℕ) → Traced old before w t → Traced old before (after (root_call c port) w) t
 
 -- at most n attempts were made, and what was written is the text of the steps
-pub record WentOn (n : ℕ) (old : World) (before : Option (List ℕ)) (new : World) (now : Option (List ℕ)) : Type 0 where
-  pub spends : Spends n old new
+pub record StepRun (n : ℕ) (old : World) (before : Option (List ℕ)) (new : World) (now : Option (List ℕ)) : Type 0 where
+  pub spends : AttemptsWithin n old new
   pub traced : Traced old before new now
 
-abbrev pub Went : {S : Type 0} → (S → World) → (S → Option (List ℕ)) → ℕ → S → S → Type 0
-Went world trace n old new = WentOn n (world old) (trace old) (world new) (trace new)
+abbrev pub Steps : {S : Type 0} → (S → World) → (S → Option (List ℕ)) → ℕ → S → S → Type 0
+Steps world trace n old new = StepRun n (world old) (trace old) (world new) (trace new)

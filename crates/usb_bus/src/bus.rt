@@ -2,7 +2,7 @@ ghost use Rattle.std.specs.Prelude.{◌≡◌, ◌≤◌, ℕ, List, Option, Non
 ghost use Rattle.usb_port.specs.PortState.{status_of};
 ghost use Rattle.usb_port.specs.Calls.{IsSetFeature, IsClearFeature};
 ghost use Rattle.usb_world.specs.World.{World, IsAttempt, IsRootPort, root_port_at, roots_of};
-ghost use Rattle.usb_world.specs.Steps.{IsBetween, SetsRoot, ClearsRoot};
+ghost use Rattle.usb_world.specs.Steps.{WorldInvariant, SetsRoot, ClearsRoot};
 ghost use Rattle.usb_world.specs.AttemptPackets.{IsSettled};
 ghost use Rattle.usb_bus.specs.Traces.{Attempts};
 
@@ -65,5 +65,6 @@ pub trait Bus {
     /// A law: as long as no fault was told, each port is sane besides: what is attached is what is plugged there, an
     /// enabled port is powered and has something attached, and only a powered port tells of a change (11.5); and each
     /// device is as the rules say.
-    ghost between: { modelled ≡ true → (s : Self) → (world s).fault ≡ None → IsBetween (world s) };
+    ghost between: { modelled ≡ true → (s : Self) → (world s).fault ≡ None
+        → WorldInvariant (world s) };
 }

@@ -2,7 +2,7 @@
 ghost use Rattle.std.specs.Prelude.{◌≡◌, ◌++◌, ◌<◌, ◌^◌, flat_map, IsTrue, IfOk, OnOk};
 ghost use Rattle.std.specs.Str.{chars};
 ghost use Rattle.usb_bus.specs.Lines.{shown_names};
-ghost use Rattle.usb_bus.specs.Shown.{ends_line, is_marked, escaped, shown_char, shown_name};
+ghost use Rattle.usb_bus.specs.Shown.{ends_line, is_escaped, escaped, shown_char, shown_name};
 
 use std::alloc::{AllocError, Global};
 use std::marker::Model;
@@ -82,7 +82,7 @@ fn push_letter(out: &mut Vec<u8>, letter: char) -> Result<(), AllocError>
 
 /// A character that stands as its number: one that may end a line, or the backslash.
 fn is_marked(letter: char) -> bool
-    ensures value { result ≡ is_marked letter }
+    ensures value { result ≡ is_escaped letter }
     ensures range { IsTrue result → letter < 2 ^ 16 }
 {
     ends_line(letter) || letter == '\\'

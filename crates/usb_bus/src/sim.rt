@@ -8,8 +8,8 @@ ghost use Rattle.usb_device.specs.Tree.{new_ports, row_of};
 ghost use Rattle.usb_device.specs.HolderIndex.{IsIndexOf};
 ghost use Rattle.usb_world.specs.Losses.{AreOfDamages};
 ghost use Rattle.usb_world.specs.AttemptPackets.{IsSettled};
-ghost use Rattle.usb_world.specs.SanePorts.{IsSane};
-ghost use Rattle.usb_world.specs.SaneProofs.{IsSane-prop, IsSpec-prop, all_prop};
+ghost use Rattle.usb_world.specs.SanePorts.{Consistent};
+ghost use Rattle.usb_world.specs.SaneProofs.{Consistent-prop, IsSpec-prop, all_prop};
 ghost use Rattle.usb_world.specs.Steps.{opening};
 ghost use Rattle.usb_bus.specs.Lines.{shown_names};
 ghost use Rattle.usb_bus.specs.Watch.{has_failed, tells_failure};
@@ -63,7 +63,8 @@ pub struct SimBus<T: Trace> {
     ghost some_root: { 1 ≤ length (row_of roots) },
     ghost few_roots: { length (row_of roots) ≤ 7 },
     ghost settled: { IsSettled roots },
-    ghost sane: { fault ≡ None → IsSane roots } by { λ x y i none. IsSane-prop roots (x none) (y none) i },
+    ghost sane: { fault ≡ None
+        → Consistent roots } by { λ x y i none. Consistent-prop roots (x none) (y none) i },
     ghost ruled: { All IsSpec devices } by { all_prop IsSpec-prop devices },
     ghost planned: { list_all (can_come (length devices)) left.items ≡ true },
     ghost few_events: { taken + length left.items ≤ event_most },

@@ -94,25 +94,25 @@ run_parts low first rest bits same size =
 unfoldable entry : ℕ → List Bool
 entry n = run generator16 (low_bits 8 n ++ zeros_along (low_bits 8 0)) (zeros_along (low_bits 8 0))
 
-unfoldable entries : ℕ → ℕ → List (List Bool)
-entries zero n = []
-entries (suc count) n = entry n ∷ entries count (suc n)
+unfoldable table_entries : ℕ → ℕ → List (List Bool)
+table_entries zero n = []
+table_entries (suc count) n = entry n ∷ table_entries count (suc n)
 
-table_is : map (low_bits 16) TABLE ≡ entries 256 0
-unfolding low_bits run step entry entries
-table_is = refl
+table_is_entries : map (low_bits 16) TABLE ≡ table_entries 256 0
+unfolding low_bits run step entry table_entries
+table_is_entries = refl
 
-entry_at : (words : List ℕ) (count n i : ℕ) → map (low_bits 16) words ≡ entries count n → i < count
+table_entry : (words : List ℕ) (count n i : ℕ) → map (low_bits 16) words ≡ table_entries count n → i < count
     → low_bits 16 (get_or words i 0) ≡ entry (n + i)
-unfolding entries
-entry_at words zero n i e h = absurd (omega (arith, h))
-entry_at [] (suc count) n i e h = cc
-entry_at (w ∷ words) (suc count) n zero e h =
+unfolding table_entries
+table_entry words zero n i e h = absurd (omega (arith, h))
+table_entry [] (suc count) n i e h = cc
+table_entry (w ∷ words) (suc count) n zero e h =
     let head : low_bits 16 w ≡ entry n = cc in
     head ∙ ap entry (let s : n ≡ n + 0 = omega arith in s)
-entry_at (w ∷ words) (suc count) n (suc i) e h =
-    let tail : map (low_bits 16) words ≡ entries count (suc n) = cc in
-    entry_at words count (suc n) i tail (omega (arith, h)) ∙ ap entry (let s : suc n + i ≡ n + suc i = omega arith in s)
+table_entry (w ∷ words) (suc count) n (suc i) e h =
+    let tail : map (low_bits 16) words ≡ table_entries count (suc n) = cc in
+    table_entry words count (suc n) i tail (omega (arith, h)) ∙ ap entry (let s : suc n + i ≡ n + suc i = omega arith in s)
 
 -- a byte goes in, by the table
 pub table_byte : (r b : ℕ) → r < 2 ^ 16 → b < 2 ^ 8
@@ -129,7 +129,7 @@ table_byte r b hr hb =
     low_bits-add 8 8 (r / 256) ∙ ap (λ (m : ℕ). low_bits 8 (r / 256) ++ low_bits 8 m) above in
     let zeros : List Bool = zeros_along (low_bits 8 0) in
     let looked : low_bits 16 (get_or TABLE index 0) ≡ run generator16 (sum_of (low_bits 8 r) (low_bits 8 b) ++ zeros) zeros =
-    entry_at TABLE 256 0 index table_is below ∙ ap entry (let s : 0 + index ≡ index = omega arith in s)
+    table_entry TABLE 256 0 index table_is_entries below ∙ ap entry (let s : 0 + index ≡ index = omega arith in s)
     ∙ ap (λ (l : List Bool). run generator16 (l ++ zeros) zeros) mixed in
     low_bits-xor 16 (r / 256) (get_or TABLE index 0)
     ∙ ap₂ sum_of high looked

@@ -1,3 +1,3 @@
 -- The lemmas that crates above cite. All others are for this crate alone.
 pub use Rattle.usb_descriptor.proofs.Devices.{Whole, whole_of}
-pub use Rattle.usb_descriptor.proofs.Texts.{header_of}
+pub use Rattle.usb_descriptor.proofs.Texts.{header_of, joined-item}

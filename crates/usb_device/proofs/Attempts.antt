@@ -25,8 +25,8 @@ use Rattle.usb_device.specs.Attempt.{Way, whole, broken, lost, heard, acked, set
 pub same_number : (n : ℕ) → (n == n) ≡ true
 same_number n = grind (arith, nat_tests)
 
-abbrev pair : Option Answer → State → Reply
-pair r d = (r, d)
+abbrev attempt_reply : Option Answer → State → Reply
+attempt_reply r d = (r, d)
 
 abbrev remembering : State → RememberedPacket → State
 remembering d m = record d { memory = m }
@@ -49,9 +49,9 @@ pub silent-unread : (d : State) → d.spec.silent ≡ true → unread d ≡ d
 unfolding unread
 silent-unread d silent = rw silent refl
 
-either : (d : State) (silent : Bool) (row : Reply) → row ≡ (None, forgotten d) → (if silent then pair None (forgotten d) else row) ≡ pair None (forgotten d)
-either d true row h = refl
-either d false row h = h
+silent_or_row : (d : State) (silent : Bool) (row : Reply) → row ≡ (None, forgotten d) → (if silent then attempt_reply None (forgotten d) else row) ≡ attempt_reply None (forgotten d)
+silent_or_row d true row h = refl
+silent_or_row d false row h = h
 
 rested-row : (d : State) (row : List PortState) (p : Packet) → is_own d p ≡ false → answered (forgotten d) row Nothing p ≡ (None, forgotten d)
 rested-row d row (Token kind a e) h = rw h refl
@@ -62,9 +62,9 @@ rested-row d row packet.Nak h = refl
 rested-row d row packet.Stall h = refl
 rested-row d row packet.Pre h = refl
 
-pub rested : (d : State) (row : List PortState) (p : Packet) → is_own d p ≡ false → received (forgotten d) row p ≡ (None, forgotten d)
+pub received-not_own : (d : State) (row : List PortState) (p : Packet) → is_own d p ≡ false → received (forgotten d) row p ≡ (None, forgotten d)
 unfolding received
-rested d row p h = either d d.spec.silent (answered (forgotten d) row Nothing p) (rested-row d row p h)
+received-not_own d row p h = silent_or_row d d.spec.silent (answered (forgotten d) row Nothing p) (rested-row d row p h)
 
 -- ---- SETUP
 
@@ -77,16 +77,16 @@ unfolding received
 setup_data d row s loud len = rw (loud, len) refl
 
 -- the end where nothing was answered
-nothing : (t : Way) (d : State) → pair (heard t None) (forgotten d) ≡ (None, forgotten d)
-nothing whole d = refl
-nothing broken d = refl
-nothing lost d = refl
+forgotten_none : (t : Way) (d : State) → attempt_reply (heard t None) (forgotten d) ≡ (None, forgotten d)
+forgotten_none whole d = refl
+forgotten_none broken d = refl
+forgotten_none lost d = refl
 
 abbrev finished : Way → Reply → Reply
 finished t reply = (heard t reply.0, forgotten reply.1)
 
 rested_data : (d : State) (row : List PortState) (t : Toggle) (b : List ℕ) → received (forgotten d) row (Payload t (record { items = b })) ≡ (None, forgotten d)
-rested_data d row t b = rested d row (Payload t (record { items = b })) refl
+rested_data d row t b = received-not_own d row (Payload t (record { items = b })) refl
 
 -- a request leaves nothing remembered
 begun-rests : (d : State) (row : List PortState) (n : ℕ) (o : Outcome) → forgotten (begun (forgotten d) row n o) ≡ begun (forgotten d) row n o
@@ -106,18 +106,18 @@ begun-rests d row n (calls_port c i) = refl
 pub setup_is : (d : State) (row : List PortState) (s : List ℕ) → d.spec.silent ≡ false → length s ≡ 8 → (t1 t2 t3 : Way) → setup_exchange (forgotten d) row d.registers.address s t1 t2 t3 ≡ setup_law (forgotten d) row s t1 t2 t3
 setup_is d row s loud len whole whole t3 =
     ap (λ r. finished t3 (received r.1 row (Payload Zero (record { items = s })))) (setup_token d row loud) ∙ ap (finished t3) (setup_data d row s loud len)
-    ∙ ap (pair (heard t3 (Some Ack))) (begun-rests d row (setup_of s).length (outcome d.spec d.registers (setup_of s)))
+    ∙ ap (attempt_reply (heard t3 (Some Ack))) (begun-rests d row (setup_of s).length (outcome d.spec d.registers (setup_of s)))
 setup_is d row s loud len whole broken t3 =
-    ap (λ r. finished t3 (pair None (unread r.1))) (setup_token d row loud) ∙ ap (λ x. finished t3 (pair None x)) (unread-is d SetupSeen loud) ∙ nothing t3 d
-setup_is d row s loud len whole lost t3 = ap (λ r. finished t3 (pair None r.1)) (setup_token d row loud) ∙ nothing t3 d
+    ap (λ r. finished t3 (attempt_reply None (unread r.1))) (setup_token d row loud) ∙ ap (λ x. finished t3 (attempt_reply None x)) (unread-is d SetupSeen loud) ∙ forgotten_none t3 d
+setup_is d row s loud len whole lost t3 = ap (λ r. finished t3 (attempt_reply None r.1)) (setup_token d row loud) ∙ forgotten_none t3 d
 setup_is d row s loud len broken whole t3 =
-    ap (λ x. finished t3 (received x row (Payload Zero (record { items = s })))) (unread-rested d) ∙ ap (finished t3) (rested_data d row Zero s) ∙ nothing t3 d
+    ap (λ x. finished t3 (received x row (Payload Zero (record { items = s })))) (unread-rested d) ∙ ap (finished t3) (rested_data d row Zero s) ∙ forgotten_none t3 d
 setup_is d row s loud len broken broken t3 =
-    ap (λ x. finished t3 (pair None (unread x))) (unread-rested d) ∙ ap (λ x. finished t3 (pair None x)) (unread-rested d) ∙ nothing t3 d
-setup_is d row s loud len broken lost t3 = ap (λ x. finished t3 (pair None x)) (unread-rested d) ∙ nothing t3 d
-setup_is d row s loud len lost whole t3 = ap (finished t3) (rested_data d row Zero s) ∙ nothing t3 d
-setup_is d row s loud len lost broken t3 = ap (λ x. finished t3 (pair None x)) (unread-rested d) ∙ nothing t3 d
-setup_is d row s loud len lost lost t3 = nothing t3 d
+    ap (λ x. finished t3 (attempt_reply None (unread x))) (unread-rested d) ∙ ap (λ x. finished t3 (attempt_reply None x)) (unread-rested d) ∙ forgotten_none t3 d
+setup_is d row s loud len broken lost t3 = ap (λ x. finished t3 (attempt_reply None x)) (unread-rested d) ∙ forgotten_none t3 d
+setup_is d row s loud len lost whole t3 = ap (finished t3) (rested_data d row Zero s) ∙ forgotten_none t3 d
+setup_is d row s loud len lost broken t3 = ap (λ x. finished t3 (attempt_reply None x)) (unread-rested d) ∙ forgotten_none t3 d
+setup_is d row s loud len lost lost t3 = forgotten_none t3 d
 
 -- ---- OUT
 
@@ -134,16 +134,16 @@ out_is d row e t b loud whole whole t3 =
     ap (λ r. finished t3 (received r.1 row (Payload t (record { items = b })))) (out_token d row e loud)
     ∙ ap (finished t3) (out_data d row e t b loud)
 out_is d row e t b loud whole broken t3 =
-    ap (λ r. finished t3 (pair None (unread r.1))) (out_token d row e loud) ∙ ap (λ x. finished t3 (pair None x)) (unread-is d (OutSeen e) loud) ∙ nothing t3 d
-out_is d row e t b loud whole lost t3 = ap (λ r. finished t3 (pair None r.1)) (out_token d row e loud) ∙ nothing t3 d
+    ap (λ r. finished t3 (attempt_reply None (unread r.1))) (out_token d row e loud) ∙ ap (λ x. finished t3 (attempt_reply None x)) (unread-is d (OutSeen e) loud) ∙ forgotten_none t3 d
+out_is d row e t b loud whole lost t3 = ap (λ r. finished t3 (attempt_reply None r.1)) (out_token d row e loud) ∙ forgotten_none t3 d
 out_is d row e t b loud broken whole t3 =
-    ap (λ x. finished t3 (received x row (Payload t (record { items = b })))) (unread-rested d) ∙ ap (finished t3) (rested_data d row t b) ∙ nothing t3 d
+    ap (λ x. finished t3 (received x row (Payload t (record { items = b })))) (unread-rested d) ∙ ap (finished t3) (rested_data d row t b) ∙ forgotten_none t3 d
 out_is d row e t b loud broken broken t3 =
-    ap (λ x. finished t3 (pair None (unread x))) (unread-rested d) ∙ ap (λ x. finished t3 (pair None x)) (unread-rested d) ∙ nothing t3 d
-out_is d row e t b loud broken lost t3 = ap (λ x. finished t3 (pair None x)) (unread-rested d) ∙ nothing t3 d
-out_is d row e t b loud lost whole t3 = ap (finished t3) (rested_data d row t b) ∙ nothing t3 d
-out_is d row e t b loud lost broken t3 = ap (λ x. finished t3 (pair None x)) (unread-rested d) ∙ nothing t3 d
-out_is d row e t b loud lost lost t3 = nothing t3 d
+    ap (λ x. finished t3 (attempt_reply None (unread x))) (unread-rested d) ∙ ap (λ x. finished t3 (attempt_reply None x)) (unread-rested d) ∙ forgotten_none t3 d
+out_is d row e t b loud broken lost t3 = ap (λ x. finished t3 (attempt_reply None x)) (unread-rested d) ∙ forgotten_none t3 d
+out_is d row e t b loud lost whole t3 = ap (finished t3) (rested_data d row t b) ∙ forgotten_none t3 d
+out_is d row e t b loud lost broken t3 = ap (λ x. finished t3 (attempt_reply None x)) (unread-rested d) ∙ forgotten_none t3 d
+out_is d row e t b loud lost lost t3 = forgotten_none t3 d
 
 -- ---- IN
 
@@ -151,22 +151,22 @@ in_token : (d : State) (row : List PortState) (e : ℕ) → d.spec.silent ≡ fa
 unfolding received
 in_token d row e loud = rw (loud, same_number d.registers.address) refl
 
-unanswered : (row : List PortState) (max : ℕ) (t2 t3 : Way) (d : State) → acked row max t2 t3 (None, d) ≡ (None, forgotten d)
-unanswered row max whole t3 d = refl
-unanswered row max broken t3 d = refl
-unanswered row max lost t3 d = refl
+acked-none : (row : List PortState) (max : ℕ) (t2 t3 : Way) (d : State) → acked row max t2 t3 (None, d) ≡ (None, forgotten d)
+acked-none row max whole t3 d = refl
+acked-none row max broken t3 d = refl
+acked-none row max lost t3 d = refl
 
-stalls : (row : List PortState) (max : ℕ) (t2 t3 : Way) (d : State) → acked row max t2 t3 (pair (Some Stall) (forgotten d)) ≡ pair (heard t2 (Some Stall)) (forgotten d)
+stalls : (row : List PortState) (max : ℕ) (t2 t3 : Way) (d : State) → acked row max t2 t3 (attempt_reply (Some Stall) (forgotten d)) ≡ attempt_reply (heard t2 (Some Stall)) (forgotten d)
 stalls row max whole t3 d = refl
 stalls row max broken t3 d = refl
 stalls row max lost t3 d = refl
 
-no_more : (row : List PortState) (max : ℕ) (t2 t3 : Way) (d : State) → acked row max t2 t3 (pair (Some Nak) (forgotten d)) ≡ pair (heard t2 (Some Nak)) (forgotten d)
-no_more row max whole t3 d = refl
-no_more row max broken t3 d = refl
-no_more row max lost t3 d = refl
+acked-nak : (row : List PortState) (max : ℕ) (t2 t3 : Way) (d : State) → acked row max t2 t3 (attempt_reply (Some Nak) (forgotten d)) ≡ attempt_reply (heard t2 (Some Nak)) (forgotten d)
+acked-nak row max whole t3 d = refl
+acked-nak row max broken t3 d = refl
+acked-nak row max lost t3 d = refl
 
-naks : (row : List PortState) (max : ℕ) (t2 t3 : Way) (d : State) → acked row max t2 t3 (nak_row (forgotten d)) ≡ pair (heard t2 (Some Nak)) (nak_row (forgotten d)).1
+naks : (row : List PortState) (max : ℕ) (t2 t3 : Way) (d : State) → acked row max t2 t3 (nak_row (forgotten d)) ≡ attempt_reply (heard t2 (Some Nak)) (nak_row (forgotten d)).1
 naks row max whole t3 d = refl
 naks row max broken t3 d = refl
 naks row max lost t3 d = refl
@@ -179,34 +179,34 @@ gave_is : (d : State) (row : List PortState) (giver : InEndpoint) (t : Toggle) (
 gave_is d row giver t bytes max loud broken t3 = refl
 gave_is d row giver t bytes max loud lost t3 = refl
 gave_is d row giver t bytes max loud whole whole =
-    elim (nat_le (length bytes) max) as (λ b. pair (Some (payload t bytes)) (forgotten (if b then (received (remembering d (AckAwaited giver)) row packet.Ack).1 else remembering d (AckAwaited giver))) ≡ pair (Some (payload t bytes)) (if b && true then forgotten (acknowledged (forgotten d) giver) else forgotten d)) [
-      | true ↦ ap (λ r. pair (Some (payload t bytes)) (forgotten r.1)) (ack_came d row giver loud)
+    elim (nat_le (length bytes) max) as (λ b. attempt_reply (Some (payload t bytes)) (forgotten (if b then (received (remembering d (AckAwaited giver)) row packet.Ack).1 else remembering d (AckAwaited giver))) ≡ attempt_reply (Some (payload t bytes)) (if b && true then forgotten (acknowledged (forgotten d) giver) else forgotten d)) [
+      | true ↦ ap (λ r. attempt_reply (Some (payload t bytes)) (forgotten r.1)) (ack_came d row giver loud)
       | false ↦ refl
     ]
 gave_is d row giver t bytes max loud whole broken =
-    elim (nat_le (length bytes) max) as (λ b. pair (Some (payload t bytes)) (forgotten (if b then unread (remembering d (AckAwaited giver)) else remembering d (AckAwaited giver))) ≡ pair (Some (payload t bytes)) (if b && false then forgotten (acknowledged (forgotten d) giver) else forgotten d)) [
-      | true ↦ ap (λ x. pair (Some (payload t bytes)) (forgotten x)) (unread-is d (AckAwaited giver) loud)
+    elim (nat_le (length bytes) max) as (λ b. attempt_reply (Some (payload t bytes)) (forgotten (if b then unread (remembering d (AckAwaited giver)) else remembering d (AckAwaited giver))) ≡ attempt_reply (Some (payload t bytes)) (if b && false then forgotten (acknowledged (forgotten d) giver) else forgotten d)) [
+      | true ↦ ap (λ x. attempt_reply (Some (payload t bytes)) (forgotten x)) (unread-is d (AckAwaited giver) loud)
       | false ↦ refl
     ]
 gave_is d row giver t bytes max loud whole lost =
-    elim (nat_le (length bytes) max) as (λ b. pair (Some (payload t bytes)) (forgotten (if b then remembering d (AckAwaited giver) else remembering d (AckAwaited giver))) ≡ pair (Some (payload t bytes)) (if b && false then forgotten (acknowledged (forgotten d) giver) else forgotten d)) [ true ↦ refl | false ↦ refl ]
+    elim (nat_le (length bytes) max) as (λ b. attempt_reply (Some (payload t bytes)) (forgotten (if b then remembering d (AckAwaited giver) else remembering d (AckAwaited giver))) ≡ attempt_reply (Some (payload t bytes)) (if b && false then forgotten (acknowledged (forgotten d) giver) else forgotten d)) [ true ↦ refl | false ↦ refl ]
 
-abbrev at_stage : State → Stage → State
-at_stage d s = record (forgotten d) { stage = s }
+abbrev with_stage : State → Stage → State
+with_stage d s = record (forgotten d) { stage = s }
 
-in_stage_is : (d : State) (row : List PortState) (max : ℕ) → d.spec.silent ≡ false → (t2 t3 : Way) (s : Stage) → acked row max t2 t3 (in_row (at_stage d s) s) ≡ in_stage_law (at_stage d s) s max t2 t3
-in_stage_is d row max loud t2 t3 idle = unanswered row max t2 t3 (at_stage d idle)
-in_stage_is d row max loud t2 t3 refused = stalls row max t2 t3 (at_stage d refused)
-in_stage_is d row max loud t2 t3 read = unanswered row max t2 t3 (at_stage d read)
-in_stage_is d row max loud t2 t3 (ending a) = gave_is (at_stage d (ending a)) row by.Control One [] max loud t2 t3
+in_stage_is : (d : State) (row : List PortState) (max : ℕ) → d.spec.silent ≡ false → (t2 t3 : Way) (s : Stage) → acked row max t2 t3 (in_row (with_stage d s) s) ≡ in_stage_law (with_stage d s) s max t2 t3
+in_stage_is d row max loud t2 t3 idle = acked-none row max t2 t3 (with_stage d idle)
+in_stage_is d row max loud t2 t3 refused = stalls row max t2 t3 (with_stage d refused)
+in_stage_is d row max loud t2 t3 read = acked-none row max t2 t3 (with_stage d read)
+in_stage_is d row max loud t2 t3 (ending a) = gave_is (with_stage d (ending a)) row by.Control One [] max loud t2 t3
 in_stage_is d row max loud t2 t3 (reading answer wanted k) =
-    let D = at_stage d (reading answer wanted k) in
-    elim (packet_at (max_packet d.spec) wanted answer k) as (λ o. acked row max t2 t3 (elim o [ None ↦ pair None D | Some bytes ↦ gives D by.Control (toggle_at k) bytes ]) ≡ (elim o [ None ↦ pair None D | Some bytes ↦ gave D by.Control max (toggle_at k) bytes t2 t3 ])) [
-      | None ↦ unanswered row max t2 t3 D
+    let D = with_stage d (reading answer wanted k) in
+    elim (packet_at (max_packet d.spec) wanted answer k) as (λ o. acked row max t2 t3 (elim o [ None ↦ attempt_reply None D | Some bytes ↦ gives D by.Control (toggle_at k) bytes ]) ≡ (elim o [ None ↦ attempt_reply None D | Some bytes ↦ gave D by.Control max (toggle_at k) bytes t2 t3 ])) [
+      | None ↦ acked-none row max t2 t3 D
       | Some bytes ↦ gave_is D row by.Control (toggle_at k) bytes max loud t2 t3
     ]
 
-in_whole : (d : State) (row : List PortState) (max : ℕ) → d.spec.silent ≡ false → (t2 t3 : Way) (busy : Bool) → acked row max t2 t3 (if busy then nak_row (forgotten d) else in_row (forgotten d) d.stage) ≡ (if busy then pair (heard t2 (Some Nak)) (nak_row (forgotten d)).1 else in_stage_law (forgotten d) d.stage max t2 t3)
+in_whole : (d : State) (row : List PortState) (max : ℕ) → d.spec.silent ≡ false → (t2 t3 : Way) (busy : Bool) → acked row max t2 t3 (if busy then nak_row (forgotten d) else in_row (forgotten d) d.stage) ≡ (if busy then attempt_reply (heard t2 (Some Nak)) (nak_row (forgotten d)).1 else in_stage_law (forgotten d) d.stage max t2 t3)
 in_whole d row max loud t2 t3 true = naks row max t2 t3 d
 in_whole d row max loud t2 t3 false = in_stage_is d row max loud t2 t3 d.stage
 
@@ -214,26 +214,26 @@ in_whole d row max loud t2 t3 false = in_stage_is d row max loud t2 t3 d.stage
 
 source_is : (d : State) (row : List PortState) (most max : ℕ) → d.spec.silent ≡ false → (t2 t3 : Way) (halted empty : Bool)
     → acked row max t2 t3 (if halted then (Some Stall, forgotten d) else if empty then (Some Nak, forgotten d) else gives (forgotten d) by.Bulk d.bulk_in.toggle (take most (rest_of d)))
-    ≡ (if halted then pair (heard t2 (Some Stall)) (forgotten d) else if empty then pair (heard t2 (Some Nak)) (forgotten d) else gave (forgotten d) by.Bulk max d.bulk_in.toggle (take most (rest_of d)) t2 t3)
+    ≡ (if halted then attempt_reply (heard t2 (Some Stall)) (forgotten d) else if empty then attempt_reply (heard t2 (Some Nak)) (forgotten d) else gave (forgotten d) by.Bulk max d.bulk_in.toggle (take most (rest_of d)) t2 t3)
 source_is d row most max loud t2 t3 true empty = stalls row max t2 t3 d
-source_is d row most max loud t2 t3 false true = no_more row max t2 t3 d
+source_is d row most max loud t2 t3 false true = acked-nak row max t2 t3 d
 source_is d row most max loud t2 t3 false false = gave_is d row by.Bulk d.bulk_in.toggle (take most (rest_of d)) max loud t2 t3
 
 at_endpoint : (d : State) (row : List PortState) (most max : ℕ) → d.spec.silent ≡ false → (t2 t3 : Way) (here : Bool)
-    → acked row max t2 t3 (if here then source_row (forgotten d) most else (None, forgotten d)) ≡ (if here then source_law (forgotten d) most max t2 t3 else pair None (forgotten d))
+    → acked row max t2 t3 (if here then source_row (forgotten d) most else (None, forgotten d)) ≡ (if here then source_law (forgotten d) most max t2 t3 else attempt_reply None (forgotten d))
 at_endpoint d row most max loud t2 t3 true = source_is d row most max loud t2 t3 d.bulk_in.halted (length (rest_of d) == 0)
-at_endpoint d row most max loud t2 t3 false = unanswered row max t2 t3 (forgotten d)
+at_endpoint d row most max loud t2 t3 false = acked-none row max t2 t3 (forgotten d)
 
 in_bulk_is : (d : State) (row : List PortState) (e max : ℕ) → d.spec.silent ≡ false → (t2 t3 : Way) (end : Option (ℕ × ℕ)) → acked row max t2 t3 (in_bulk_row (forgotten d) e end) ≡ in_bulk_law (forgotten d) e end max t2 t3
-in_bulk_is d row e max loud t2 t3 None = unanswered row max t2 t3 (forgotten d)
+in_bulk_is d row e max loud t2 t3 None = acked-none row max t2 t3 (forgotten d)
 in_bulk_is d row e max loud t2 t3 (Some end) = at_endpoint d row end.1 max loud t2 t3 (end.0 == e)
 
 -- ---- IN 1 of a hub
 
 new_changes_is : (d : State) (row : List PortState) (bits max : ℕ) → d.spec.silent ≡ false → (t2 t3 : Way) (none : Bool)
     → acked row max t2 t3 (if none then (Some Nak, forgotten d) else gives (record (forgotten d) { held = Some bits }) by.Changes d.changes.toggle (bits ∷ []))
-    ≡ (if none then pair (heard t2 (Some Nak)) (forgotten d) else gave (record (forgotten d) { held = Some bits }) by.Changes max d.changes.toggle (bits ∷ []) t2 t3)
-new_changes_is d row bits max loud t2 t3 true = no_more row max t2 t3 d
+    ≡ (if none then attempt_reply (heard t2 (Some Nak)) (forgotten d) else gave (record (forgotten d) { held = Some bits }) by.Changes max d.changes.toggle (bits ∷ []) t2 t3)
+new_changes_is d row bits max loud t2 t3 true = acked-nak row max t2 t3 d
 new_changes_is d row bits max loud t2 t3 false = gave_is (record d { held = Some bits }) row by.Changes d.changes.toggle (bits ∷ []) max loud t2 t3
 
 held_is : (d : State) (row : List PortState) (max : ℕ) → d.spec.silent ≡ false → (t2 t3 : Way) (h : Option ℕ) → acked row max t2 t3 (held_row (forgotten d) row h) ≡ held_law (forgotten d) row h max t2 t3
@@ -241,7 +241,7 @@ held_is d row max loud t2 t3 None = new_changes_is d row (change_bits row) max l
 held_is d row max loud t2 t3 (Some bits) = gave_is d row by.Changes d.changes.toggle (bits ∷ []) max loud t2 t3
 
 changes_is : (d : State) (row : List PortState) (max : ℕ) → d.spec.silent ≡ false → (t2 t3 : Way) (halted : Bool)
-    → acked row max t2 t3 (if halted then (Some Stall, forgotten d) else held_row (forgotten d) row d.held) ≡ (if halted then pair (heard t2 (Some Stall)) (forgotten d) else held_law (forgotten d) row d.held max t2 t3)
+    → acked row max t2 t3 (if halted then (Some Stall, forgotten d) else held_row (forgotten d) row d.held) ≡ (if halted then attempt_reply (heard t2 (Some Stall)) (forgotten d) else held_law (forgotten d) row d.held max t2 t3)
 changes_is d row max loud t2 t3 true = stalls row max t2 t3 d
 changes_is d row max loud t2 t3 false = held_is d row max loud t2 t3 d.held
 
@@ -250,15 +250,15 @@ in_other_is : (d : State) (row : List PortState) (e max : ℕ) → d.spec.silent
 in_other_is d row e max loud t2 t3 true = changes_is d row max loud t2 t3 d.changes.halted
 in_other_is d row e max loud t2 t3 false = in_bulk_is d row e max loud t2 t3 (bulk_of d true)
 
-by_endpoint : (d : State) (row : List PortState) (e max : ℕ) → d.spec.silent ≡ false → (t2 t3 : Way) (zero : Bool)
+acked-endpoint : (d : State) (row : List PortState) (e max : ℕ) → d.spec.silent ≡ false → (t2 t3 : Way) (zero : Bool)
     → acked row max t2 t3 (if zero then unless_busy (forgotten d) (in_row (forgotten d) d.stage) else in_other_row (forgotten d) row e)
     ≡ (if zero then in_control_law (forgotten d) max t2 t3 else in_other_law (forgotten d) row e max t2 t3)
-by_endpoint d row e max loud t2 t3 true = in_whole d row max loud t2 t3 (is_busy d)
-by_endpoint d row e max loud t2 t3 false = in_other_is d row e max loud t2 t3 (e == 1 && tells_changes d.spec d.registers)
+acked-endpoint d row e max loud t2 t3 true = in_whole d row max loud t2 t3 (is_busy d)
+acked-endpoint d row e max loud t2 t3 false = in_other_is d row e max loud t2 t3 (e == 1 && tells_changes d.spec d.registers)
 
 pub in_is : (d : State) (row : List PortState) (e max : ℕ) → d.spec.silent ≡ false → (t1 t2 t3 : Way) → in_exchange (forgotten d) row d.registers.address e max t1 t2 t3 ≡ in_law (forgotten d) row e max t1 t2 t3
-in_is d row e max loud whole t2 t3 = ap (acked row max t2 t3) (in_token d row e loud) ∙ by_endpoint d row e max loud t2 t3 (e == 0)
-in_is d row e max loud broken t2 t3 = ap (λ x. acked row max t2 t3 (pair None x)) (unread-rested d) ∙ unanswered row max t2 t3 (forgotten d)
-in_is d row e max loud lost t2 t3 = unanswered row max t2 t3 (forgotten d)
+in_is d row e max loud whole t2 t3 = ap (acked row max t2 t3) (in_token d row e loud) ∙ acked-endpoint d row e max loud t2 t3 (e == 0)
+in_is d row e max loud broken t2 t3 = ap (λ x. acked row max t2 t3 (attempt_reply None x)) (unread-rested d) ∙ acked-none row max t2 t3 (forgotten d)
+in_is d row e max loud lost t2 t3 = acked-none row max t2 t3 (forgotten d)
 
 pub ruleset attempts = (setup_is, out_is, in_is)

@@ -59,19 +59,19 @@ heard-listed (Some x) xs = heard-more x xs
 
 -- ---- a packet at a device that it is not for
 
-pub unheard : {A : Type 0} (h : Heard) (x : A) → with_answer h (None, x) ≡ (h, x)
-unheard h x = ap (λ g. (g, x)) (both-none h)
+pub with_answer-none : {A : Type 0} (h : Heard) (x : A) → with_answer h (None, x) ≡ (h, x)
+with_answer-none h x = ap (λ g. (g, x)) (both-none h)
 
 pub taken-stray : (c : Content) (t : Plugged) → concerns c t.own ≡ false → taken_content c t ≡ (None, record t { own = unread t.own })
 taken-stray c t h = rw (reply-unread c t.own (row_of t.ports) h, asks-stray c t.own h) refl
 
 -- ---- a place, and those behind it
 
-abbrev pair : Heard → Ports → Heard × Ports
-pair h k = (h, k)
+abbrev heard_ports : Heard → Ports → Heard × Ports
+heard_ports h k = (h, k)
 
-abbrev first : Heard × Place → Heard → Ports → Heard × Ports
-first p h k = (both p.0 h, before p.1 k)
+abbrev first_heard : Heard × Place → Heard → Ports → Heard × Ports
+first_heard p h k = (both p.0 h, before p.1 k)
 
 abbrev if_enabled : Sent → Bool → PortState → State → Ports → Ports → Bool → Heard × Ports
 if_enabled q deep b s a k e = (
@@ -83,20 +83,20 @@ abbrev place_if : Sent → Bool → PortState → State → Ports → Bool → H
 place_if q deep b s a e =
     if e then (let x = delivered_device q deep (record { own = s; ports = a }) in (x.0, full b x.1.own x.1.ports)) else (NoAnswer, full b s a)
 
-by_enable : (q : Sent) (deep : Bool) (b : PortState) (s : State) (a k : Ports) (e : Bool) → if_enabled q deep b s a k e ≡ first (place_if q deep b s a e) (heard_of (answers q deep k)) (after_packet q deep k)
-by_enable q deep b s a k true =
+if_enabled-first : (q : Sent) (deep : Bool) (b : PortState) (s : State) (a k : Ports) (e : Bool) → if_enabled q deep b s a k e ≡ first_heard (place_if q deep b s a e) (heard_of (answers q deep k)) (after_packet q deep k)
+if_enabled-first q deep b s a k true =
     let x = (answer_of q deep s a).0 in
-    ap (λ h. pair h (taken b (answer_of q deep s a).1 (delivered_device q deep (record { own = s; ports = a })).1.ports (after_packet q deep k)))
+    ap (λ h. heard_ports h (taken b (answer_of q deep s a).1 (delivered_device q deep (record { own = s; ports = a })).1.ports (after_packet q deep k)))
     (heard-listed x (answers q true a ++ answers q deep k)
     ∙ ap (both (heard_from x)) (heard_of-append (answers q true a) (answers q deep k))
     ∙ sym (both-joined (heard_from x) (heard_of (answers q true a)) (heard_of (answers q deep k))))
-by_enable q deep b s a k false = refl
+if_enabled-first q deep b s a k false = refl
 
 pub delivered-before : (q : Sent) (deep : Bool) (p : Place) (k : Ports)
     → delivered q deep (before p k) ≡ (both (delivered_place q deep p).0 (delivered q deep k).0, before (delivered_place q deep p).1 (delivered q deep k).1)
 unfolding after_packet answers
 delivered-before q deep (empty b) k = refl
-delivered-before q deep (full b s a) k = by_enable q deep b s a k b.enable
+delivered-before q deep (full b s a) k = if_enabled-first q deep b s a k b.enable
 
 -- ---- what was heard before
 
@@ -119,4 +119,4 @@ delivered-none q deep (p ∷ ps) h = absurd (omega (arith, h))
 
 pub ruleset delivering = (heard_joined-before, heard_joined-device, both-none, delivered-none, answer_of-after)
 
-pub ruleset strays = (unheard, taken-stray)
+pub ruleset strays = (with_answer-none, taken-stray)

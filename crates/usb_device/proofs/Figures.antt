@@ -69,16 +69,16 @@ pub answer-spec : (q : Sent) (deep : Bool) (s : State) (a : Ports) → (answer_o
 unfolding answer_of
 answer-spec q deep s a = if-spec (hears q deep s) s (reply_to q.content s (row_of a)) (reply-spec q.content s (row_of a))
 
-either : (e : Bool) (x y : Ports) (m : List (Option (Option Spec))) → figure x ≡ m → figure y ≡ m → figure (if e then x else y) ≡ m
-either true x y m h g = h
-either false x y m h g = g
+figure-if_else : (e : Bool) (x y : Ports) (m : List (Option (Option Spec))) → figure x ≡ m → figure y ≡ m → figure (if e then x else y) ≡ m
+figure-if_else true x y m h g = h
+figure-if_else false x y m h g = g
 
 pub figure-after : (q : Sent) (deep : Bool) (k : Ports) → figure (after_packet q deep k) ≡ figure k
 unfolding figure after_packet
 figure-after q deep ended = refl
 figure-after q deep (vacant b k) = ap (λ m. Some None ∷ m) (figure-after q deep k)
 figure-after q deep (taken b s a k) =
-    either b.enable _ _ _
+    figure-if_else b.enable _ _ _
     (ap (λ x. Some (Some x) ∷ (figure (acted (effect_of q deep s) (after_packet q true a)) ++ figure (after_packet q deep k))) (answer-spec q deep s a)
     ∙ ap₂ (λ m n. Some (Some s.spec) ∷ (m ++ n)) (figure-acted (effect_of q deep s) (after_packet q true a) ∙ figure-after q true a) (figure-after q deep k))
     (ap (λ m. Some (Some s.spec) ∷ (figure a ++ m)) (figure-after q deep k))

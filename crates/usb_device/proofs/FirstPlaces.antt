@@ -163,29 +163,29 @@ pub ruleset paths = (changed-path, changed-none, device-path, device-none)
 
 -- ---- a row of empty ports
 
-abbrev one_more : Ports → Ports
-one_more ended = vacant off ended
-one_more (vacant b k) = vacant b (one_more k)
-one_more (taken b s a k) = taken b s a (one_more k)
+abbrev one_port_more : Ports → Ports
+one_port_more ended = vacant off ended
+one_port_more (vacant b k) = vacant b (one_port_more k)
+one_port_more (taken b s a k) = taken b s a (one_port_more k)
 
-most_more-before : (q : Place) (k : Ports) → one_more (before q k) ≡ before q (one_more k)
+most_more-before : (q : Place) (k : Ports) → one_port_more (before q k) ≡ before q (one_port_more k)
 most_more-before (empty b) k = refl
 most_more-before (full b s a) k = refl
 
-abbrev nothing_there : Kept
-nothing_there = record { port = off; device = None }
+abbrev empty_place : Kept
+empty_place = record { port = off; device = None }
 
-ports_kept-pushed : (ps : List Kept) → ports_kept (ps ++ nothing_there ∷ []) ≡ one_more (ports_kept ps)
+ports_kept-pushed : (ps : List Kept) → ports_kept (ps ++ empty_place ∷ []) ≡ one_port_more (ports_kept ps)
 ports_kept-pushed [] = refl
 ports_kept-pushed (p ∷ ps) = ap (before (stood p)) (ports_kept-pushed ps) ∙ sym (most_more-before (stood p) (ports_kept ps))
 
-most_more-new : (n : ℕ) → one_more (new_ports n) ≡ new_ports (suc n)
+most_more-new : (n : ℕ) → one_port_more (new_ports n) ≡ new_ports (suc n)
 unfolding new_ports
 most_more-new zero = refl
 most_more-new (suc n) = ap (vacant off) (most_more-new n)
 
-pub empty_pushed : (ps : List Kept) (n : ℕ) → ports_kept ps ≡ new_ports n → ports_kept (ps ++ nothing_there ∷ []) ≡ new_ports (n + 1)
-empty_pushed ps n h = rw add-one (ports_kept-pushed ps ∙ ap one_more h ∙ most_more-new n)
+pub empty_pushed : (ps : List Kept) (n : ℕ) → ports_kept ps ≡ new_ports n → ports_kept (ps ++ empty_place ∷ []) ≡ new_ports (n + 1)
+empty_pushed ps n h = rw add-one (ports_kept-pushed ps ∙ ap one_port_more h ∙ most_more-new n)
 
 pub new_ports-none : new_ports 0 ≡ ended
 unfolding new_ports

@@ -4,9 +4,9 @@ use Rattle.usb_device.specs.declared.answer.AnswerPid.TheVariants.{Ack, Nak, Sta
 use Rattle.usb_device.specs.declared.hearing.HeardPid.{HeardPid}
 use Rattle.usb_device.specs.declared.hearing.HeardPid.TheVariants.{Nothing, One, Collision}
 use Rattle.usb_device.specs.AnswerPids.{Room}
-use Rattle.usb_device.specs.Hearings.{heard_with, pid_of}
+use Rattle.usb_device.specs.Hearings.{heard_with, pid_heard}
 
-pub pid_of-with : (p : HeardPid) (room : Room) → pid_of (heard_with p room) ≡ p
+pub pid_of-with : (p : HeardPid) (room : Room) → pid_heard (heard_with p room) ≡ p
 pid_of-with Nothing room = refl
 pid_of-with (One Ack) room = refl
 pid_of-with (One Nak) room = refl
@@ -15,7 +15,7 @@ pid_of-with (One (Data toggle)) room = refl
 pid_of-with Collision room = refl
 
 pub heard_with-pid : (p : HeardPid) (room : Room)
-    → heard_with (pid_of (heard_with p room)) room ≡ heard_with p room
+    → heard_with (pid_heard (heard_with p room)) room ≡ heard_with p room
 heard_with-pid p room = ap (λ x. heard_with x room) (pid_of-with p room)
 
 pub ruleset hearings = (pid_of-with, heard_with-pid)

@@ -10,15 +10,16 @@ use Rattle.usb_device.specs.Tree.{Ports, ended, vacant, taken, Place, empty, ful
 use Rattle.usb_device.specs.Route.{holds_by, is_held_at}
 use Rattle.usb_device.specs.Holders.{path_below, reached, all_reached, paths_at, holder_among, holder_of}
 use Rattle.usb_device.proofs.NumberedPlaces.{reach_at-tail}
+use Rattle.usb_device.proofs.Attempts.{same_number}
 
-abbrev Way : Type 0
-Way = Option (ArrayVec ℕ)
+abbrev HolderWay : Type 0
+HolderWay = Option (ArrayVec ℕ)
 
-abbrev In : ℕ × Way → List (ℕ × Way) → Type 0
+abbrev In : ℕ × HolderWay → List (ℕ × HolderWay) → Type 0
 In x [] = ⊥
 In x (y ∷ ys) = (x ≡ y) ⊎ In x ys
 
-in_append : (x : ℕ × Way) (xs ys : List (ℕ × Way)) → In x (xs ++ ys) → In x xs ⊎ In x ys
+in_append : (x : ℕ × HolderWay) (xs ys : List (ℕ × HolderWay)) → In x (xs ++ ys) → In x xs ⊎ In x ys
 in_append x [] ys h = inr h
 in_append x (z ∷ xs) ys (inl e) = inl (inl e)
 in_append x (z ∷ xs) ys (inr h) = further (in_append x xs ys h)
@@ -48,38 +49,35 @@ holder_later n first q k above path h = record {
 }
 
 -- a path below another one
-record Below (w : Way) (f : ℕ) (q : ArrayVec ℕ) : Type 0 where
+record Below (w : HolderWay) (f : ℕ) (q : ArrayVec ℕ) : Type 0 where
   above : ArrayVec ℕ
   is : w ≡ Some above
   longer : q.items ≡ above.items ++ f ∷ []
 
-below_of : (w : Way) (f : ℕ) (q : ArrayVec ℕ) → path_below w f ≡ Some q → Below w f q
-below_of None f q e = cc
-below_of (Some p) f q e = split (nat_le 8 (length p.items) || nat_le 256 f) e
+path_below-found : (w : HolderWay) (f : ℕ) (q : ArrayVec ℕ) → path_below w f ≡ Some q → Below w f q
+path_below-found None f q e = cc
+path_below-found (Some p) f q e = split (nat_le 8 (length p.items) || nat_le 256 f) e
   where
     split : (b : Bool) → (if b then None else Some (record { items = p.items ++ f ∷ [] })) ≡ Some q → Below (Some p) f q
     split true e = cc
     split false e = record { above = p; is = refl; longer = sym (ap (λ (x : ArrayVec ℕ). x.items) (same_Some (record { items = p.items ++ f ∷ [] }) q e)) }
 
 -- a device with an address, by its path
-record StandsBelow (w : Way) (f : ℕ) (k : Ports) (a : ℕ) (q : ArrayVec ℕ) : Type 0 where
+record StandsBelow (w : HolderWay) (f : ℕ) (k : Ports) (a : ℕ) (q : ArrayVec ℕ) : Type 0 where
   above : ArrayVec ℕ
   is : w ≡ Some above
   among : HolderAmong a f k above.items q.items
 
-later : (w : Way) (f : ℕ) (b : PortState) (k : Ports) (a : ℕ) (q : ArrayVec ℕ) → StandsBelow w (f + 1) k a q → StandsBelow w f (vacant b k) a q
+later : (w : HolderWay) (f : ℕ) (b : PortState) (k : Ports) (a : ℕ) (q : ArrayVec ℕ) → StandsBelow w (f + 1) k a q → StandsBelow w f (vacant b k) a q
 later w f b k a q h = record { above = h.above; is = h.is; among = holder_later a f (empty b) k h.above.items q.items h.among }
 
-later_taken : (w : Way) (f : ℕ) (b : PortState) (s : State) (below k : Ports) (a : ℕ) (q : ArrayVec ℕ) → StandsBelow w (f + 1) k a q → StandsBelow w f (taken b s below k) a q
+later_taken : (w : HolderWay) (f : ℕ) (b : PortState) (s : State) (below k : Ports) (a : ℕ) (q : ArrayVec ℕ) → StandsBelow w (f + 1) k a q → StandsBelow w f (taken b s below k) a q
 later_taken w f b s below k a q h = record { above = h.above; is = h.is; among = holder_later a f (full b s below) k h.above.items q.items h.among }
 
-same_number : (n : ℕ) → (n == n) ≡ true
-same_number n = grind (arith, nat_tests)
-
-here : (w : Way) (f : ℕ) (b : PortState) (s : State) (below k : Ports) (a : ℕ) (q : ArrayVec ℕ) → b.enable ≡ true → a ≡ s.registers.address → path_below w f ≡ Some q → StandsBelow w f (taken b s below k) a q
+stands_below-here : (w : HolderWay) (f : ℕ) (b : PortState) (s : State) (below k : Ports) (a : ℕ) (q : ArrayVec ℕ) → b.enable ≡ true → a ≡ s.registers.address → path_below w f ≡ Some q → StandsBelow w f (taken b s below k) a q
 unfolding reach_at state_at
-here w f b s below k a q on e is =
-    let x : Below w f q = below_of w f q is in
+stands_below-here w f b s below k a q on e is =
+    let x : Below w f q = path_below-found w f q is in
     record {
       above = x.above;
       is = x.is;
@@ -91,10 +89,10 @@ here w f b s below k a q on e is =
       };
     }
 
-deeper : (w : Way) (f : ℕ) (b : PortState) (s : State) (below k : Ports) (a : ℕ) (q : ArrayVec ℕ) → b.enable ≡ true → StandsBelow (path_below w f) 1 below a q → StandsBelow w f (taken b s below k) a q
+deeper : (w : HolderWay) (f : ℕ) (b : PortState) (s : State) (below k : Ports) (a : ℕ) (q : ArrayVec ℕ) → b.enable ≡ true → StandsBelow (path_below w f) 1 below a q → StandsBelow w f (taken b s below k) a q
 unfolding reach_at state_at
 deeper w f b s below k a q on h =
-    let x : Below w f h.above = below_of w f h.above h.is in
+    let x : Below w f h.above = path_below-found w f h.above h.is in
     let y : _ = h.among in
     record {
       above = x.above;
@@ -107,7 +105,7 @@ deeper w f b s below k a q on h =
       };
     }
 
-stands_below : (w : Way) (f : ℕ) (k : Ports) (a : ℕ) (q : ArrayVec ℕ) → In (a, Some q) (reached w f k) → StandsBelow w f k a q
+stands_below : (w : HolderWay) (f : ℕ) (k : Ports) (a : ℕ) (q : ArrayVec ℕ) → In (a, Some q) (reached w f k) → StandsBelow w f k a q
 unfolding reached
 stands_below w f ended a q h = absurd h
 stands_below w f (vacant b k) a q h = later w f b k a q (stands_below w (f + 1) k a q h)
@@ -123,7 +121,7 @@ stands_below w f (taken b s below k) a q h = split b.enable refl h (stands_below
 
     first : b.enable ≡ true → In (a, Some q) ((s.registers.address, path_below w f) ∷ (reached (path_below w f) 1 below ++ reached w (f + 1) k))
         → (In (a, Some q) (reached (path_below w f) 1 below) → StandsBelow (path_below w f) 1 below a q) → (In (a, Some q) (reached w (f + 1) k) → StandsBelow w (f + 1) k a q) → StandsBelow w f (taken b s below k) a q
-    first on (inl e) below_is ih = here w f b s below k a q on (ap (λ (x : ℕ × Way). x.0) e) (sym (ap (λ (x : ℕ × Way). x.1) e))
+    first on (inl e) below_is ih = stands_below-here w f b s below k a q on (ap (λ (x : ℕ × HolderWay). x.0) e) (sym (ap (λ (x : ℕ × HolderWay). x.1) e))
     first on (inr h) below_is ih = behind on (in_append (a, Some q) (reached (path_below w f) 1 below) (reached w (f + 1) k) h) below_is ih
 
     split : (e : Bool) → b.enable ≡ e → In (a, Some q) (if e then (s.registers.address, path_below w f) ∷ (reached (path_below w f) 1 below ++ reached w (f + 1) k) else reached w (f + 1) k)
@@ -133,23 +131,23 @@ stands_below w f (taken b s below k) a q h = split b.enable refl h (stands_below
 
 -- ---- the one at an address
 
-is_number : (m n : ℕ) → (m == n) ≡ true → n ≡ m
-is_number m n h = grind (arith, nat_tests, h)
+pub nat_eq-true_sym : (m n : ℕ) → (m == n) ≡ true → n ≡ m
+nat_eq-true_sym m n h = grind (arith, nat_tests, h)
 
-found_in : (n : ℕ) (w : Way) (ws : List Way) (xs : List (ℕ × Way)) → paths_at n xs ≡ w ∷ ws → In (n, w) xs
-found_in n w ws [] e = cc
-found_in n w ws (x ∷ xs) e = split (x.0 == n) refl (found_in n w ws xs) e
+paths_at-in : (n : ℕ) (w : HolderWay) (ws : List HolderWay) (xs : List (ℕ × HolderWay)) → paths_at n xs ≡ w ∷ ws → In (n, w) xs
+paths_at-in n w ws [] e = cc
+paths_at-in n w ws (x ∷ xs) e = split (x.0 == n) refl (paths_at-in n w ws xs) e
   where
     split : (b : Bool) → (x.0 == n) ≡ b → (paths_at n xs ≡ w ∷ ws → In (n, w) xs) → (if b then x.1 ∷ paths_at n xs else paths_at n xs) ≡ w ∷ ws → ((n, w) ≡ x) ⊎ In (n, w) xs
-    split true is behind e = let f : x.1 ≡ w = cc e in inl (ap₂ (λ m v. (m, v)) (is_number x.0 n is) (sym f))
+    split true is behind e = let f : x.1 ≡ w = cc e in inl (ap₂ (λ m v. (m, v)) (nat_eq-true_sym x.0 n is) (sym f))
     split false is behind e = inr (behind e)
 
-one_path : (ws : List Way) (p : ArrayVec ℕ) → holder_among ws ≡ One p → ws ≡ Some p ∷ []
-one_path [] p e = cc
-one_path (None ∷ []) p e = cc
-one_path (Some q ∷ []) p e = let f : q ≡ p = cc e in ap (λ x. Some x ∷ []) f
-one_path (None ∷ v ∷ ws) p e = cc
-one_path (Some q ∷ v ∷ ws) p e = cc
+holder_among-one : (ws : List HolderWay) (p : ArrayVec ℕ) → holder_among ws ≡ One p → ws ≡ Some p ∷ []
+holder_among-one [] p e = cc
+holder_among-one (None ∷ []) p e = cc
+holder_among-one (Some q ∷ []) p e = let f : q ≡ p = cc e in ap (λ x. Some x ∷ []) f
+holder_among-one (None ∷ v ∷ ws) p e = cc
+holder_among-one (Some q ∷ v ∷ ws) p e = cc
 
 held_by_path : (n : ℕ) (k : Ports) (p : List ℕ) → HolderAmong n 1 k [] p → is_held_at n k p ≡ true
 held_by_path n k [] h = cc h.joined
@@ -162,5 +160,5 @@ held_by_path n k (suc j ∷ p) h =
 
 pub one_is_held : (n : ℕ) (k : Ports) (p : ArrayVec ℕ) → holder_of n k ≡ One p → is_held_at n k p.items ≡ true
 one_is_held n k p e =
-    let x : StandsBelow (Some (record { items = [] })) 1 k n p = stands_below (Some (record { items = [] })) 1 k n p (found_in n (Some p) [] (all_reached k) (one_path (paths_at n (all_reached k)) p e)) in
+    let x : StandsBelow (Some (record { items = [] })) 1 k n p = stands_below (Some (record { items = [] })) 1 k n p (paths_at-in n (Some p) [] (all_reached k) (holder_among-one (paths_at n (all_reached k)) p e)) in
     held_by_path n k p.items (subst (λ (v : ArrayVec ℕ). HolderAmong n 1 k v.items p.items) (sym (same_Some (record { items = [] }) x.above x.is)) x.among)

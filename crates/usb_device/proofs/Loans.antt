@@ -27,11 +27,11 @@ written (q ∷ ps) zero p w h e = ap (λ (x : Kept). before (standing x.port w) 
 written (q ∷ ps) (suc i) p w h e =
     ap (before (stood q)) (written ps i p w (omega (arith, h)) e) ∙ sym (changed_at-tail (holding w) (stood q) (ports_kept ps) i [])
 
-pub read : (ps : List Kept) (i : ℕ) (p : Kept) → i < length ps → p ≡ slice_index_or ps i p → p.device ≡ plugged_at (ports_kept ps) i []
-read [] i p h e = absurd (omega (arith, h))
-read (q ∷ ps) zero p h e =
+pub loan_read : (ps : List Kept) (i : ℕ) (p : Kept) → i < length ps → p ≡ slice_index_or ps i p → p.device ≡ plugged_at (ports_kept ps) i []
+loan_read [] i p h e = absurd (omega (arith, h))
+loan_read (q ∷ ps) zero p h e =
     ap (λ (x : Kept). x.device) e ∙ sym (device-standing q.port q.device) ∙ sym (plugged_at-head (stood q) (ports_kept ps) [])
-read (q ∷ ps) (suc i) p h e = read ps i p (omega (arith, h)) e ∙ sym (plugged_at-tail (stood q) (ports_kept ps) i [])
+loan_read (q ∷ ps) (suc i) p h e = loan_read ps i p (omega (arith, h)) e ∙ sym (plugged_at-tail (stood q) (ports_kept ps) i [])
 
 -- where a device is, a port is
 plugged_at-within : (k : Ports) (i : ℕ) → IsSome (plugged_at k i []) → i < length (row_of k)

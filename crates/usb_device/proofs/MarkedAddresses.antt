@@ -5,7 +5,7 @@ use Rattle.usb_port.specs.PortState.{PortState}
 use Rattle.usb_device.specs.declared.ports.Place.{Place as Kept}
 use Rattle.usb_device.specs.Tree.{Ports, Plugged, before}
 use Rattle.usb_device.specs.Places.{standing, ports_kept}
-use Rattle.usb_device.specs.Delivery.{held, held_in, has, is_twice}
+use Rattle.usb_device.specs.Delivery.{held_addresses, held_in, has, repeats}
 use Rattle.usb_device.specs.Holders.{AreBytes}
 
 -- ---- marks along a list
@@ -21,25 +21,25 @@ length-set (x ∷ m) (suc i) b = ap suc (length-set m i b)
 
 -- ---- the addresses of a row of ports that begins with a place
 
-by_enable : (x : ℕ) (a k : List ℕ) (e : Bool) → (if e then x ∷ (a ++ k) else k) ≡ (if e then x ∷ a else []) ++ k
-by_enable x a k true = refl
-by_enable x a k false = refl
+address_if_enabled : (x : ℕ) (a k : List ℕ) (e : Bool) → (if e then x ∷ (a ++ k) else k) ≡ (if e then x ∷ a else []) ++ k
+address_if_enabled x a k true = refl
+address_if_enabled x a k false = refl
 
 pub held-before : (b : PortState) (d : Option Plugged) (k : Ports)
-    → held (before (standing b d) k) ≡ held_in b d ++ held k
-unfolding held
+    → held_addresses (before (standing b d) k) ≡ held_in b d ++ held_addresses k
+unfolding held_addresses
 held-before b None k = refl
-held-before b (Some t) k = by_enable t.own.registers.address (held t.ports) (held k) b.enable
+held-before b (Some t) k = address_if_enabled t.own.registers.address (held_addresses t.ports) (held_addresses k) b.enable
 
 all_append : (xs ys : List ℕ) → AreBytes xs → AreBytes ys → AreBytes (xs ++ ys)
 all_append [] ys h g = g
 all_append (x ∷ xs) ys h g = (h.0, all_append xs ys h.1 g)
 
-pub bytes-before : (b : PortState) (d : Option Plugged) (k : Ports) → AreBytes (held_in b d) → AreBytes (held k) → AreBytes (held (before (standing b d) k))
-bytes-before b d k h g = rw (held-before b d k) (all_append (held_in b d) (held k) h g)
+pub bytes-before : (b : PortState) (d : Option Plugged) (k : Ports) → AreBytes (held_in b d) → AreBytes (held_addresses k) → AreBytes (held_addresses (before (standing b d) k))
+bytes-before b d k h g = rw (held-before b d k) (all_append (held_in b d) (held_addresses k) h g)
 
-pub bytes-none : (ps : List Kept) → length ps ≡ 0 → AreBytes (held (ports_kept ps))
-unfolding held
+pub bytes-none : (ps : List Kept) → length ps ≡ 0 → AreBytes (held_addresses (ports_kept ps))
+unfolding held_addresses
 bytes-none [] h = tt
 bytes-none (p ∷ ps) h = absurd (omega (arith, h))
 
@@ -70,11 +70,11 @@ first_behind false true false true e = refl
 first_behind false true false false e = refl
 first_behind false false c d e = refl
 
-pub neither : (a b : Bool) → (a || b) ≡ false → (a ≡ false) × (b ≡ false)
-neither true b h = cc
-neither false b h = (refl, h)
+pub or-false : (a b : Bool) → (a || b) ≡ false → (a ≡ false) × (b ≡ false)
+or-false true b h = cc
+or-false false b h = (refl, h)
 
-same_numbers : (m n : ℕ) → (m == n) ≡ true → m ≡ n
+pub same_numbers : (m n : ℕ) → (m == n) ≡ true → m ≡ n
 same_numbers m n e = grind (arith, nat_tests, e)
 
 -- some number stands in both lists
@@ -82,8 +82,8 @@ abbrev pub share : List ℕ → List ℕ → Bool
 share [] ys = false
 share (x ∷ xs) ys = has x ys || share xs ys
 
-turned : (x y : ℕ) → (x == y) ≡ (y == x)
-turned x y = grind (arith, nat_tests)
+pub nat_eq-sym : (x y : ℕ) → (x == y) ≡ (y == x)
+nat_eq-sym x y = grind (arith, nat_tests)
 
 shuffle : (a b c d : Bool) → ((a || b) || (c || d)) ≡ ((a || c) || (b || d))
 shuffle true b c d = refl
@@ -96,7 +96,7 @@ share-more : (xs ys : List ℕ) (x : ℕ) → share xs (x ∷ ys) ≡ (has x xs 
 share-more [] ys x = refl
 share-more (z ∷ zs) ys x =
     ap (λ b. ((z == x) || has z ys) || b) (share-more zs ys x) ∙ shuffle (z == x) (has z ys) (has x zs) (share zs ys)
-    ∙ ap (λ b. (b || has x zs) || (has z ys || share zs ys)) (turned z x)
+    ∙ ap (λ b. (b || has x zs) || (has z ys || share zs ys)) (nat_eq-sym z x)
 
 rest_of_it : (h s t u : Bool) → (h || ((t || s) || u)) ≡ ((h || s) || (t || u))
 rest_of_it true s t u = refl
@@ -117,30 +117,30 @@ abbrev pub Marks : List Bool → List ℕ → Type 0
 Marks m ys = (n : ℕ) → n < 256 → slice_index_or m n false ≡ has n ys
 
 pub meets-is : (xs ys : List ℕ) (m : List Bool) → length m ≡ 256 → AreBytes xs → Marks m ys
-    → meets xs m ≡ (share xs ys || is_twice xs)
-unfolding is_twice
+    → meets xs m ≡ (share xs ys || repeats xs)
+unfolding repeats
 meets-is [] ys m len small marks = refl
 meets-is (x ∷ xs) ys m len small marks =
     let within : x < length m = omega (arith, small.0, len) in
     ap (λ b. slice_index_or m x false || b)
     (meets-is xs (x ∷ ys) (slice_set m x true) (length-set m x true ∙ len) small.1
     (λ n below. index-set m x n within ∙ ap (λ b. (n == x) || b) (marks n below)))
-    ∙ ap (λ b. b || (share xs (x ∷ ys) || is_twice xs)) (marks x small.0)
-    ∙ ap (λ b. has x ys || (b || is_twice xs)) (share-more xs ys x)
-    ∙ rest_of_it (has x ys) (share xs ys) (has x xs) (is_twice xs)
+    ∙ ap (λ b. b || (share xs (x ∷ ys) || repeats xs)) (marks x small.0)
+    ∙ ap (λ b. has x ys || (b || repeats xs)) (share-more xs ys x)
+    ∙ rest_of_it (has x ys) (share xs ys) (has x xs) (repeats xs)
 
 share-none : (xs : List ℕ) → share xs [] ≡ false
 share-none [] = refl
 share-none (x ∷ xs) = share-none xs
 
 -- where no mark is set
-pub met_none_of : (xs : List ℕ) (m : List Bool) → length m ≡ 256 → AreBytes xs → ((n : ℕ) → slice_index_or m n false ≡ false) → meets xs m ≡ is_twice xs
+pub met_none_of : (xs : List ℕ) (m : List Bool) → length m ≡ 256 → AreBytes xs → ((n : ℕ) → slice_index_or m n false ≡ false) → meets xs m ≡ repeats xs
 met_none_of xs m len small none =
-    meets-is xs [] m len small (λ n below. none n) ∙ ap (λ b. b || is_twice xs) (share-none xs)
+    meets-is xs [] m len small (λ n below. none n) ∙ ap (λ b. b || repeats xs) (share-none xs)
 
 -- ---- a list with another one in its middle
 
-has-append : (n : ℕ) (xs ys : List ℕ) → has n (xs ++ ys) ≡ (has n xs || has n ys)
+pub has-append : (n : ℕ) (xs ys : List ℕ) → has n (xs ++ ys) ≡ (has n xs || has n ys)
 has-append n [] ys = refl
 has-append n (x ∷ xs) ys =
     ap (λ b. (n == x) || b) (has-append n xs ys) ∙ sym (or_assoc (n == x) (has n xs) (has n ys))
@@ -153,32 +153,32 @@ has-middle n (x ∷ xs) ys zs =
     ∙ second_first (n == x) (has n ys) (has n (xs ++ zs))
 
 twice-append : (xs ys : List ℕ)
-    → is_twice (xs ++ ys) ≡ (share xs ys || (is_twice xs || is_twice ys))
-unfolding is_twice
+    → repeats (xs ++ ys) ≡ (share xs ys || (repeats xs || repeats ys))
+unfolding repeats
 twice-append [] ys = refl
 twice-append (x ∷ xs) ys =
     ap₂ (λ b c. b || c) (has-append x xs ys) (twice-append xs ys)
-    ∙ first_and_rest (has x xs) (has x ys) (share xs ys) (is_twice xs) (is_twice ys)
+    ∙ first_and_rest (has x xs) (has x ys) (share xs ys) (repeats xs) (repeats ys)
 
 pub twice-middle : (xs ys zs : List ℕ)
-    → is_twice (xs ++ (ys ++ zs)) ≡ (share ys (xs ++ zs) || (is_twice ys || is_twice (xs ++ zs)))
-unfolding is_twice
+    → repeats (xs ++ (ys ++ zs)) ≡ (share ys (xs ++ zs) || (repeats ys || repeats (xs ++ zs)))
+unfolding repeats
 twice-middle [] ys zs = twice-append ys zs
 twice-middle (x ∷ xs) ys zs =
     ap₂ (λ b c. b || c) (has-middle x xs ys zs) (twice-middle xs ys zs)
-    ∙ first_behind (has x ys) (has x (xs ++ zs)) (share ys (xs ++ zs)) (is_twice ys)
-    (is_twice (xs ++ zs))
-    ∙ ap (λ b. b || (is_twice ys || (has x (xs ++ zs) || is_twice (xs ++ zs))))
+    ∙ first_behind (has x ys) (has x (xs ++ zs)) (share ys (xs ++ zs)) (repeats ys)
+    (repeats (xs ++ zs))
+    ∙ ap (λ b. b || (repeats ys || (has x (xs ++ zs) || repeats (xs ++ zs))))
     (sym (share-more ys (xs ++ zs) x))
 
 -- a number of a list that shares none with another one is not in that one
 pub unshared : (n : ℕ) (xs ys : List ℕ) → share xs ys ≡ false → has n xs ≡ true → has n ys ≡ false
 unshared n [] ys e h = cc
 unshared n (x ∷ xs) ys e h =
-    split (n == x) refl (unshared n xs ys (neither (has x ys) (share xs ys) e).1) h
+    split (n == x) refl (unshared n xs ys (or-false (has x ys) (share xs ys) e).1) h
   where
     split : (b : Bool) → (n == x) ≡ b → (has n xs ≡ true → has n ys ≡ false)
         → (b || has n xs) ≡ true → has n ys ≡ false
     split true is behind h =
-        ap (λ m. has m ys) (same_numbers n x is) ∙ (neither (has x ys) (share xs ys) e).0
+        ap (λ m. has m ys) (same_numbers n x is) ∙ (or-false (has x ys) (share xs ys) e).0
     split false is behind h = behind h

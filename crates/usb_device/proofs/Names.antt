@@ -8,7 +8,7 @@ use Rattle.std.specs.Bool.{one_answer}
 use Rattle.std.specs.Str.{bytes_eq}
 use Rattle.usb_device.specs.Spec.{Spec, is_named, names_differ}
 
-bytes_eq-sym : (xs ys : List ℕ) → bytes_eq xs ys ≡ false → bytes_eq ys xs ≡ false
+pub bytes_eq-sym : (xs ys : List ℕ) → bytes_eq xs ys ≡ false → bytes_eq ys xs ≡ false
 bytes_eq-sym xs ys h =
     let there = bytes_eq-Decides xs ys in
     one_answer (bytes_eq ys xs) (bytes_eq xs ys) (bytes_eq-Decides ys xs) ((λ e. sym (there.0 e)), (λ e. there.1 (sym e))) ∙ h

@@ -88,12 +88,12 @@ reach_at-index (q ∷ ps) zero p x h e =
 reach_at-index (q ∷ ps) (suc i) p x h e =
     reach_at-tail (stood q) (ports_kept ps) i p ∙ reach_at-index ps i p x (omega (arith, h)) e
 
-abbrev no_device : Option Plugged
-no_device = None
+abbrev vacant_place : Option Plugged
+vacant_place = None
 
-none_if : (b : Bool) → (if b then no_device else no_device) ≡ no_device
-none_if true = refl
-none_if false = refl
+if_vacant : (b : Bool) → (if b then vacant_place else vacant_place) ≡ vacant_place
+if_vacant true = refl
+if_vacant false = refl
 
 pub reached-number : (ps : List Kept) (n : ℕ) (p : List ℕ) (x : Kept) → (n ≡ 0 → ⊥) → n ≤ length ps
     → x ≡ slice_index_or ps (n - 1) x
@@ -108,7 +108,7 @@ pub reached-beyond : (ps : List Kept) (n : ℕ) (p : List ℕ) → (n ≡ 0 → 
     → reached_there (ports_kept ps) (n ∷ p) ≡ None
 reached-beyond ps n p pos h =
     ap (λ t. if reach (ports_kept ps) (n ∷ p) then t else None) (device-beyond ps n p pos h)
-    ∙ none_if (reach (ports_kept ps) (n ∷ p))
+    ∙ if_vacant (reach (ports_kept ps) (n ∷ p))
 
 pub ruleset routing = (both-none, changed-number, changed-beyond, device-number, device-beyond)
 

@@ -13,8 +13,8 @@ covered-by : (q r max wanted len k P Q : ℕ) → Q + r ≡ len → r < max → 
 covered-by q r max wanted len k P Q sum small one two true e h = let parts = and_parts (r == 0) (not (nat_lt len wanted)) e in grind (arith, nat_tests, sum, parts.0, one, h)
 covered-by q r max wanted len k P Q sum small one two false e h = grind (arith, nat_tests, sum, small, two, h)
 
-pub covered : (max wanted len k : ℕ) → 0 < max → nat_lt k (packet_count max wanted len) ≡ false → len ≤ k * max
-covered max wanted len k pos h =
+pub packet_count-covers : (max wanted len k : ℕ) → 0 < max → nat_lt k (packet_count max wanted len) ≡ false → len ≤ k * max
+packet_count-covers max wanted len k pos h =
     covered-by (len / max) (len % max) max wanted len k (k * max) (len / max * max) (div-add-mod' len max) (mod-lt len pos) (λ le. mul-le-mul_right max le) (λ le. let m = mul-le-mul_right max le in omega (arith, m)) (len % max == 0 && not (nat_lt len wanted)) refl h
 
 -- ---- a packet that there is, and one that there is not
@@ -49,7 +49,7 @@ packets_joined-step : (max wanted k : ℕ) (w : List ℕ) → 0 < max → (c : B
     → take (k * max) w ++ unwrap_or (if c then Some (take max (drop (k * max) w)) else None) [] ≡ take (suc k * max) w
 packets_joined-step max wanted k w pos true h = sym (take-add (k * max) max w) ∙ ap (λ n. take n w) (sym (suc-mul k max))
 packets_joined-step max wanted k w pos false h =
-    let all = covered max wanted (length w) k pos h in
+    let all = packet_count-covers max wanted (length w) k pos h in
     rw (append-nil, take_all (k * max) w all, take_all (suc k * max) w (omega (arith, all, suc-mul k max))) refl
 
 pub packets_joined-is : (max wanted : ℕ) (answer : List ℕ) (k : ℕ) → 0 < max → packets_joined max wanted answer k ≡ take (k * max) (take wanted answer)
@@ -62,7 +62,7 @@ pub packets_joined-whole : (max wanted : ℕ) (answer : List ℕ) (k : ℕ) → 
 packets_joined-whole max wanted answer k pos h =
     let w = take wanted answer in
     let over = none-parts (nat_lt k (packet_count max wanted (length w))) (take max (drop (k * max) w)) h in
-    packets_joined-is max wanted answer k pos ∙ take_all (k * max) w (covered max wanted (length w) k pos over)
+    packets_joined-is max wanted answer k pos ∙ take_all (k * max) w (packet_count-covers max wanted (length w) k pos over)
 
 pub packet-fits : (max wanted : ℕ) (answer bytes : List ℕ) (k : ℕ) → packet_at max wanted answer k ≡ Some bytes → length bytes ≤ max
 packet-fits max wanted answer bytes k h =

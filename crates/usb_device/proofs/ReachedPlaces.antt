@@ -14,17 +14,17 @@ use Rattle.usb_device.specs.Holders.{path_below, reached, all_reached, ReachedSa
 use Rattle.usb_device.proofs.FirstPlaces.{changed_at-head, changed_at-tail, changed_at-same, changed_at-twice}
 use Rattle.usb_device.proofs.HolderIndexes.{same_index}
 
-by_enable : (x : ℕ × Option (ArrayVec ℕ)) (a k : List (ℕ × Option (ArrayVec ℕ))) (e : Bool) → (if e then x ∷ (a ++ k) else k) ≡ (if e then x ∷ (a ++ []) else []) ++ k
-by_enable x a k true = ap (λ l. x ∷ (l ++ k)) (sym (append-nil a))
-by_enable x a k false = refl
+place_if_enabled : (x : ℕ × Option (ArrayVec ℕ)) (a k : List (ℕ × Option (ArrayVec ℕ))) (e : Bool) → (if e then x ∷ (a ++ k) else k) ≡ (if e then x ∷ (a ++ []) else []) ++ k
+place_if_enabled x a k true = ap (λ l. x ∷ (l ++ k)) (sym (append-nil a))
+place_if_enabled x a k false = refl
 
 reached-head : (w : Option (ArrayVec ℕ)) (n : ℕ) (q : Place) (k : Ports) → reached w n (before q k) ≡ reached w n (before q ended) ++ reached w (n + 1) k
 unfolding reached
 reached-head w n (empty b) k = refl
-reached-head w n (full b s a) k = by_enable (s.registers.address, path_below w n) (reached (path_below w n) 1 a) (reached w (n + 1) k) b.enable
+reached-head w n (full b s a) k = place_if_enabled (s.registers.address, path_below w n) (reached (path_below w n) 1 a) (reached w (n + 1) k) b.enable
 
-same_head : (w : Option (ArrayVec ℕ)) (n : ℕ) (q r : Place) (k : Ports) → ReachedSame q r → reached w n (before q k) ≡ reached w n (before r k)
-same_head w n q r k h = reached-head w n q k ∙ ap (λ l. l ++ reached w (n + 1) k) (h w n) ∙ sym (reached-head w n r k)
+reached-same_head : (w : Option (ArrayVec ℕ)) (n : ℕ) (q r : Place) (k : Ports) → ReachedSame q r → reached w n (before q k) ≡ reached w n (before r k)
+reached-same_head w n q r k h = reached-head w n q k ∙ ap (λ l. l ++ reached w (n + 1) k) (h w n) ∙ sym (reached-head w n r k)
 
 -- two changes of one place
 pub reached-both : (f g : Place → Place) (w : Option (ArrayVec ℕ)) (n : ℕ) (k : Ports) (j : ℕ)
@@ -34,11 +34,11 @@ pub reached-both : (f g : Place → Place) (w : Option (ArrayVec ℕ)) (n : ℕ)
 unfolding reached place_at changed_at
 reached-both f g w n ended j p h = refl
 reached-both f g w n (vacant b k) zero [] h =
-    same_head w n (f (empty b)) (g (empty b)) k (h (empty b) refl)
+    reached-same_head w n (f (empty b)) (g (empty b)) k (h (empty b) refl)
 reached-both f g w n (vacant b k) zero (m ∷ p) h = refl
 reached-both f g w n (vacant b k) (suc j) p h = reached-both f g w (n + 1) k j p h
 reached-both f g w n (taken b s a k) zero [] h =
-    same_head w n (f (full b s a)) (g (full b s a)) k (h (full b s a) refl)
+    reached-same_head w n (f (full b s a)) (g (full b s a)) k (h (full b s a) refl)
 reached-both f g w n (taken b s a k) zero (zero ∷ p) h = refl
 reached-both f g w n (taken b s a k) zero (suc j ∷ p) h =
     ap (λ y. if b.enable then (s.registers.address, path_below w n) ∷ (y ++ reached w (n + 1) k)
@@ -57,7 +57,7 @@ reached-changed f w n k j p h =
 
 -- ---- calls at ports that leave each port enabled or not, and reset none
 
-power_enable : (b : PortState) → (powered_on b).enable ≡ b.enable
+pub power_enable : (b : PortState) → (powered_on b).enable ≡ b.enable
 power_enable b = split b.power
   where
     split : (x : Bool) → (if x then b else record b { power = true; connection_changed = is_attached b.attached || b.connection_changed }).enable ≡ b.enable
@@ -112,7 +112,7 @@ other_at f w n q k (suc i) zero (inr same) behind =
     ap (reached w n)
     (ap (λ x. changed_at (put None) x (suc i) []) (changed_at-head f q k [])
     ∙ changed_at-tail (put None) (f q) k i [])
-    ∙ same_head w n (f q) q (changed_at (put None) k i []) (same q)
+    ∙ reached-same_head w n (f q) q (changed_at (put None) k i []) (same q)
     ∙ sym (ap (reached w n) (changed_at-tail (put None) q k i []))
 other_at f w n q k (suc i) (suc j) h behind =
     ap (reached w n)

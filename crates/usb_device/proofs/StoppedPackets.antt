@@ -7,9 +7,9 @@ use Rattle.usb_device.specs.Tree.{Ports, taken, Plugged, Place, empty, full, bef
 use Rattle.usb_device.specs.Delivery.{after_packet, delivered_place}
 use Rattle.usb_device.specs.StoppedPackets.{Stopped, behind_empty, behind, below, here, StoppedDevice, lower, itself, StoppedPlace, IsRefused}
 
-pub on_err : {T E P : Type 0} (r : Result T E) → P → OnErr r P
-on_err (Ok x) p = tt
-on_err (Err e) p = p
+pub stopped_on_err : {T E P : Type 0} (r : Result T E) → P → OnErr r P
+stopped_on_err (Ok x) p = tt
+stopped_on_err (Err e) p = p
 
 -- the device at the head of the row
 stopped_taken : (q : Sent) (deep : Bool) (b : PortState) (t u : Plugged) (k : Ports) → b.enable ≡ true → StoppedDevice q deep t u → Stopped q deep (taken b t.own t.ports k) (taken b u.own u.ports k)

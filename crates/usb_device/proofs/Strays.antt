@@ -17,8 +17,9 @@ use Rattle.usb_device.specs.declared.delivery.Sent.{Sent}
 use Rattle.usb_device.specs.Rows.{State, Reply, answered, received, unread, forgotten}
 use Rattle.usb_device.specs.Effect.{asks, asked_by_data, asked_by_packet}
 use Rattle.usb_device.specs.Tree.{Ports, ended, vacant, taken, acted, row_of}
-use Rattle.usb_device.specs.Delivery.{hears, reply_to, asked_by, answer_of, effect_of, after_packet, answers, listed, all_forgotten, held, has}
+use Rattle.usb_device.specs.Delivery.{hears, reply_to, asked_by, answer_of, effect_of, after_packet, answers, listed, all_forgotten, held_addresses, has}
 use Rattle.usb_device.specs.StrayPackets.{awaits_data, is_token, is_for, concerns, concerns_some}
+use Rattle.usb_device.proofs.MarkedAddresses.{has-append}
 
 -- ---- at one device
 
@@ -37,18 +38,18 @@ answered-stray d row m packet.Nak h = refl
 answered-stray d row m packet.Stall h = refl
 answered-stray d row m packet.Pre h = refl
 
-abbrev pair : Option Answer → State → Reply
-pair answer s = (answer, s)
+abbrev stray_reply : Option Answer → State → Reply
+stray_reply answer s = (answer, s)
 
 -- nothing is answered, and at most what is remembered changes
-abbrev Forgets : State → Reply → Type 0
-Forgets s r = (r.0 ≡ None) × (forgotten r.1 ≡ forgotten s)
+abbrev OnlyForgets : State → Reply → Type 0
+OnlyForgets s r = (r.0 ≡ None) × (forgotten r.1 ≡ forgotten s)
 
-if-silent : (s : State) (silent : Bool) (r : Reply) → r ≡ pair None (forgotten s) → Forgets s (if silent then pair None s else r)
+if-silent : (s : State) (silent : Bool) (r : Reply) → r ≡ stray_reply None (forgotten s) → OnlyForgets s (if silent then stray_reply None s else r)
 if-silent s true r h = (refl, refl)
 if-silent s false r h = (ap (λ (x : Reply). x.0) h, ap (λ (x : Reply). forgotten x.1) h)
 
-received-stray : (s : State) (row : List PortState) (p : Packet) → is_for s s.memory p ≡ false → Forgets s (received s row p)
+received-stray : (s : State) (row : List PortState) (p : Packet) → is_for s s.memory p ≡ false → OnlyForgets s (received s row p)
 unfolding received
 received-stray s row p h = if-silent s s.spec.silent (answered (forgotten s) row s.memory p) (answered-stray (forgotten s) row s.memory p h)
 
@@ -56,13 +57,13 @@ forgotten-unread : (s : State) → forgotten (unread s) ≡ forgotten s
 unfolding unread
 forgotten-unread s = elim s.spec.silent as (λ b. forgotten (if b then s else forgotten s) ≡ forgotten s) [ true ↦ refl | false ↦ refl ]
 
-reply-stray : (c : Content) (s : State) (row : List PortState) → concerns c s ≡ false → Forgets s (reply_to c s row)
+reply-stray : (c : Content) (s : State) (row : List PortState) → concerns c s ≡ false → OnlyForgets s (reply_to c s row)
 reply-stray (Whole p) s row h = received-stray s row p h
 reply-stray Broken s row h = (refl, forgotten-unread s)
 
 -- the same, exactly
 
-unless_silent : (s : State) (silent : Bool) (r : Reply) → r ≡ pair None (forgotten s) → (if silent then pair None s else r) ≡ pair None (if silent then s else forgotten s)
+unless_silent : (s : State) (silent : Bool) (r : Reply) → r ≡ stray_reply None (forgotten s) → (if silent then stray_reply None s else r) ≡ stray_reply None (if silent then s else forgotten s)
 unless_silent s true r h = refl
 unless_silent s false r h = h
 
@@ -71,11 +72,11 @@ unfolding received unread
 reply-unread (Whole p) s row h = unless_silent s s.spec.silent (answered (forgotten s) row s.memory p) (answered-stray (forgotten s) row s.memory p h)
 reply-unread Broken s row h = refl
 
-if-heard : (s : State) (heard : Bool) (r : Reply) → Forgets s r → Forgets s (if heard then r else pair None s)
+if-heard : (s : State) (heard : Bool) (r : Reply) → OnlyForgets s r → OnlyForgets s (if heard then r else stray_reply None s)
 if-heard s true r h = h
 if-heard s false r h = (refl, refl)
 
-answer-stray : (q : Sent) (deep : Bool) (s : State) (a : Ports) → concerns q.content s ≡ false → Forgets s (answer_of q deep s a)
+answer-stray : (q : Sent) (deep : Bool) (s : State) (a : Ports) → concerns q.content s ≡ false → OnlyForgets s (answer_of q deep s a)
 unfolding answer_of
 answer-stray q deep s a h = if-heard s (hears q deep s) (reply_to q.content s (row_of a)) (reply-stray q.content s (row_of a) h)
 
@@ -161,22 +162,18 @@ pub or-joined : (x y z : Bool) → (x || (y || z)) ≡ ((x || y) || z)
 or-joined true y z = refl
 or-joined false y z = refl
 
-has-append : (a : ℕ) (xs ys : List ℕ) → has a (xs ++ ys) ≡ (has a xs || has a ys)
-has-append a [] ys = refl
-has-append a (x ∷ xs) ys = ap (λ b. a == x || b) (has-append a xs ys) ∙ or-joined (a == x) (has a xs) (has a ys)
-
 token-step : (a n : ℕ) (below further : List ℕ) (x y e : Bool) → x ≡ has a below → y ≡ has a further
     → ((e && (a == n || x)) || y) ≡ has a (if e then n ∷ (below ++ further) else further)
 token-step a n below further x y true h g =
     rw (h, g) (sym (ap (λ b. a == n || b) (has-append a below further) ∙ or-joined (a == n) (has a below) (has a further)))
 token-step a n below further x y false h g = g
 
-pub token-concerns : (kind : TokenKind) (a e : ℕ) (k : Ports) → concerns_some (Whole (Token kind a e)) k ≡ has a (held k)
-unfolding concerns_some held
+pub token-concerns : (kind : TokenKind) (a e : ℕ) (k : Ports) → concerns_some (Whole (Token kind a e)) k ≡ has a (held_addresses k)
+unfolding concerns_some held_addresses
 token-concerns kind a e ended = refl
 token-concerns kind a e (vacant b k) = token-concerns kind a e k
 token-concerns kind a e (taken b s c k) =
-    token-step a s.registers.address (held c) (held k) (concerns_some (Whole (Token kind a e)) c) (concerns_some (Whole (Token kind a e)) k) b.enable (token-concerns kind a e c) (token-concerns kind a e k)
+    token-step a s.registers.address (held_addresses c) (held_addresses k) (concerns_some (Whole (Token kind a e)) c) (concerns_some (Whole (Token kind a e)) k) b.enable (token-concerns kind a e c) (token-concerns kind a e k)
 
 -- ---- bytes that spell no packet; any other packet than a token where nothing is remembered
 

@@ -29,9 +29,9 @@ ack_sent x = record { low = x.low; pre = x.pre; content = Whole packet.Ack }
 
 -- a packet, or none, at a device: what it is then, its answer, what it asks of its ports, and that
 -- it refuses memory for it
-abbrev pub sent_to : Option Sent → Bool → Plugged → Plugged
-sent_to None deep t = t
-sent_to (Some q) deep t = (taken_sent q deep t).1
+abbrev pub after_packet_at : Option Sent → Bool → Plugged → Plugged
+after_packet_at None deep t = t
+after_packet_at (Some q) deep t = (taken_sent q deep t).1
 
 abbrev pub answer_from : Option Sent → Bool → Plugged → Option Answer
 answer_from None deep t = None
@@ -58,7 +58,7 @@ abbrev pub after_token : HostSide → Bool → Plugged → Plugged
 after_token x deep t = (taken_sent (token_sent x) deep t).1
 
 abbrev pub after_data : HostSide → Option Sent → Bool → Plugged → Plugged
-after_data x o deep t = sent_to o deep (after_token x deep t)
+after_data x o deep t = after_packet_at o deep (after_token x deep t)
 
 -- what is heard of both
 unfoldable pub heard_of_both : HostSide → Option Sent → Bool → Plugged → Heard
@@ -71,16 +71,16 @@ heard_pid None = heard.Nothing
 heard_pid (Some pid) = heard.One pid
 
 -- the host takes data of at most `max` bytes
-abbrev pub is_taken : ℕ → Heard → Bool
-is_taken max NoAnswer = false
-is_taken max Collision = false
-is_taken max (One Ack) = false
-is_taken max (One Nak) = false
-is_taken max (One Stall) = false
-is_taken max (One (Data toggle bytes)) = nat_le (length bytes.items) max
+abbrev pub takes_data : ℕ → Heard → Bool
+takes_data max NoAnswer = false
+takes_data max Collision = false
+takes_data max (One Ack) = false
+takes_data max (One Nak) = false
+takes_data max (One Stall) = false
+takes_data max (One (Data toggle bytes)) = nat_le (length bytes.items) max
 
 abbrev pub acknowledges : HostSide → Option Sent → Bool → Plugged → Bool
-acknowledges x o deep t = is_taken x.max (heard_of_both x o deep t)
+acknowledges x o deep t = takes_data x.max (heard_of_both x o deep t)
 
 -- the device after the host's ACK, where it sends one
 unfoldable pub after_reply : HostSide → Option Sent → Bool → Plugged → Plugged

@@ -10,12 +10,12 @@ abbrev pub Room : Type 0
 Room = ArrayVec ℕ
 
 -- the answer: where it is data, the room has its bytes
-abbrev pub answer_of : AnswerPid → Room → Answer
-answer_of Ack room = answer.Ack
-answer_of Nak room = answer.Nak
-answer_of Stall room = answer.Stall
-answer_of (Data t) room = answer.Data t room
+abbrev pub answer_from_pid : AnswerPid → Room → Answer
+answer_from_pid Ack room = answer.Ack
+answer_from_pid Nak room = answer.Nak
+answer_from_pid Stall room = answer.Stall
+answer_from_pid (Data t) room = answer.Data t room
 
 abbrev pub answer_with : Option AnswerPid → Room → Option Answer
 answer_with None room = None
-answer_with (Some pid) room = Some (answer_of pid room)
+answer_with (Some pid) room = Some (answer_from_pid pid room)

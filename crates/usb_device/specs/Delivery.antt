@@ -143,19 +143,19 @@ all_forgotten (vacant b k) = vacant b (all_forgotten k)
 all_forgotten (taken b s a k) = taken b (forgotten s) (all_forgotten a) (all_forgotten k)
 
 -- the addresses of the devices that packets reach
-unfoldable pub held : Ports → List ℕ
-held ended = []
-held (vacant b k) = held k
-held (taken b s a k) = if b.enable then s.registers.address ∷ (held a ++ held k) else held k
+unfoldable pub held_addresses : Ports → List ℕ
+held_addresses ended = []
+held_addresses (vacant b k) = held_addresses k
+held_addresses (taken b s a k) = if b.enable then s.registers.address ∷ (held_addresses a ++ held_addresses k) else held_addresses k
 
 abbrev pub has : ℕ → List ℕ → Bool
 has a [] = false
 has a (x ∷ xs) = a == x || has a xs
 
 -- one of these stands twice
-unfoldable pub is_twice : List ℕ → Bool
-is_twice [] = false
-is_twice (x ∷ xs) = has x xs || is_twice xs
+unfoldable pub repeats : List ℕ → Bool
+repeats [] = false
+repeats (x ∷ xs) = has x xs || repeats xs
 
 -- some device awaits the ACK that would end its SET_ADDRESS
 unfoldable pub has_loss : Ports → Bool
@@ -175,7 +175,7 @@ has_loss_in (Some t) = awaits_address t.own || has_loss t.ports
 -- the addresses on a port and below it
 abbrev pub held_in : PortState → Option Plugged → List ℕ
 held_in b None = []
-held_in b (Some t) = if b.enable then t.own.registers.address ∷ held t.ports else []
+held_in b (Some t) = if b.enable then t.own.registers.address ∷ held_addresses t.ports else []
 
 -- which devices stand where: a mark for each port and for each end of a row
 unfoldable pub figure : Ports → List (Option (Option Spec))

@@ -4,7 +4,7 @@ use Rattle.usb_device.specs.declared.holders.Holder.{Holder}
 use Rattle.usb_device.specs.declared.holders.Holder.TheVariants.{Nobody}
 use Rattle.usb_device.specs.declared.holders.Holders.{Holders}
 use Rattle.usb_device.specs.Tree.{Ports, changed, put}
-use Rattle.usb_device.specs.Delivery.{held, is_twice}
+use Rattle.usb_device.specs.Delivery.{held_addresses, repeats}
 use Rattle.usb_device.specs.Holders.{IsIndex}
 
 -- who holds an address, as the index has it
@@ -13,7 +13,7 @@ holder_in h n = slice_index_or h.holders.items n Nobody
 
 -- it has of each address who holds it in the tree, and whether some address is held twice
 abbrev pub IsIndexOf : Holders → Ports → Type 0
-IsIndexOf h k = IsIndex h.holders.items k × (h.shared ≡ is_twice (held k))
+IsIndexOf h k = IsIndex h.holders.items k × (h.shared ≡ repeats (held_addresses k))
 
 -- it is the index of a tree as it were with nothing at a path
 abbrev pub IsIndexWithout : Holders → Ports → List ℕ → Type 0

@@ -9,7 +9,7 @@ use Rattle.usb_port.specs.declared.call.PortCall.TheVariants.{SetPower, SetReset
 use Rattle.usb_device.specs.declared.effect.Effect.{Effect}
 use Rattle.usb_device.specs.declared.effect.Effect.TheVariants.{Leaves, Calls, PortsOff}
 use Rattle.usb_device.specs.Tree.{Ports, ended, vacant, taken, Plugged, Place, empty, full, before, reach, plugged_in, device_there}
-use Rattle.usb_device.specs.Delivery.{held}
+use Rattle.usb_device.specs.Delivery.{held_addresses}
 
 -- the path of a port on a row below another path, where it is at most eight numbers long
 abbrev pub path_below : Option (ArrayVec ℕ) → ℕ → Option (ArrayVec ℕ)
@@ -116,26 +116,26 @@ is_known Nobody = false
 is_known (One p) = true
 is_known Several = true
 
-abbrev pub joined : Holder → Option (ArrayVec ℕ) → Holder
-joined Nobody None = Several
-joined Nobody (Some p) = One p
-joined (One p) q = Several
-joined Several q = Several
+abbrev pub joined_holder : Holder → Option (ArrayVec ℕ) → Holder
+joined_holder Nobody None = Several
+joined_holder Nobody (Some p) = One p
+joined_holder (One p) q = Several
+joined_holder Several q = Several
 
 abbrev pub noted : List (ℕ × Option (ArrayVec ℕ)) → List Holder → List Holder
 noted [] holders = holders
-noted (x ∷ xs) holders = noted xs (slice_set holders x.0 (joined (slice_index_or holders x.0 Nobody) x.1))
+noted (x ∷ xs) holders = noted xs (slice_set holders x.0 (joined_holder (slice_index_or holders x.0 Nobody) x.1))
 
 -- some address is met twice
 abbrev pub meets_again : List (ℕ × Option (ArrayVec ℕ)) → List Holder → Bool
 meets_again [] holders = false
-meets_again (x ∷ xs) holders = is_known (slice_index_or holders x.0 Nobody) || meets_again xs (slice_set holders x.0 (joined (slice_index_or holders x.0 Nobody) x.1))
+meets_again (x ∷ xs) holders = is_known (slice_index_or holders x.0 Nobody) || meets_again xs (slice_set holders x.0 (joined_holder (slice_index_or holders x.0 Nobody) x.1))
 
 -- How those at a path and below it are taken out of an index: nobody holds their addresses any
 -- more.
 
 abbrev pub held_whole : Plugged → List ℕ
-held_whole t = t.own.registers.address ∷ held t.ports
+held_whole t = t.own.registers.address ∷ held_addresses t.ports
 
 abbrev pub held_from : Option Plugged → List ℕ
 held_from None = []

@@ -210,20 +210,20 @@ reach k (suc i ∷ p) = reach_at k i p
 
 -- Where something stands in a tree: the number of its port on the root row, counted from 0, and the rest of its path, on each device on
 -- the way the number of a port, counted from 1.
-pub record Spot : Type 0 where
+pub record Location : Type 0 where
   pub row : ℕ
   pub rest : List ℕ
 
 -- the path that leads there
-abbrev pub path_to : Spot → List ℕ
+abbrev pub path_to : Location → List ℕ
 path_to x = suc x.row ∷ x.rest
 
 -- what is there
-abbrev pub place_on : Ports → Spot → Option Place
+abbrev pub place_on : Ports → Location → Option Place
 place_on k x = place_at k x.row x.rest
 
-abbrev pub state_on : Ports → Spot → Option State
+abbrev pub state_on : Ports → Location → Option State
 state_on k x = state_at k x.row x.rest
 
-abbrev pub reach_on : Ports → Spot → Bool
+abbrev pub reach_on : Ports → Location → Bool
 reach_on k x = reach_at k x.row x.rest

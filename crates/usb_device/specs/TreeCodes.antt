@@ -4,7 +4,7 @@ use Rattle.std.proofs.Common.{ap, ◌∙◌}
 use Rattle.std.specs.Coded.{Coded, code_by, coded×, coded_list, coded_option}
 use Rattle.usb_port.specs.PortState.{PortState}
 use Rattle.usb_port.specs.contracts.port.Port.{the_row as port_row}
-use Rattle.usb_device.specs.contracts.own.Own.{the_row as own_row}
+use Rattle.usb_device.specs.contracts.own.FunctionState.{the_row as own_row}
 use Rattle.usb_device.specs.Rows.{State}
 use Rattle.usb_device.specs.Tree.{Ports, ended, vacant, taken, Plugged}
 

@@ -4,7 +4,7 @@ ghost use Rattle.usb_device.specs.Tree.{changed, changed_in, device_there, plugg
 ghost use Rattle.usb_device.specs.Places.{stood};
 ghost use Rattle.usb_device.specs.Delivery.{is_heard, both, heard_from, taken_sent};
 ghost use Rattle.usb_device.specs.declared.delivery.Heard.TheVariants.{NoAnswer};
-ghost use Rattle.usb_device.specs.AloneAttempts.{no_side, token_sent, ack_sent, is_taken, heard_pid, sent_to, answer_from, asked_from, with_asked, RefusedFrom, after_token, heard_of_both, after_reply, side_of, forgot, heard_at, side_at, left_in, cut_in, RefusedAt};
+ghost use Rattle.usb_device.specs.AloneAttempts.{no_side, token_sent, ack_sent, takes_data, heard_pid, after_packet_at, answer_from, asked_from, with_asked, RefusedFrom, after_token, heard_of_both, after_reply, side_of, forgot, heard_at, side_at, left_in, cut_in, RefusedAt};
 
 use crate::answer::AnswerPid;
 use crate::device::Device;
@@ -69,7 +69,7 @@ fn heard_pid(pid: Option<AnswerPid>) -> HeardPid
 impl Hearing {
     /// Whether it is data of at most `max` bytes.
     fn is_taken(&self, max: u8) -> bool
-        ensures { result ≡ is_taken max self.now }
+        ensures { result ≡ takes_data max self.now }
     {
         match self.pid {
             HeardPid::One(AnswerPid::Data(_)) => self.room.len() <= usize::from(max),
@@ -123,7 +123,7 @@ impl Device {
     ) -> Result<(), AllocError>
         ensures heard { OnOk result (heard.new
             ≡ both heard.old (heard_from (answer_from payload.now deep self.old))) }
-        ensures after { OnOk result (self.new ≡ sent_to payload.now deep self.old) }
+        ensures after { OnOk result (self.new ≡ after_packet_at payload.now deep self.old) }
         ensures asked { side.new ≡ with_asked (asked_from payload.now deep self.old) side.old }
         ensures err { OnErr result (self.new ≡ self.old) }
         ensures refused { OnErr result (RefusedFrom payload.now deep self.old) }

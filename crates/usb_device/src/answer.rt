@@ -1,7 +1,7 @@
 //! What a device answers.
 ghost use Rattle.std.specs.Prelude.{◌≡◌};
 ghost use Rattle.usb_device.specs.ReceivedBytes.{Answers, packet_of};
-ghost use Rattle.usb_device.specs.AnswerPids.{answer_of, answer_with};
+ghost use Rattle.usb_device.specs.AnswerPids.{answer_from_pid, answer_with};
 
 use arrayvec::ArrayVec;
 use usb_packet::{Packet, Toggle, encode};
@@ -54,7 +54,7 @@ pub enum AnswerPid {
 impl AnswerPid {
     /// The answer, which has these bytes where it is data.
     pub fn with_bytes(self, bytes: ArrayVec<u8, 64>) -> Answer
-        ensures { result ≡ answer_of self bytes }
+        ensures { result ≡ answer_from_pid self bytes }
     {
         match self {
             AnswerPid::Ack => Answer::Ack,
@@ -66,7 +66,7 @@ impl AnswerPid {
 
     /// The packet itself, which has these bytes where it is data.
     pub fn into_packet(self, bytes: ArrayVec<u8, 64>) -> Packet
-        ensures { result ≡ packet_of (answer_of self bytes) }
+        ensures { result ≡ packet_of (answer_from_pid self bytes) }
     {
         match self {
             AnswerPid::Ack => Packet::Ack,

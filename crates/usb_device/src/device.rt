@@ -9,7 +9,7 @@ ghost use Rattle.usb_device.specs.ReceivedBytes.{AnswersPacket, GrowsBy, receive
 
 use crate::answer::{AnswerPid, spelled};
 use crate::effect::Effect;
-use crate::own::Own;
+use crate::own::FunctionState;
 use crate::ports::Ports;
 use crate::spec::DeviceSpec;
 use arrayvec::ArrayVec;
@@ -23,7 +23,7 @@ use usb_packet::{Packet, decode};
 #[cycle(tree)]
 #[derive(Debug, Drop)]
 pub struct Device {
-    pub(crate) own: Own,
+    pub(crate) own: FunctionState,
     pub(crate) ports: Ports,
 }
 
@@ -63,7 +63,7 @@ impl Device {
         ensures { IfOk result (λ d. d ≡ new_device spec.now.value) }
     {
         Ok(Device {
-            own: Own::new(alloc, spec)?,
+            own: FunctionState::new(alloc, spec)?,
             ports: first_ports(alloc, spec)?,
         })
     }

@@ -1,7 +1,7 @@
 //! What is heard of the answers to a packet, as it comes.
 ghost use Rattle.std.specs.Prelude.{◌≡◌};
 ghost use Rattle.usb_device.specs.declared.delivery.Heard.TheVariants.{NoAnswer};
-ghost use Rattle.usb_device.specs.Hearings.{heard_with, pid_of};
+ghost use Rattle.usb_device.specs.Hearings.{heard_with, pid_heard};
 
 use crate::answer::AnswerPid;
 use crate::delivery::Heard;
@@ -50,7 +50,7 @@ impl Hearing {
     /// The packet identifier that was heard.
     #[tactic(auto, using(crate::proofs::Hearings::hearings))]
     pub fn pid(&self) -> HeardPid
-        ensures { result ≡ pid_of self.now }
+        ensures { result ≡ pid_heard self.now }
     {
         self.pid
     }
@@ -58,7 +58,7 @@ impl Hearing {
     /// The room: its bytes are those of data.
     #[tactic(auto, using(crate::proofs::Hearings::hearings))]
     pub fn into_bytes(self) -> ArrayVec<u8, 64>
-        ensures { heard_with (pid_of self) result ≡ self }
+        ensures { heard_with (pid_heard self) result ≡ self }
     {
         self.room
     }

@@ -2,7 +2,7 @@
 ghost use Rattle.std.specs.Prelude.{◌≡◌, ◌+◌, ◌<◌, ◌^◌, length, [], None, Some, IfOk, IsTrue, false};
 ghost use Rattle.std.specs.Option.{option_copied};
 ghost use Rattle.usb_device.specs.Tree.{changed, put};
-ghost use Rattle.usb_device.specs.Delivery.{held, held_in, is_twice};
+ghost use Rattle.usb_device.specs.Delivery.{held_addresses, held_in, repeats};
 ghost use Rattle.usb_device.specs.Places.{ports_kept, stood};
 ghost use Rattle.usb_device.specs.Holders.{AreBytes, AreNobody, IsIndex, path_below, path_further, reached, reached_in, reached_whole, reached_there, reached_below, reached_at_path, noted, meets_again, held_whole, held_from, released};
 
@@ -23,12 +23,12 @@ pub enum Holder {
 }
 
 impl Holder {
-    ghost use Rattle.usb_device.specs.Holders.{is_known, joined};
+    ghost use Rattle.usb_device.specs.Holders.{is_known, joined_holder};
 
     /// One device more that holds the address, by its path; whether one was known before.
     fn join(&mut self, path: &Option<ArrayVec<u8, 8>>) -> bool
         ensures known { result ≡ is_known self.old }
-        ensures joined { self.new ≡ joined self.old path.now }
+        ensures joined { self.new ≡ joined_holder self.old path.now }
     {
         if let Holder::Nobody = self {
             *self = Holder::of(path);
@@ -41,7 +41,7 @@ impl Holder {
 
     /// The one device at a path.
     fn of(path: &Option<ArrayVec<u8, 8>>) -> Holder
-        ensures { result ≡ joined Holder.Nobody path.now }
+        ensures { result ≡ joined_holder Holder.Nobody path.now }
     {
         match path {
             None => Holder::Several,
@@ -150,7 +150,7 @@ fn nobodies(alloc: Global) -> Result<Vec<Holder>, AllocError>
 fn index(holders: &mut [Holder], roots: &Ports) -> bool
     requires { length holders.old ≡ 256 }
     ensures index { IsIndex holders.new roots.now }
-    ensures shared { result ≡ is_twice (held roots.now) }
+    ensures shared { result ≡ repeats (held_addresses roots.now) }
     ensures length { length holders.new ≡ 256 }
 {
     clear(holders);
@@ -162,9 +162,9 @@ fn index(holders: &mut [Holder], roots: &Ports) -> bool
 fn index_without(holders: &mut [Holder], roots: &Ports, path: &[u8])
     requires length { length holders.old ≡ 256 }
     requires index { IsIndex holders.old roots.now }
-    requires single { is_twice (held roots.now) ≡ false }
+    requires single { repeats (held_addresses roots.now) ≡ false }
     ensures index { IsIndex holders.new (changed (put None) roots.now path.now) }
-    ensures single { is_twice (held (changed (put None) roots.now path.now)) ≡ false }
+    ensures single { repeats (held_addresses (changed (put None) roots.now path.now)) ≡ false }
     ensures length { length holders.new ≡ 256 }
 {
     release_at(holders, roots, path);
@@ -176,9 +176,9 @@ fn index_without(holders: &mut [Holder], roots: &Ports, path: &[u8])
 fn index_with(holders: &mut [Holder], shared: bool, roots: &Ports, path: &[u8]) -> bool
     requires length { length holders.old ≡ 256 }
     requires index { IsIndex holders.old (changed (put None) roots.now path.now) }
-    requires shared { shared ≡ is_twice (held (changed (put None) roots.now path.now)) }
+    requires shared { shared ≡ repeats (held_addresses (changed (put None) roots.now path.now)) }
     ensures index { IsIndex holders.new roots.now }
-    ensures shared { result ≡ is_twice (held roots.now) }
+    ensures shared { result ≡ repeats (held_addresses roots.now) }
     ensures length { length holders.new ≡ 256 }
 {
     let met = note_at_path(holders, roots, path);
@@ -205,7 +205,7 @@ impl Ports {
         requires { length holders.old ≡ 256 }
         ensures met { result ≡ meets_again (reached above.now 1 self.now) holders.old }
         ensures noted { holders.new ≡ noted (reached above.now 1 self.now) holders.old }
-        ensures bytes { AreBytes (held self.now) }
+        ensures bytes { AreBytes (held_addresses self.now) }
     {
         if self.places.is_empty() {
             false
@@ -230,7 +230,7 @@ fn note_row(
         ≡ meets_again (reached above.now number (ports_kept places.now)) holders.old }
     ensures noted { holders.new
         ≡ noted (reached above.now number (ports_kept places.now)) holders.old }
-    ensures bytes { AreBytes (held (ports_kept places.now)) }
+    ensures bytes { AreBytes (held_addresses (ports_kept places.now)) }
 {
     match places.split_first() {
         None => false,
@@ -339,7 +339,7 @@ impl Ports {
     #[tactic(auto, using(crate::proofs::HolderIndexes::releasing))]
     fn release(&self, holders: &mut [Holder])
         requires { length holders.old ≡ 256 }
-        ensures { holders.new ≡ released (held self.now) holders.old }
+        ensures { holders.new ≡ released (held_addresses self.now) holders.old }
     {
         if !self.places.is_empty() {
             release_row(self.places.as_slice(), holders);
@@ -368,7 +368,7 @@ impl Place {
 #[tactic(auto, using(crate::proofs::HolderIndexes::releasing))]
 fn release_row(places: &[Place], holders: &mut [Holder])
     requires { length holders.old ≡ 256 }
-    ensures { holders.new ≡ released (held (ports_kept places.now)) holders.old }
+    ensures { holders.new ≡ released (held_addresses (ports_kept places.now)) holders.old }
 {
     if let Some((place, rest)) = places.split_first() {
         release_place(place, holders);

@@ -14,7 +14,7 @@ ghost use Rattle.usb_device.specs.declared.delivery.Content.TheVariants.{Whole, 
 ghost use Rattle.usb_device.specs.Transfer.{packet_at, packets_joined, toggle_at};
 ghost use Rattle.usb_device.specs.Rows.{State, forgotten};
 ghost use Rattle.usb_device.specs.Tree.{Ports as TreePorts};
-ghost use Rattle.usb_device.specs.Delivery.{after_packet, all_forgotten, answers, held, has};
+ghost use Rattle.usb_device.specs.Delivery.{after_packet, all_forgotten, answers, held_addresses, has};
 ghost use Rattle.usb_device.specs.StrayPackets.{is_token, concerns_some};
 ghost use Rattle.usb_device.specs.Attempt.{Way, setup_exchange, setup_law, out_exchange, out_law, in_exchange, in_law};
 ghost use Rattle.usb_device.specs.Progress.{taken_of, ReadingAt, ReadOn, IsSource, SourceAt, SourceOn, IsSink, SinkAt, SinkOn};
@@ -47,7 +47,7 @@ pub fn stray_laws()
         → all_forgotten (after_packet q deep k) ≡ all_forgotten k }
     // A token is for the devices with its address.
     ensures token { (kind : TokenKind) (a e : ℕ) (k : TreePorts)
-        → concerns_some (Whole (Token kind a e)) k ≡ has a (held k) }
+        → concerns_some (Whole (Token kind a e)) k ≡ has a (held_addresses k) }
     // Bytes that spell no packet are for none.
     ensures broken { (k : TreePorts) → concerns_some Broken k ≡ false }
     // Where nothing is remembered, only a token is for a device.

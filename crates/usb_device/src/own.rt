@@ -36,7 +36,7 @@ use usb_request::Setup;
 /// them (8.5). It has endpoint 0, a bulk endpoint for each direction where its configuration
 /// describes one, and IN 1 where it is a hub.
 #[derive(Debug, Drop)]
-pub struct Own {
+pub struct FunctionState {
     spec: Rc<DeviceSpec>,
     registers: Registers,
     /// The bulk endpoints of the configuration.
@@ -61,7 +61,7 @@ pub struct Own {
     place: usize,
 }
 
-impl Model for Own {
+impl Model for FunctionState {
     ghost use Rattle.usb_device.specs.Rows.{State};
     ghost use Rattle.usb_device.specs.Code.{stage_of};
     ghost use Rattle.usb_device.specs.ServedBulk.{AreServed};
@@ -168,7 +168,7 @@ fn awaits_ack(memory: RememberedPacket) -> bool
     }
 }
 
-impl Own {
+impl FunctionState {
     ghost use Rattle.usb_device.specs.StrayPackets.{is_for};
     ghost use Rattle.std.specs.Prelude.{IfOk, OnErr, true, false, not, ◌&&◌, [], ◌∷◌};
     ghost use Rattle.usb_device.specs.declared.transfer.InEndpoint.TheVariants as by;
@@ -184,7 +184,7 @@ impl Own {
     pub fn new(alloc: Global, spec: &Rc<DeviceSpec>) -> Result<Self, AllocError>
         ensures { IfOk result (λ d. d ≡ fresh spec.now.value) }
     {
-        Ok(Own {
+        Ok(FunctionState {
             spec: spec.clone()?,
             registers: AT_RESET,
             served: NO_BULK,

@@ -30,26 +30,26 @@ use Rattle.usb_class.specs.declared.class.ClassCodes.{ClassCodes}
 use Rattle.usb_class.specs.Classes.{class_text, class_word, hid_word, word_or_number}
 use Rattle.usb_drawing.specs.Classes.{codes_of, ports_text}
 use Rattle.usb_drawing.specs.Devices.{address_column, cause_number, cause_words, device_text, finding_text, identity_text, ids_text, power_text, speed_column, stall_words, strings_text, supply_text, word_digits}
-use Rattle.usb_drawing.specs.Drawings.{IsOneLine, deepest, drawing_lines, entry_line, entry_lines, gap, granted_at, heading, is_unbroken}
+use Rattle.usb_drawing.specs.Drawings.{IsOneLine, deepest, drawing_lines, entry_line, drawn_entries, gap, granted_at, heading, is_unbroken}
 use Rattle.usb_drawing.specs.Texts.{is_pair, is_shown, labelled_text, shown_or_escaped, shown_unit, shown_units, string_text}
 
-abbrev Unbroken : List ℕ → Type 0
-Unbroken bytes = is_unbroken bytes ≡ true
+abbrev HasNoLineFeed : List ℕ → Type 0
+HasNoLineFeed bytes = is_unbroken bytes ≡ true
 
 -- one after the other
-both : (xs ys : List ℕ) → Unbroken xs → Unbroken ys → Unbroken (xs ++ ys)
-both xs ys p q = list_all-append (λ (byte : ℕ). not (byte == 10)) xs ys ∙ ap₂ (λ (a b : Bool). a && b) p q
+no_line_feed-append : (xs ys : List ℕ) → HasNoLineFeed xs → HasNoLineFeed ys → HasNoLineFeed (xs ++ ys)
+no_line_feed-append xs ys p q = list_all-append (λ (byte : ℕ). not (byte == 10)) xs ys ∙ ap₂ (λ (a b : Bool). a && b) p q
 
 other : (x : ℕ) → x ≢ 10 → not (x == 10) ≡ true
 other x differs = grind (arith, nat_tests)
 
-one : (x : ℕ) → x ≢ 10 → Unbroken (x ∷ [])
-one x differs = ap (λ b. b && true) (other x differs)
+one_no_line_feed : (x : ℕ) → x ≢ 10 → HasNoLineFeed (x ∷ [])
+one_no_line_feed x differs = ap (λ b. b && true) (other x differs)
 
-one_then : (x : ℕ) (xs : List ℕ) → x ≢ 10 → Unbroken xs → Unbroken (x ∷ xs)
-one_then x xs differs rest = ap₂ (λ (a b : Bool). a && b) (other x differs) rest
+no_line_feed-cons : (x : ℕ) (xs : List ℕ) → x ≢ 10 → HasNoLineFeed xs → HasNoLineFeed (x ∷ xs)
+no_line_feed-cons x xs differs rest = ap₂ (λ (a b : Bool). a && b) (other x differs) rest
 
-choice : (b : Bool) (xs ys : List ℕ) → Unbroken xs → Unbroken ys → Unbroken (if b then xs else ys)
+choice : (b : Bool) (xs ys : List ℕ) → HasNoLineFeed xs → HasNoLineFeed ys → HasNoLineFeed (if b then xs else ys)
 choice true xs ys p q = p
 choice false xs ys p q = q
 
@@ -62,91 +62,91 @@ glyph_other d = split (nat_lt d 10)
     split true e = omega (arith, e)
     split false e = omega (arith, e)
 
-digits_unbroken : (k n : ℕ) (acc : List ℕ) → Unbroken acc → Unbroken (digits_onto k 10 false n acc)
-digits_unbroken zero n acc p = p
-digits_unbroken (suc k) n acc p =
-    let more = one_then (digit_glyph false (n % 10)) acc (glyph_other (n % 10)) p in
-    choice (n / 10 == 0) _ _ more (digits_unbroken k (n / 10) (digit_glyph false (n % 10) ∷ acc) more)
+digits_onto-no_line_feed : (k n : ℕ) (acc : List ℕ) → HasNoLineFeed acc → HasNoLineFeed (digits_onto k 10 false n acc)
+digits_onto-no_line_feed zero n acc p = p
+digits_onto-no_line_feed (suc k) n acc p =
+    let more = no_line_feed-cons (digit_glyph false (n % 10)) acc (glyph_other (n % 10)) p in
+    choice (n / 10 == 0) _ _ more (digits_onto-no_line_feed k (n / 10) (digit_glyph false (n % 10) ∷ acc) more)
 
-number : (n : ℕ) → Unbroken (decimal n)
+number : (n : ℕ) → HasNoLineFeed (decimal n)
 unfolding digits
-number n = digits_unbroken 64 n [] refl
+number n = digits_onto-no_line_feed 64 n [] refl
 
 -- no item of such bytes is a newline, nor is what stands for none
-index_other : (xs : List ℕ) (i : ℕ) → Unbroken xs → not (slice_index xs i == 10) ≡ true
-index_other [] i p = refl
-index_other (x ∷ xs) zero p = first (not (x == 10)) (is_unbroken xs) p
+slice_index-no_line_feed : (xs : List ℕ) (i : ℕ) → HasNoLineFeed xs → not (slice_index xs i == 10) ≡ true
+slice_index-no_line_feed [] i p = refl
+slice_index-no_line_feed (x ∷ xs) zero p = first (not (x == 10)) (is_unbroken xs) p
   where
     first : (a b : Bool) → (a && b) ≡ true → a ≡ true
     first true b e = refl
     first false b e = e
-index_other (x ∷ xs) (suc i) p = index_other xs i (rest (not (x == 10)) (is_unbroken xs) p)
+slice_index-no_line_feed (x ∷ xs) (suc i) p = slice_index-no_line_feed xs i (rest (not (x == 10)) (is_unbroken xs) p)
   where
     rest : (a b : Bool) → (a && b) ≡ true → b ≡ true
     rest true b e = e
     rest false b e = absurd (cc e)
 
-encoded : (table bytes : List ℕ) → Unbroken table → Unbroken (encode_with table bytes)
+encoded : (table bytes : List ℕ) → HasNoLineFeed table → HasNoLineFeed (encode_with table bytes)
 unfolding encode_with
 encoded table [] p = refl
-encoded table (b ∷ bytes) p = ap₂ (λ (x y : Bool). x && y) (index_other table (b / 16) p) (ap₂ (λ (x y : Bool). x && y) (index_other table (b % 16) p) (encoded table bytes p))
+encoded table (b ∷ bytes) p = ap₂ (λ (x y : Bool). x && y) (slice_index-no_line_feed table (b / 16) p) (ap₂ (λ (x y : Bool). x && y) (slice_index-no_line_feed table (b % 16) p) (encoded table bytes p))
 
-lower : (bytes : List ℕ) → Unbroken (encode_with lower_digits bytes)
+lower : (bytes : List ℕ) → HasNoLineFeed (encode_with lower_digits bytes)
 lower bytes = encoded lower_digits bytes refl
 
-upper : (bytes : List ℕ) → Unbroken (encode_with upper_digits bytes)
+upper : (bytes : List ℕ) → HasNoLineFeed (encode_with upper_digits bytes)
 upper bytes = encoded upper_digits bytes refl
 
-path : (numbers : List ℕ) → Unbroken (path_text numbers)
+path : (numbers : List ℕ) → HasNoLineFeed (path_text numbers)
 unfolding path_text
 path [] = refl
-path (n ∷ []) = one (48 + n) (λ e. omega (arith, e))
-path (n ∷ m ∷ ns) = one_then (48 + n) (46 ∷ path_text (m ∷ ns)) (λ e. omega (arith, e)) (path (m ∷ ns))
+path (n ∷ []) = one_no_line_feed (48 + n) (λ e. omega (arith, e))
+path (n ∷ m ∷ ns) = no_line_feed-cons (48 + n) (46 ∷ path_text (m ∷ ns)) (λ e. omega (arith, e)) (path (m ∷ ns))
 
 -- Art
 
-trunk_unbroken : (style : Style) (on : Bool) → Unbroken (trunk style on)
+trunk_unbroken : (style : Style) (on : Bool) → HasNoLineFeed (trunk style on)
 trunk_unbroken Lines true = refl
 trunk_unbroken Lines false = refl
 trunk_unbroken Ascii true = refl
 trunk_unbroken Ascii false = refl
 
-branch_unbroken : (style : Style) (on : Bool) → Unbroken (branch style on)
+branch_unbroken : (style : Style) (on : Bool) → HasNoLineFeed (branch style on)
 branch_unbroken Lines true = refl
 branch_unbroken Lines false = refl
 branch_unbroken Ascii true = refl
 branch_unbroken Ascii false = refl
 
-trunks_unbroken : (style : Style) (path : List ℕ) (behind : Entries) (levels : ℕ) → Unbroken (trunks style path behind levels)
+trunks_unbroken : (style : Style) (path : List ℕ) (behind : Entries) (levels : ℕ) → HasNoLineFeed (trunks style path behind levels)
 trunks_unbroken style path behind zero = refl
-trunks_unbroken style path behind (suc level) = both (trunks style path behind level) _ (trunks_unbroken style path behind level) (trunk_unbroken style (goes_on path level behind))
+trunks_unbroken style path behind (suc level) = no_line_feed-append (trunks style path behind level) _ (trunks_unbroken style path behind level) (trunk_unbroken style (goes_on path level behind))
 
-art_unbroken : (style : Style) (path : List ℕ) (behind : Entries) → Unbroken (art style path behind)
+art_unbroken : (style : Style) (path : List ℕ) (behind : Entries) → HasNoLineFeed (art style path behind)
 unfolding art
 art_unbroken style path behind =
     let level = length path - 1 in
-    both (trunks style path behind level) (branch style (goes_on path level behind)) (trunks_unbroken style path behind level) (branch_unbroken style (goes_on path level behind))
+    no_line_feed-append (trunks style path behind level) (branch style (goes_on path level behind)) (trunks_unbroken style path behind level) (branch_unbroken style (goes_on path level behind))
 
-gap_unbroken : (levels : ℕ) → Unbroken (gap levels)
+gap_unbroken : (levels : ℕ) → HasNoLineFeed (gap levels)
 gap_unbroken zero = refl
-gap_unbroken (suc levels) = both (gap levels) (codes "     ") (gap_unbroken levels) refl
+gap_unbroken (suc levels) = no_line_feed-append (gap levels) (codes "     ") (gap_unbroken levels) refl
 
 -- Strings
 
-branches : (b : Bool) (xs ys : List ℕ) → Unbroken xs → Unbroken ys → Unbroken (cond b xs ys)
+branches : (b : Bool) (xs ys : List ℕ) → HasNoLineFeed xs → HasNoLineFeed ys → HasNoLineFeed (cond b xs ys)
 branches true xs ys p q = p
 branches false xs ys p q = q
 
-by_index : (xs : List ℕ) → ((k : ℕ) → k < length xs → get_or xs k 0 ≢ 10) → Unbroken xs
-by_index [] h = refl
-by_index (x ∷ xs) h = one_then x xs (h 0 (omega arith)) (by_index xs (λ k lt. h (suc k) (omega (arith, lt))))
+no_line_feed_each : (xs : List ℕ) → ((k : ℕ) → k < length xs → get_or xs k 0 ≢ 10) → HasNoLineFeed xs
+no_line_feed_each [] h = refl
+no_line_feed_each (x ∷ xs) h = no_line_feed-cons x xs (h 0 (omega arith)) (no_line_feed_each xs (λ k lt. h (suc k) (omega (arith, lt))))
 
 -- a byte below 128 is a character of its own
-utf8 : (c : ℕ) → c ≢ 10 → Unbroken (encode_utf8 c)
-utf8 c differs = by_index (encode_utf8 c) (λ k lt e. differs (inside_one c [] (encode_utf8 c) k (sym (append-nil (encode_utf8 c))) lt (omega (arith, e)) ∙ e))
+utf8 : (c : ℕ) → c ≢ 10 → HasNoLineFeed (encode_utf8 c)
+utf8 c differs = no_line_feed_each (encode_utf8 c) (λ k lt e. differs (inside_one c [] (encode_utf8 c) k (sym (append-nil (encode_utf8 c))) lt (omega (arith, e)) ∙ e))
 
-escaped : (high low : ℕ) → Unbroken (escaped_text high low)
-escaped high low = both (codes "\\u" ++ encode_with upper_digits (high ∷ [])) (encode_with upper_digits (low ∷ [])) (both (codes "\\u") (encode_with upper_digits (high ∷ [])) refl (upper (high ∷ []))) (upper (low ∷ []))
+escaped : (high low : ℕ) → HasNoLineFeed (escaped_text high low)
+escaped high low = no_line_feed-append (codes "\\u" ++ encode_with upper_digits (high ∷ [])) (encode_with upper_digits (low ∷ [])) (no_line_feed-append (codes "\\u") (encode_with upper_digits (high ∷ [])) refl (upper (high ∷ []))) (upper (low ∷ []))
 
 shown_other : (c : ℕ) → is_shown c ≡ true → c ≢ 10
 shown_other c p e = cc (subst (λ x. is_shown x ≡ true) e p)
@@ -154,58 +154,58 @@ shown_other c p e = cc (subst (λ x. is_shown x ≡ true) e p)
 plain_other : (c : ℕ) → is_plain_unit c ≡ true → c ≢ 10
 plain_other c p e = cc (subst (λ x. is_plain_unit x ≡ true) e p)
 
-char_or_escaped : (o : Option ℕ) (u : ℕ) → Unbroken (shown_or_escaped o u)
+char_or_escaped : (o : Option ℕ) (u : ℕ) → HasNoLineFeed (shown_or_escaped o u)
 char_or_escaped None u = escaped (u / 256) (u % 256)
 char_or_escaped (Some c) u = split (is_shown c) refl
   where
-    split : (b : Bool) → is_shown c ≡ b → Unbroken (if b then encode_utf8 c else escaped_text (u / 256) (u % 256))
+    split : (b : Bool) → is_shown c ≡ b → HasNoLineFeed (if b then encode_utf8 c else escaped_text (u / 256) (u % 256))
     split true e = utf8 c (shown_other c e)
     split false e = escaped (u / 256) (u % 256)
 
-units_unbroken : (units : List ℕ) → Unbroken (shown_units units)
+units_unbroken : (units : List ℕ) → HasNoLineFeed (shown_units units)
 unfolding shown_units
 units_unbroken [] = refl
 units_unbroken (u ∷ []) = char_or_escaped (lone_unit_char u) u
 units_unbroken (u ∷ v ∷ us) =
     branches (is_pair u v) _ _
-    (both (encode_utf8 (surrogate_pair_char u v)) (shown_units us) (utf8 (surrogate_pair_char u v) (λ e. omega (arith, e))) (units_unbroken us))
-    (both (shown_unit u) (shown_units (v ∷ us)) (char_or_escaped (lone_unit_char u) u) (units_unbroken (v ∷ us)))
+    (no_line_feed-append (encode_utf8 (surrogate_pair_char u v)) (shown_units us) (utf8 (surrogate_pair_char u v) (λ e. omega (arith, e))) (units_unbroken us))
+    (no_line_feed-append (shown_unit u) (shown_units (v ∷ us)) (char_or_escaped (lone_unit_char u) u) (units_unbroken (v ∷ us)))
 
-plain_unit : (u : ℕ) → Unbroken (unit_text u)
+plain_unit : (u : ℕ) → HasNoLineFeed (unit_text u)
 plain_unit u = split (is_plain_unit u) refl
   where
-    split : (b : Bool) → is_plain_unit u ≡ b → Unbroken (if b then u ∷ [] else escaped_text (u / 256) (u % 256))
-    split true e = one u (plain_other u e)
+    split : (b : Bool) → is_plain_unit u ≡ b → HasNoLineFeed (if b then u ∷ [] else escaped_text (u / 256) (u % 256))
+    split true e = one_no_line_feed u (plain_other u e)
     split false e = escaped (u / 256) (u % 256)
 
-plain_units : (units : List ℕ) → Unbroken (flat_map unit_text units)
+plain_units : (units : List ℕ) → HasNoLineFeed (flat_map unit_text units)
 plain_units [] = refl
-plain_units (u ∷ us) = both (unit_text u) (flat_map unit_text us) (plain_unit u) (plain_units us)
+plain_units (u ∷ us) = no_line_feed-append (unit_text u) (flat_map unit_text us) (plain_unit u) (plain_units us)
 
-string : (style : Style) (units : List ℕ) → Unbroken (string_text style units)
+string : (style : Style) (units : List ℕ) → HasNoLineFeed (string_text style units)
 string Lines units = units_unbroken units
 string Ascii units = plain_units units
 
-labelled : (style : Style) (label : List ℕ) (units : Option (List ℕ)) → Unbroken label → Unbroken (labelled_text style label units)
+labelled : (style : Style) (label : List ℕ) (units : Option (List ℕ)) → HasNoLineFeed label → HasNoLineFeed (labelled_text style label units)
 labelled style label None p = refl
 labelled style label (Some units) p =
-    both (label ++ codes "\"" ++ string_text style units) (codes "\"")
-    (both (label ++ codes "\"") (string_text style units) (both label (codes "\"") p refl) (string style units)) refl
+    no_line_feed-append (label ++ codes "\"" ++ string_text style units) (codes "\"")
+    (no_line_feed-append (label ++ codes "\"") (string_text style units) (no_line_feed-append label (codes "\"") p refl) (string style units)) refl
 
 -- Classes
 
-abbrev IsWord : Option (List ℕ) → Type 0
-IsWord None = Unit {0}
-IsWord (Some word) = Unbroken word
+abbrev IsWordOrNone : Option (List ℕ) → Type 0
+IsWordOrNone None = Unit {0}
+IsWordOrNone (Some word) = HasNoLineFeed word
 
-words : (b : Bool) (x y : Option (List ℕ)) → IsWord x → IsWord y → IsWord (cond b x y)
+words : (b : Bool) (x y : Option (List ℕ)) → IsWordOrNone x → IsWordOrNone y → IsWordOrNone (cond b x y)
 words true x y p q = p
 words false x y p q = q
 
-hid : (c : ClassCodes) → Unbroken (hid_word c)
+hid : (c : ClassCodes) → HasNoLineFeed (hid_word c)
 hid c = branches (c.subclass == 1 && c.protocol == 1) _ _ refl (branches (c.subclass == 1 && c.protocol == 2) _ _ refl refl)
 
-class_is_word : (c : ClassCodes) → IsWord (class_word c)
+class_is_word : (c : ClassCodes) → IsWordOrNone (class_word c)
 unfolding class_word
 class_is_word c =
     words (c.class == 0x01) _ _ refl (words (c.class == 0x02) _ _ refl (words (c.class == 0x03) _ _ (hid c) (words (c.class == 0x05) _ _ refl (words (c.class == 0x06) _ _ refl
@@ -213,72 +213,72 @@ class_is_word c =
     (words (c.class == 0x0D) _ _ refl (words (c.class == 0x0E) _ _ refl (words (c.class == 0x0F) _ _ refl (words (c.class == 0xDC) _ _ refl (words (c.class == 0xE0) _ _ refl
     (words (c.class == 0xEF) _ _ refl (words (c.class == 0xFE) _ _ refl (words (c.class == 0xFF) _ _ refl tt)))))))))))))))))
 
-word_unbroken : (word : Option (List ℕ)) (class : ℕ) → IsWord word → Unbroken (word_or_number word class)
+word_unbroken : (word : Option (List ℕ)) (class : ℕ) → IsWordOrNone word → HasNoLineFeed (word_or_number word class)
 word_unbroken (Some word) class p = p
-word_unbroken None class p = both (codes "class ") (encode_with lower_digits (class ∷ [])) refl (lower (class ∷ []))
+word_unbroken None class p = no_line_feed-append (codes "class ") (encode_with lower_digits (class ∷ [])) refl (lower (class ∷ []))
 
-class_unbroken : (c : ClassCodes) → Unbroken (class_text c)
+class_unbroken : (c : ClassCodes) → HasNoLineFeed (class_text c)
 class_unbroken c = word_unbroken (class_word c) c.class (class_is_word c)
 
-ports : (hub : Option HubFacts) → Unbroken (ports_text hub)
+ports : (hub : Option HubFacts) → HasNoLineFeed (ports_text hub)
 ports None = refl
-ports (Some facts) = branches (facts.ports == 1) _ _ refl (both (codes ", " ++ decimal facts.ports) (codes " ports") (both (codes ", ") (decimal facts.ports) refl (number facts.ports)) refl)
+ports (Some facts) = branches (facts.ports == 1) _ _ refl (no_line_feed-append (codes ", " ++ decimal facts.ports) (codes " ports") (no_line_feed-append (codes ", ") (decimal facts.ports) refl (number facts.ports)) refl)
 
 -- What was found
 
-address_unbroken : (address : ℕ) → Unbroken (address_column address)
+address_unbroken : (address : ℕ) → HasNoLineFeed (address_column address)
 address_unbroken address =
-    both (codes "address " ++ decimal address) _ (both (codes "address ") (decimal address) refl (number address))
+    no_line_feed-append (codes "address " ++ decimal address) _ (no_line_feed-append (codes "address ") (decimal address) refl (number address))
     (branches (nat_lt address 10) _ _ refl (branches (nat_lt address 100) _ _ refl refl))
 
-ids_unbroken : (bytes : List ℕ) → Unbroken (ids_text bytes)
+ids_unbroken : (bytes : List ℕ) → HasNoLineFeed (ids_text bytes)
 ids_unbroken bytes =
-    both (word_digits bytes 8 ++ codes ":" ++ word_digits bytes 10) (codes " ")
-    (both (word_digits bytes 8 ++ codes ":") (word_digits bytes 10) (both (word_digits bytes 8) (codes ":") (lower _) refl) (lower _)) refl
+    no_line_feed-append (word_digits bytes 8 ++ codes ":" ++ word_digits bytes 10) (codes " ")
+    (no_line_feed-append (word_digits bytes 8 ++ codes ":") (word_digits bytes 10) (no_line_feed-append (word_digits bytes 8) (codes ":") (lower _) refl) (lower _)) refl
 
-power_unbroken : (granted : Option ℕ) (drawn : ℕ) → Unbroken (power_text granted drawn)
-power_unbroken None drawn = both (codes "  " ++ decimal drawn) (codes " mA") (both (codes "  ") (decimal drawn) refl (number drawn)) refl
+power_unbroken : (granted : Option ℕ) (drawn : ℕ) → HasNoLineFeed (power_text granted drawn)
+power_unbroken None drawn = no_line_feed-append (codes "  " ++ decimal drawn) (codes " mA") (no_line_feed-append (codes "  ") (decimal drawn) refl (number drawn)) refl
 power_unbroken (Some granted) drawn =
-    both (codes "  " ++ decimal drawn ++ codes " of " ++ decimal granted) (codes " mA")
-    (both (codes "  " ++ decimal drawn ++ codes " of ") (decimal granted)
-    (both (codes "  " ++ decimal drawn) (codes " of ") (both (codes "  ") (decimal drawn) refl (number drawn)) refl) (number granted)) refl
+    no_line_feed-append (codes "  " ++ decimal drawn ++ codes " of " ++ decimal granted) (codes " mA")
+    (no_line_feed-append (codes "  " ++ decimal drawn ++ codes " of ") (decimal granted)
+    (no_line_feed-append (codes "  " ++ decimal drawn) (codes " of ") (no_line_feed-append (codes "  ") (decimal drawn) refl (number drawn)) refl) (number granted)) refl
 
-identity_unbroken : (d : Accepted) → Unbroken (identity_text d)
+identity_unbroken : (d : Accepted) → HasNoLineFeed (identity_text d)
 unfolding identity_text
 identity_unbroken d =
     let address = address_column d.address in
     let speed = speed_column d.low in
     let ids = ids_text d.bytes in
     let class = class_text (codes_of d) in
-    both (address ++ speed ++ ids ++ class) (ports_text d.hub)
-    (both (address ++ speed ++ ids) class
-    (both (address ++ speed) ids
-    (both address speed (address_unbroken d.address) (branches d.low (codes "low   ") (codes "full  ") refl refl))
+    no_line_feed-append (address ++ speed ++ ids ++ class) (ports_text d.hub)
+    (no_line_feed-append (address ++ speed ++ ids) class
+    (no_line_feed-append (address ++ speed) ids
+    (no_line_feed-append address speed (address_unbroken d.address) (branches d.low (codes "low   ") (codes "full  ") refl refl))
     (ids_unbroken d.bytes))
     (class_unbroken (codes_of d)))
     (ports d.hub)
 
-strings_unbroken : (style : Style) (strings : Strings) → Unbroken (strings_text style strings)
+strings_unbroken : (style : Style) (strings : Strings) → HasNoLineFeed (strings_text style strings)
 unfolding strings_text
 strings_unbroken style strings =
     let product = labelled_text style (codes " ") strings.product in
     let maker = labelled_text style (codes " by ") strings.manufacturer in
-    both (product ++ maker) (labelled_text style (codes " serial ") strings.serial_number)
-    (both product maker (labelled style (codes " ") strings.product refl) (labelled style (codes " by ") strings.manufacturer refl))
+    no_line_feed-append (product ++ maker) (labelled_text style (codes " serial ") strings.serial_number)
+    (no_line_feed-append product maker (labelled style (codes " ") strings.product refl) (labelled style (codes " by ") strings.manufacturer refl))
     (labelled style (codes " serial ") strings.serial_number refl)
 
-device_unbroken : (style : Style) (granted : Option ℕ) (d : Accepted) → Unbroken (device_text style granted d)
+device_unbroken : (style : Style) (granted : Option ℕ) (d : Accepted) → HasNoLineFeed (device_text style granted d)
 device_unbroken style granted d =
-    both (identity_text d ++ strings_text style d.strings) (power_text granted (need_of (configuration_of d)))
-    (both (identity_text d) (strings_text style d.strings) (identity_unbroken d) (strings_unbroken style d.strings)) (power_unbroken granted (need_of (configuration_of d)))
+    no_line_feed-append (identity_text d ++ strings_text style d.strings) (power_text granted (need_of (configuration_of d)))
+    (no_line_feed-append (identity_text d) (strings_text style d.strings) (identity_unbroken d) (strings_unbroken style d.strings)) (power_unbroken granted (need_of (configuration_of d)))
 
-stall_unbroken : (r : Request) → Unbroken (stall_words r)
+stall_unbroken : (r : Request) → HasNoLineFeed (stall_words r)
 stall_unbroken request.Device = refl
 stall_unbroken request.Address = refl
 stall_unbroken request.Config = refl
 stall_unbroken request.SetConfig = refl
 
-words_unbroken : (cause : Cause) → Unbroken (cause_words cause)
+words_unbroken : (cause : Cause) → HasNoLineFeed (cause_words cause)
 words_unbroken Silent = refl
 words_unbroken Busy = refl
 words_unbroken (Stalled r) = stall_unbroken r
@@ -290,11 +290,11 @@ words_unbroken BadHub = refl
 words_unbroken Lost = refl
 words_unbroken NoAddress = refl
 
-supply_unbroken : (granted : Option ℕ) → Unbroken (supply_text granted)
+supply_unbroken : (granted : Option ℕ) → HasNoLineFeed (supply_text granted)
 supply_unbroken None = refl
-supply_unbroken (Some granted) = both (codes ", " ++ decimal granted) (codes " mA") (both (codes ", ") (decimal granted) refl (number granted)) refl
+supply_unbroken (Some granted) = no_line_feed-append (codes ", " ++ decimal granted) (codes " mA") (no_line_feed-append (codes ", ") (decimal granted) refl (number granted)) refl
 
-number_unbroken : (granted : Option ℕ) (cause : Cause) → Unbroken (cause_number granted cause)
+number_unbroken : (granted : Option ℕ) (cause : Cause) → HasNoLineFeed (cause_number granted cause)
 number_unbroken granted Silent = refl
 number_unbroken granted Busy = refl
 number_unbroken granted (Stalled r) = refl
@@ -306,10 +306,10 @@ number_unbroken granted BadHub = refl
 number_unbroken granted Lost = refl
 number_unbroken granted NoAddress = refl
 
-finding_unbroken : (style : Style) (granted : Option ℕ) (finding : Finding) → Unbroken (finding_text style granted finding)
+finding_unbroken : (style : Style) (granted : Option ℕ) (finding : Finding) → HasNoLineFeed (finding_text style granted finding)
 finding_unbroken style granted (Device d) = device_unbroken style granted d
 finding_unbroken style granted (Refused cause) =
-    both (codes "refused: " ++ cause_words cause) (cause_number granted cause) (both (codes "refused: ") (cause_words cause) refl (words_unbroken cause)) (number_unbroken granted cause)
+    no_line_feed-append (codes "refused: " ++ cause_words cause) (cause_number granted cause) (no_line_feed-append (codes "refused: ") (cause_words cause) refl (words_unbroken cause)) (number_unbroken granted cause)
 
 -- Lines
 
@@ -323,10 +323,10 @@ entry_one_line style most granted e behind =
     record {
       front = a ++ p ++ g ++ codes "  " ++ f;
       ends = refl;
-      whole = both (a ++ p ++ g ++ codes "  ") f (both (a ++ p ++ g) (codes "  ") (both (a ++ p) g (both a p (art_unbroken style e.0 behind) (path e.0)) (gap_unbroken (most - length e.0))) refl) (finding_unbroken style granted e.1);
+      whole = no_line_feed-append (a ++ p ++ g ++ codes "  ") f (no_line_feed-append (a ++ p ++ g) (codes "  ") (no_line_feed-append (a ++ p) g (no_line_feed-append a p (art_unbroken style e.0 behind) (path e.0)) (gap_unbroken (most - length e.0))) refl) (finding_unbroken style granted e.1);
     }
 
-entries_one_line : (style : Style) (most : ℕ) (all entries : Entries) → AllByRecursion IsOneLine (entry_lines style most all entries)
+entries_one_line : (style : Style) (most : ℕ) (all entries : Entries) → AllByRecursion IsOneLine (drawn_entries style most all entries)
 entries_one_line style most all [] = tt
 entries_one_line style most all (e ∷ behind) = (entry_one_line style most (granted_at e.0 all) e behind, entries_one_line style most all behind)
 
@@ -335,10 +335,10 @@ unfolding heading
 heading_one_line n [] = record {
   front = codes "listing " ++ decimal n ++ codes ": no devices";
   ends = sym (append_assoc (codes "listing " ++ decimal n) (codes ": no devices") (10 ∷ []));
-  whole = both (codes "listing " ++ decimal n) (codes ": no devices") (both (codes "listing ") (decimal n) refl (number n)) refl;
+  whole = no_line_feed-append (codes "listing " ++ decimal n) (codes ": no devices") (no_line_feed-append (codes "listing ") (decimal n) refl (number n)) refl;
 }
-heading_one_line n (e ∷ entries) = record { front = codes "listing " ++ decimal n; ends = refl; whole = both (codes "listing ") (decimal n) refl (number n) }
+heading_one_line n (e ∷ entries) = record { front = codes "listing " ++ decimal n; ends = refl; whole = no_line_feed-append (codes "listing ") (decimal n) refl (number n) }
 
-pub whole : (style : Style) (n : ℕ) (entries : Entries) → All IsOneLine (drawing_lines style n entries)
+pub drawing_lines-one_line : (style : Style) (n : ℕ) (entries : Entries) → All IsOneLine (drawing_lines style n entries)
 unfolding drawing_lines
-whole style n entries = All-from_recursion IsOneLine (heading n entries ∷ entry_lines style (deepest entries) entries entries) (heading_one_line n entries, entries_one_line style (deepest entries) entries entries)
+drawing_lines-one_line style n entries = All-from_recursion IsOneLine (heading n entries ∷ drawn_entries style (deepest entries) entries entries) (heading_one_line n entries, entries_one_line style (deepest entries) entries entries)

@@ -23,13 +23,13 @@ finding_supply (Device device) = hub_supply device.hub
 finding_supply (Refused cause) = None
 
 -- what each port of the hub at a path gives
-abbrev pub supply_below : List ℕ → Entries → Option ℕ
-supply_below hub [] = None
-supply_below hub (entry ∷ entries) = if pointwise nat_eq entry.0 hub then finding_supply entry.1 else supply_below hub entries
+abbrev pub listed_supply : List ℕ → Entries → Option ℕ
+listed_supply hub [] = None
+listed_supply hub (entry ∷ entries) = if pointwise nat_eq entry.0 hub then finding_supply entry.1 else listed_supply hub entries
 
 abbrev pub supply_from : Option (List ℕ) → Entries → Option ℕ
 supply_from None entries = Some (supply_of true false)
-supply_from (Some hub) entries = supply_below hub entries
+supply_from (Some hub) entries = listed_supply hub entries
 
 -- what the port at a path gives: the root powers itself, and a hub's ports give what it says
 abbrev pub granted_at : List ℕ → Entries → Option ℕ
@@ -51,9 +51,9 @@ entry_line style most granted entry behind =
     art style entry.0 behind ++ path_text entry.0 ++ gap (most - length entry.0) ++ codes "  " ++ finding_text style granted entry.1 ++ codes "\n"
 
 -- a line for each of the entries, which are the last ones of a listing
-abbrev pub entry_lines : Style → ℕ → Entries → Entries → List (List ℕ)
-entry_lines style most all [] = []
-entry_lines style most all (entry ∷ behind) = entry_line style most (granted_at entry.0 all) entry behind ∷ entry_lines style most all behind
+abbrev pub drawn_entries : Style → ℕ → Entries → Entries → List (List ℕ)
+drawn_entries style most all [] = []
+drawn_entries style most all (entry ∷ behind) = entry_line style most (granted_at entry.0 all) entry behind ∷ drawn_entries style most all behind
 
 -- what stands behind the number of a listing
 abbrev pub heading_end : Entries → List ℕ
@@ -65,7 +65,7 @@ heading number entries = codes "listing " ++ decimal number ++ heading_end entri
 
 -- the heading, and a line for each entry by rising path
 unfoldable pub drawing_lines : Style → ℕ → Entries → List (List ℕ)
-drawing_lines style number entries = heading number entries ∷ entry_lines style (deepest entries) entries entries
+drawing_lines style number entries = heading number entries ∷ drawn_entries style (deepest entries) entries entries
 
 -- bytes among which is no newline
 abbrev pub is_unbroken : List ℕ → Bool

@@ -4,7 +4,7 @@ use Rattle.std.specs.Io.KnownBytes.{Appends}
 use Rattle.std.specs.List.{concat}
 use Rattle.usb_world.specs.PlanData.{PlanData}
 use Rattle.usb_bus.specs.Watch.{AppendsFront}
-use Rattle.usb_host.specs.Hosting.{Hosting}
+use Rattle.usb_host.specs.HostState.{HostState}
 use Rattle.usb_plan.specs.Plan.{spelled_plan}
 use Rattle.usb_serve.specs.declared.runs.Item.{Item}
 use Rattle.usb_serve.specs.declared.runs.Item.TheVariants.{Listing, Sent, Received, Cleared}
@@ -47,10 +47,10 @@ DrawnText style items before (Err serve.Memory) now = Appends before now (drawn_
 -- the drawings of a run of a plan, whose trace is thrown away; each of its items is right when it is made
 pub record Drawn (style : Style) (plan : PlanData) (before : Option (List ℕ)) (result : Result (Unit {0}) ServeFault) (now : Option (List ℕ)) : Type 0 where
   pub thrown : Option (List ℕ)  -- where the trace goes
-  pub first : Hosting
+  pub first : HostState
   pub opens : Opens plan thrown first
   pub items : List Item
-  pub last : Hosting
+  pub last : HostState
   pub ends : RunsTo Tree of_run never false first items result last
   pub caused : IfErr result (λ fault. IsCausedInTree fault last.world)
   pub limit : last.world.limit ≡ plan.limit

@@ -3,7 +3,7 @@ ghost use Rattle.std.specs.Prelude.{◌≡◌, ◌+◌, ◌++◌, ◌∷◌, All
 ghost use Rattle.usb_enum.specs.declared.finding.Finding.{Finding as AFinding};
 ghost use Rattle.usb_table.specs.Entries.{Entries};
 ghost use Rattle.usb_drawing.specs.declared.art.Style.{Style as AStyle};
-ghost use Rattle.usb_drawing.specs.Drawings.{IsOneLine, deepest, drawing_lines, entry_line, entry_lines, finding_supply, gap, granted_at, heading, heading_end, hub_supply, supply_below};
+ghost use Rattle.usb_drawing.specs.Drawings.{IsOneLine, deepest, drawing_lines, entry_line, drawn_entries, finding_supply, gap, granted_at, heading, heading_end, hub_supply, listed_supply};
 
 use crate::art::{Style, push_art};
 use crate::device::push_finding;
@@ -63,7 +63,7 @@ fn push_entries(
     entries: &[(PortPath, Finding)],
 ) -> Result<(), AllocError>
     ensures { OnOk result (lines.new
-        ≡ lines.old ++ entry_lines style (deepest entries.now) entries.now entries.now) }
+        ≡ lines.old ++ drawn_entries style (deepest entries.now) entries.now entries.now) }
 {
     let most = deepest(entries);
     let mut rest = entries;
@@ -133,7 +133,7 @@ fn granted_at(path: &PortPath, entries: &[(PortPath, Finding)]) -> Option<u16>
 
 /// What each port of the hub at a path gives.
 fn supply_below(hub: &PortPath, entries: &[(PortPath, Finding)]) -> Option<u16>
-    ensures { result ≡ supply_below hub.now entries.now }
+    ensures { result ≡ listed_supply hub.now entries.now }
 {
     let Some((entry, behind)) = entries.split_first() else {
         return None;

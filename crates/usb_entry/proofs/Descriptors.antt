@@ -38,5 +38,5 @@ pub too_many : (n : ℕ) (bytes device : List ℕ) → n ≤ 18 → device_spell
 too_many n bytes device small e same many =
     (take n bytes, drop n bytes, sym (take-append-drop n bytes), descriptor_at n bytes device small e same, subst (λ d. 8 < configuration_count d) same many)
 
-pub front_at : (n : ℕ) (bytes config : List ℕ) → config_of (take n bytes) ≡ Ok config → config ≡ take n bytes → FrontConfig bytes (take n bytes)
-front_at n bytes config e same = record { is_text = e ∙ ap Ok same; rest = drop n bytes; text = sym (take-append-drop n bytes) }
+pub front_config : (n : ℕ) (bytes config : List ℕ) → config_of (take n bytes) ≡ Ok config → config ≡ take n bytes → FrontConfig bytes (take n bytes)
+front_config n bytes config e same = record { is_text = e ∙ ap Ok same; rest = drop n bytes; text = sym (take-append-drop n bytes) }

@@ -7,6 +7,7 @@ use Rattle.usb_descriptor.specs.Device.{configuration_count}
 use Rattle.usb_entry.specs.declared.fault.EntryFault.{EntryFault}
 use Rattle.usb_entry.specs.declared.fault.EntryFault.TheVariants.{NoName, Empty, Device, TooMany, Configuration, Missing, LeftOver, Write, Memory}
 use Rattle.usb_entry.specs.EntryData.{FrontConfig, BeginsWithDevice, HasEntryFault, IsDescriptor, IsText, NextFault, BreaksAt}
+use Rattle.usb_descriptor.proofs.Interface.{joined-item}
 
 -- the device descriptor and these configurations are read, up to the offset
 pub record ReadSoFar (bytes device : List ℕ) (configs : List (List ℕ)) (offset : ℕ) : Type 0 where
@@ -17,16 +18,12 @@ pub record ReadSoFar (bytes device : List ℕ) (configs : List (List ℕ)) (offs
   pub text : bytes ≡ device ++ joined configs ++ drop offset bytes
   pub place : offset ≡ length (device ++ joined configs)
 
-joined-push : (configs : List (List ℕ)) (config : List ℕ) → joined (configs ++ config ∷ []) ≡ joined configs ++ config
-joined-push [] config = append-nil config
-joined-push (c ∷ configs) config = ap (λ t. c ++ t) (joined-push configs config) ∙ sym (append_assoc c (joined configs) config)
+texts-push : (configs : List (List ℕ)) (config : List ℕ) → AllByRecursion IsText configs → IsText config → AllByRecursion IsText (configs ++ config ∷ [])
+texts-push [] config h new = (new, tt)
+texts-push (c ∷ configs) config h new = (h.0, texts-push configs config h.1 new)
 
-each-push : (configs : List (List ℕ)) (config : List ℕ) → AllByRecursion IsText configs → IsText config → AllByRecursion IsText (configs ++ config ∷ [])
-each-push [] config h new = (new, tt)
-each-push (c ∷ configs) config h new = (h.0, each-push configs config h.1 new)
-
-pub none_yet : (bytes device : List ℕ) → BeginsWithDevice bytes device → ReadSoFar bytes device [] 18
-none_yet bytes device h = record {
+pub read_so_far_zero : (bytes device : List ℕ) → BeginsWithDevice bytes device → ReadSoFar bytes device [] 18
+read_so_far_zero bytes device h = record {
   is_device = h.is_device;
   few = h.few;
   each = tt;
@@ -36,23 +33,23 @@ none_yet bytes device h = record {
 }
 
 -- the front of one more, where something is left
-pub one_more : (bytes device : List ℕ) (configs : List (List ℕ)) (offset : ℕ) (config : List ℕ) → ReadSoFar bytes device configs offset
+pub read_so_far_more : (bytes device : List ℕ) (configs : List (List ℕ)) (offset : ℕ) (config : List ℕ) → ReadSoFar bytes device configs offset
     → FrontConfig (drop offset bytes) config → length configs < configuration_count device → ReadSoFar bytes device (configs ++ config ∷ []) (offset + length config)
-one_more bytes device configs offset config h new room =
+read_so_far_more bytes device configs offset config h new room =
     let behind : drop (offset + length config) bytes ≡ new.rest = sym (drop-drop (length config) offset bytes) ∙ ap (drop (length config)) new.text ∙ drop_at config new.rest (length config) refl in
-    let front : device ++ joined (configs ++ config ∷ []) ≡ device ++ joined configs ++ config = ap (λ t. device ++ t) (joined-push configs config) ∙ sym (append_assoc device (joined configs) config) in
+    let front : device ++ joined (configs ++ config ∷ []) ≡ device ++ joined configs ++ config = ap (λ t. device ++ t) (joined-item configs config) ∙ sym (append_assoc device (joined configs) config) in
     record {
       is_device = h.is_device;
       few = h.few;
-      each = each-push configs config h.each new.is_text;
+      each = texts-push configs config h.each new.is_text;
       within = omega (arith, length-append configs (config ∷ []));
       text = h.text ∙ ap (λ t. device ++ joined configs ++ t) new.text ∙ sym (append_assoc (device ++ joined configs) config new.rest)
           ∙ ap (λ t. t ++ new.rest) (sym front) ∙ ap (λ t. device ++ joined (configs ++ config ∷ []) ++ t) (sym behind);
       place = ap (λ n. n + length config) h.place ∙ sym (length-append (device ++ joined configs) config) ∙ ap length (sym front);
     }
 
-some_left : (offset : ℕ) (bytes : List ℕ) → offset < length bytes → drop offset bytes ≢ []
-some_left offset bytes lt e = absurd (omega (arith, length-drop offset bytes, ap length e))
+drop-some_left : (offset : ℕ) (bytes : List ℕ) → offset < length bytes → drop offset bytes ≢ []
+drop-some_left offset bytes lt e = absurd (omega (arith, length-drop offset bytes, ap length e))
 
 stops_at : (bytes device : List ℕ) (configs : List (List ℕ)) (offset at : ℕ) (Why : ℕ → List ℕ → Type 0) → ReadSoFar bytes device configs offset → at ≡ offset
     → length configs < configuration_count device → Why (configuration_count device - length configs) (drop offset bytes) → BreaksAt bytes at Why

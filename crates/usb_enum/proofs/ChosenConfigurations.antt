@@ -16,12 +16,12 @@ use Rattle.usb_enum.specs.declared.cause.Request.TheVariants as request
 use Rattle.usb_enum.specs.Verdicts.{verdict, read_verdict, set_verdict, first_fault, texts_below, texts_of, text_read, is_good_text, is_good_hub}
 use Rattle.usb_enum.specs.Device.{is_device, is_hub_device}
 use Rattle.usb_enum.specs.Text.{choice_of, needs_of, any_has_value}
-use Rattle.usb_enum.proofs.SettingValues.{each_good, IsFresh, fresh_text, mapped_at, IsRead, good_read, less_than}
+use Rattle.usb_enum.proofs.SettingValues.{each_good, IsFresh, fresh_text, mapped_at, IsConfigurationRead, good_read, less_than}
 use Rattle.usb_pipe.proofs.Interface.{is_some_byte}
 
 -- What is so of a description that is accepted
 
-pub record Accepts (spec : Spec) (supply chosen : ℕ) : Type 0 where
+pub record AcceptsChosen (spec : Spec) (supply chosen : ℕ) : Type 0 where
   pub loud : spec.silent ≡ false
   pub free : spec.busy ≡ false
   pub good : first_fault spec (configuration_count spec.descriptor) ≡ None
@@ -36,7 +36,7 @@ same_ok : {E : Type 0} (a b : ℕ) → (let r : Result ℕ E = Ok a in r ≡ Ok 
 same_ok a b e = cc e
 
 module _ (spec : Spec) (supply chosen : ℕ) (loud : spec.silent ≡ false) (free : spec.busy ≡ false) where
-  set_by : (o : Option ℕ) → first_fault spec (configuration_count spec.descriptor) ≡ None → choice_of supply (texts_of spec) ≡ o → set_verdict spec (texts_of spec) o ≡ Ok chosen → Accepts spec supply chosen
+  set_by : (o : Option ℕ) → first_fault spec (configuration_count spec.descriptor) ≡ None → choice_of supply (texts_of spec) ≡ o → set_verdict spec (texts_of spec) o ≡ Ok chosen → AcceptsChosen spec supply chosen
   set_by None good e v = absurd (cc v)
   set_by (Some k) good e v =
       let bad : Bool = is_hub_device spec.descriptor && not (is_good_hub spec (slice_index_or (texts_of spec) k [])) in
@@ -51,7 +51,7 @@ module _ (spec : Spec) (supply chosen : ℕ) (loud : spec.silent ≡ false) (fre
         hub = subst (λ i. (is_hub_device spec.descriptor && not (is_good_hub spec (slice_index_or (texts_of spec) i []))) ≡ false) same b.0;
       }
 
-  read_by : (o : Option Cause) → first_fault spec (configuration_count spec.descriptor) ≡ o → read_verdict spec supply o ≡ Ok chosen → Accepts spec supply chosen
+  read_by : (o : Option Cause) → first_fault spec (configuration_count spec.descriptor) ≡ o → read_verdict spec supply o ≡ Ok chosen → AcceptsChosen spec supply chosen
   read_by (Some cause) e v = absurd (cc v)
   read_by None e v = set_by (choice_of supply (texts_of spec)) e refl v
 
@@ -67,7 +67,7 @@ last_row false false false false false true h r n e = absurd (cc e)
 last_row false false false false false false true r n e = absurd (cc e)
 last_row false false false false false false false r n e = (refl, refl, e)
 
-pub accepts : (spec : Spec) (tier supply chosen : ℕ) → verdict spec tier supply ≡ Ok chosen → Accepts spec supply chosen
+pub accepts : (spec : Spec) (tier supply chosen : ℕ) → verdict spec tier supply ≡ Ok chosen → AcceptsChosen spec supply chosen
 unfolding verdict
 accepts spec tier supply chosen e =
     let row =
@@ -96,7 +96,7 @@ found_text (t ∷ ts) (suc c) v text at goods first good value =
 pub record HasChosen (spec : Spec) (chosen : ℕ) : Type 0 where
   pub text : List ℕ
   pub is : slice_index_or (texts_of spec) chosen [] ≡ text_read text
-  pub read : IsRead text
+  pub read : IsConfigurationRead text
   pub found : text_with (slice_index text 5) spec.configs ≡ text
 
 chosen_below : (supply : ℕ) (texts : List (List ℕ)) (chosen : ℕ) → choice_of supply texts ≡ Some chosen → chosen < length texts
@@ -104,12 +104,12 @@ unfolding needs_of
 chosen_below supply texts chosen e =
     subst (λ n. chosen < n) (length-map texts _) (position-Some (λ need. nat_le need supply) (needs_of texts) chosen 0 e).0
 
-pub has_chosen : (spec : Spec) (supply chosen : ℕ) → Accepts spec supply chosen → HasChosen spec chosen
+pub has_chosen : (spec : Spec) (supply chosen : ℕ) → AcceptsChosen spec supply chosen → HasChosen spec chosen
 has_chosen spec supply chosen a =
     let count : ℕ = configuration_count spec.descriptor in
     let at = mapped_at text_read spec.configs count chosen (chosen_below supply (texts_of spec) chosen a.within) in
     let fresh : IsFresh spec chosen at.text = fresh_text spec chosen at.text at.stands (each_good spec count chosen at.below a.good) in
-    let read : IsRead at.text = good_read at.text fresh.good in
+    let read : IsConfigurationRead at.text = good_read at.text fresh.good in
     let within = at.below in
     record {
       text = at.text;

@@ -4,12 +4,12 @@ use Rattle.std.specs.Prelude.{IfErr, IsErrAnd}
 use Rattle.usb_port.specs.Calls.{clear_call}
 use Rattle.usb_request.specs.Features.{PORT_ENABLE}
 use Rattle.usb_world.specs.World.{World}
-use Rattle.usb_bus.specs.Traces.{WentOn}
+use Rattle.usb_bus.specs.Traces.{StepRun}
 use Rattle.usb_pipe.specs.declared.fault.PipeFault.{PipeFault}
 use Rattle.usb_pipe.specs.Control.{FaultAfter}
 use Rattle.usb_hub.specs.declared.port.HubPort.{HubPort}
 use Rattle.usb_hub.specs.Addresses.{KeepsCleared}
-use Rattle.usb_hub.specs.Moments.{CallsPort}
+use Rattle.usb_hub.specs.Moments.{CommandsPort}
 use Rattle.usb_enum.specs.declared.cause.Cause.{Cause}
 use Rattle.usb_enum.specs.declared.fault.EnumFault.{EnumFault}
 use Rattle.usb_enum.specs.declared.finding.Finding.{Finding}
@@ -20,12 +20,12 @@ use Rattle.usb_enum.specs.Addresses.{AtPort, OnlyCalls, Within}
 use Rattle.usb_enum.specs.Findings.{Closes}
 use Rattle.usb_enum.specs.FairEnumerations.{Faulted}
 use Rattle.usb_enum.specs.Losses.{NoNewStretch}
-use Rattle.usb_enum.specs.Stop.{at_port, FaultAt}
+use Rattle.usb_enum.specs.Stop.{at_port, FaultAllowedAt}
 use Rattle.usb_enum.proofs.Endings.{ends_refused, ends_fault}
 use Rattle.usb_enum.proofs.Enumerations.{within_none, within_kept}
 use Rattle.usb_enum.proofs.Fairness.{called_faulted}
 use Rattle.usb_enum.proofs.Frames.{calls_none, disable_calls}
-use Rattle.usb_enum.proofs.ReachedDevices.{disables_none, port_disabled}
+use Rattle.usb_enum.proofs.ReachedDevices.{disables_none, clear_enable_disables}
 
 -- nothing was called
 pub closed_fault : (port : HubPort) (address : ℕ) (why : EnumFault) (w : World) → Closes port address (Fault why) w (Err why) w
@@ -36,17 +36,17 @@ closed_fault port address why w = record {
   lost = λ cause other is e. absurd cc;
 }
 
-module _ (port : HubPort) (address : ℕ) (cause : Cause) (old : World) (outcome : Result (Unit {0}) PipeFault) (new : World) (ends : IfErr outcome (λ why. FaultAfter 1 old why new)) (calls : CallsPort port (clear_call PORT_ENABLE) old outcome new)
+module _ (port : HubPort) (address : ℕ) (cause : Cause) (old : World) (outcome : Result (Unit {0}) PipeFault) (new : World) (ends : IfErr outcome (λ why. FaultAfter 1 old why new)) (calls : CommandsPort port (clear_call PORT_ENABLE) old outcome new)
     (keeps : KeepsCleared port PORT_ENABLE old outcome new) where
   pub closed_refused : outcome ≡ Ok tt → Closes port address (Refused cause) old (Ok (RefusedFinding cause)) new
   closed_refused done = record {
     ends = ends_refused port address old new cause (keeps.bare refl done);
     only = disable_calls port address old outcome new ends calls keeps;
-    there = port_disabled port address cause old outcome new calls done;
+    there = clear_enable_disables port address cause old outcome new calls done;
     lost = λ other why is e. absurd cc;
   }
 
-  pub closed_lost : (n : ℕ) (why : EnumFault) {a b : Option (List ℕ)} → WentOn n old a new b → Err why ≡ at_port outcome → FaultAt port why new → (new.fault ≡ None → NoNewStretch old new) → Closes port address (Refused cause) old (Err why) new
+  pub closed_lost : (n : ℕ) (why : EnumFault) {a b : Option (List ℕ)} → StepRun n old a new b → Err why ≡ at_port outcome → FaultAllowedAt port why new → (new.fault ≡ None → NoNewStretch old new) → Closes port address (Refused cause) old (Err why) new
   closed_lost n why went told fault goes = record {
     ends = ends_fault port address old new why within;
     only = only;

@@ -7,7 +7,7 @@ use Rattle.usb_world.specs.PlanData.{PlanData, IsPlan}
 use Rattle.usb_world.specs.Steps.{Step, AnyStep, Course, here, attempt, root_call, after, opening}
 use Rattle.usb_world.specs.World.{World}
 use Rattle.usb_world.proofs.Interface.{between_course, between_opening, course_then}
-use Rattle.usb_bus.specs.Traces.{Attempts, Traced, still, attempted, called, WentOn}
+use Rattle.usb_bus.specs.Traces.{Attempts, Traced, still, attempted, called, StepRun}
 use Rattle.usb_enum.specs.PresentDevices.{IsInOrder, IsOrderly, IsRegular}
 
 -- the bus was at work, and these were its steps
@@ -16,8 +16,8 @@ pub record AtWork (old new : World) : Type 0 where
   pub course : Course AnyStep old new
 
 -- so it was, where it is at work in the end
-abbrev pub Onward : World → World → Type 0
-Onward w v = v.fault ≡ None → AtWork w v
+abbrev pub OnlyLater : World → World → Type 0
+OnlyLater w v = v.fault ≡ None → AtWork w v
 
 -- a fault that was told is told again
 pub sound_before : (w v : World) {A : Type 0} (result : Result A BusFault) → v.fault ≡ None
@@ -35,14 +35,14 @@ pub attempt_after : {a : Attempt} {w v : World} {t s : Option (List ℕ)} (resul
 attempt_after (Ok outcome) made h = made.exact
 attempt_after (Err fault) made h = absurd (cc (h, made.counts.ends.told))
 
-pub traced_onward : {old : World} {t : Option (List ℕ)} {new : World} {s : Option (List ℕ)} → Traced old t new s → Onward old new
+pub traced_only_later : {old : World} {t : Option (List ℕ)} {new : World} {s : Option (List ℕ)} → Traced old t new s → OnlyLater old new
 unfolding after
-traced_onward {old} still h = record { sound = h; course = here old }
-traced_onward {old} (attempted {w} {v} a result fits before made) h =
-    let work = traced_onward before (attempt_sound result made h) in
+traced_only_later {old} still h = record { sound = h; course = here old }
+traced_only_later {old} (attempted {w} {v} a result fits before made) h =
+    let work = traced_only_later before (attempt_sound result made h) in
     record { sound = work.sound; course = subst (Course AnyStep old) (sym (attempt_after result made h)) (course_then (attempt a) work.course tt) }
-traced_onward (called c port before) h =
-    let work = traced_onward before h in
+traced_only_later (called c port before) h =
+    let work = traced_only_later before h in
     record { sound = work.sound; course = course_then (root_call c port) work.course tt }
 
 -- behind a fault no attempt is made
@@ -59,11 +59,11 @@ traced_faulted (attempted {w = m} {v = v} a result fits before made) fault e =
     )
 traced_faulted (called c port before) fault e = traced_faulted before fault e
 
-pub went_sound : (n : ℕ) (old new : World) {t s : Option (List ℕ)} → WentOn n old t new s → new.fault ≡ None → old.fault ≡ None
-went_sound n old new went h = (traced_onward went.traced h).sound
+pub went_sound : (n : ℕ) (old new : World) {t s : Option (List ℕ)} → StepRun n old t new s → new.fault ≡ None → old.fault ≡ None
+went_sound n old new went h = (traced_only_later went.traced h).sound
 
-pub went_course : (n : ℕ) (old new : World) {t s : Option (List ℕ)} → WentOn n old t new s → new.fault ≡ None → Course AnyStep old new
-went_course n old new went h = (traced_onward went.traced h).course
+pub went_course : (n : ℕ) (old new : World) {t s : Option (List ℕ)} → StepRun n old t new s → new.fault ≡ None → Course AnyStep old new
+went_course n old new went h = (traced_only_later went.traced h).course
 
 -- what is in order stays so
 
@@ -72,12 +72,12 @@ orderly_on was course = between_course course was
 
 pub traced_in_order : {old : World} {t : Option (List ℕ)} {new : World} {s : Option (List ℕ)} → Traced old t new s → IsInOrder old → IsInOrder new
 traced_in_order traced order h =
-    let work = traced_onward traced h in orderly_on (order work.sound) work.course
+    let work = traced_only_later traced h in orderly_on (order work.sound) work.course
 
-pub went_in_order : (n : ℕ) (old new : World) {t s : Option (List ℕ)} → WentOn n old t new s → IsInOrder old → IsInOrder new
+pub went_in_order : (n : ℕ) (old new : World) {t s : Option (List ℕ)} → StepRun n old t new s → IsInOrder old → IsInOrder new
 went_in_order n old new went = traced_in_order went.traced
 
-pub went_regular : (n : ℕ) (old new : World) {t s : Option (List ℕ)} → WentOn n old t new s → IsRegular old → IsRegular new
+pub went_regular : (n : ℕ) (old new : World) {t s : Option (List ℕ)} → StepRun n old t new s → IsRegular old → IsRegular new
 went_regular n old new went = went_in_order n old new went
 
 pub regular_order : {w : World} → IsInOrder w → IsRegular w

@@ -1,14 +1,14 @@
 -- The damages are the same all along, also where the bus gave up.
 use Rattle.std.proofs.Common.{◌≡◌, ℕ, List, Option, refl, ◌∙◌}
-use Rattle.usb_world.specs.Steps.{took, with_attempt}
+use Rattle.usb_world.specs.Steps.{after_event, with_attempt}
 use Rattle.usb_world.specs.World.{World}
 use Rattle.usb_transaction.specs.Failures.{NoThreeDamaged}
 use Rattle.usb_pipe.proofs.Interface.{never_three}
-use Rattle.usb_bus.specs.Traces.{WentOn}
+use Rattle.usb_bus.specs.Traces.{StepRun}
 use Rattle.usb_bus.proofs.Interface.{OverFaults, over_traced}
 
 same_damages : OverFaults (λ w v. v.damages ≡ w.damages)
-unfolding took with_attempt
+unfolding after_event with_attempt
 same_damages = record {
   steps = record {
     events = record { same = λ w. refl; joined = λ w m v x y. y ∙ x; came = λ e es w l. refl };
@@ -20,5 +20,5 @@ same_damages = record {
   told = λ fault w. refl;
 }
 
-pub went_three : (n : ℕ) (old new : World) {t s : Option (List ℕ)} → WentOn n old t new s → NoThreeDamaged old → NoThreeDamaged new
+pub went_three : (n : ℕ) (old new : World) {t s : Option (List ℕ)} → StepRun n old t new s → NoThreeDamaged old → NoThreeDamaged new
 went_three n old new went = never_three old new (over_traced same_damages went.traced)

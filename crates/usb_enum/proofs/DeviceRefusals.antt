@@ -15,12 +15,12 @@ use Rattle.usb_world.specs.declared.types.BusFault.{BusFault}
 use Rattle.usb_world.specs.Devices.{EachWas}
 use Rattle.usb_world.specs.Paths.{address_of}
 use Rattle.usb_world.specs.World.{World}
-use Rattle.usb_world.proofs.Interface.{equal_same, no}
+use Rattle.usb_world.proofs.Interface.{equal_same, false_true}
 use Rattle.usb_transaction.specs.declared.target.Target.{Target}
 use Rattle.usb_transaction.specs.Answerer.{HadOne}
 use Rattle.usb_transaction.specs.Failures.{NoThreeDamaged}
-use Rattle.usb_address.specs.Claims.{Claims}
-use Rattle.usb_address.specs.Ownership.{Owned}
+use Rattle.usb_address.specs.Claims.{AddressMap}
+use Rattle.usb_address.specs.Ownership.{MapHolds}
 use Rattle.usb_address.proofs.Interface.{same_setup}
 use Rattle.usb_pipe.specs.Control.{FaultAfter}
 use Rattle.usb_pipe.specs.Stages.{Reads}
@@ -28,16 +28,16 @@ use Rattle.usb_pipe.specs.Leaves.{IsTransferAnswer}
 use Rattle.usb_pipe.proofs.Interface.{who_read_had}
 use Rattle.usb_pipe.specs.declared.fault.PipeFault.{PipeFault}
 use Rattle.usb_pipe.specs.declared.fault.PipeFault.TheVariants as pipe
-use Rattle.usb_hub.specs.GivenAnswers.{unless_refused, device_given, HasText, DeviceAsked, WhyAsked}
+use Rattle.usb_hub.specs.GivenAnswers.{unless_refused, device_given, HasText, DeviceAsked, ReadFailure}
 use Rattle.usb_hub.specs.Addresses.{IsClaimed, KeepsAnswered}
-use Rattle.usb_hub.specs.Requests.{AskedData, EndsAfter}
+use Rattle.usb_hub.specs.Requests.{Queried, EndsAfter}
 use Rattle.usb_enum.specs.declared.cause.Cause.{Cause}
 use Rattle.usb_enum.specs.declared.cause.Cause.TheVariants.{Stalled, BadDevice}
 use Rattle.usb_enum.specs.declared.cause.Request.TheVariants as request
 use Rattle.usb_enum.specs.declared.stop.Stop.{Stop}
 use Rattle.usb_enum.specs.declared.stop.Stop.TheVariants.{Refused}
 use Rattle.usb_enum.specs.Device.{is_device, device_bytes}
-use Rattle.usb_enum.specs.LearnedFacts.{Explains}
+use Rattle.usb_enum.specs.LearnedFacts.{FailureReason}
 use Rattle.usb_enum.specs.Parts.{Both, StopsDescriptor}
 use Rattle.usb_enum.specs.PresentDevices.{AnswersSo, HasDescriptor}
 use Rattle.usb_enum.specs.Readings.{AtMaximum}
@@ -46,7 +46,7 @@ use Rattle.usb_enum.specs.Refusals.{IsResponsive, IsRefusedFor, Refuses, FindsDe
 use Rattle.usb_enum.specs.Stop.{stop_of, answered_or}
 use Rattle.usb_enum.proofs.Heads.{answered}
 use Rattle.usb_enum.proofs.Stretches.{device_goes}
-use Rattle.usb_enum.proofs.Refusals.{answered_ok, Fails, answered_err, learned_explains, failure_explains, stop_explains, request_refused}
+use Rattle.usb_enum.proofs.Refusals.{answered_ok, FailsForSpec, answered_err, learned_explains, failure_explains, stop_explains, request_refused}
 
 device_stalls : {X : Type 0} (refused : Bool) (given : X) → unless_refused refused (Some given) ≡ None → refused ≡ true
 device_stalls true given none = refl
@@ -54,7 +54,7 @@ device_stalls false given none = absurd cc
 
 -- Its head
 
-head_failed : (low : Bool) (spec : Spec) (fault : PipeFault) → Fails device_given fault spec → IsRefusedFor (head_fault low) (unwrap_or (stop_of fault) (Refused (Stalled request.Device))) spec
+head_failed : (low : Bool) (spec : Spec) (fault : PipeFault) → FailsForSpec device_given fault spec → IsRefusedFor (head_fault low) (unwrap_or (stop_of fault) (Refused (Stalled request.Device))) spec
 unfolding head_fault
 head_failed low spec pipe.Stalled why = rw (why.0, why.1, device_stalls spec.stalls.device spec.descriptor why.2) refl
 head_failed low spec pipe.Busy why = rw (why.0, why.1) refl
@@ -69,13 +69,13 @@ head_malformed low spec loud free device bad = rw (loud, free, device, bad) refl
 
 pub head_unanswered : (t : Target) (outcome : Result (Vec ℕ) PipeFault) (stop : Stop) (old new : World) → answered_or (Stalled request.Device) outcome ≡ Err stop → 8 ≤ t.max
     → (new.shared ≡ false → EachWas (DeviceAsked t 8 outcome) old new)
-    → (NoThreeDamaged old → 8 ≤ t.max → new.shared ≡ false → EachWas (WhyAsked t 8 outcome) old new) → Explains (IsRefusedFor (head_fault t.low) stop) t old new
+    → (NoThreeDamaged old → 8 ≤ t.max → new.shared ≡ false → EachWas (ReadFailure t 8 outcome) old new) → FailureReason (IsRefusedFor (head_fault t.low) stop) t old new
 head_unanswered t outcome stop old new is least what why =
     stop_explains device_given (λ s bytes. HasText (device_given s.spec) t 8 s bytes.items) t 8 outcome old new what least why
     (IsRefusedFor (head_fault t.low)) (Stalled request.Device) stop is (λ spec fault fails. head_failed t.low spec fault (fails (inr (omega arith))))
 
 pub head_refused : (t : Target) (bytes : Vec ℕ) (fault : DescriptorFault) (stalled : Cause) (outcome : Result (Vec ℕ) PipeFault) (old new : World) → answered_or stalled outcome ≡ Ok bytes → device_head_of t.low bytes.items ≡ Err fault
-    → EndsAfter 3 old outcome new → KeepsAnswered t.addr old outcome new → (new.shared ≡ false → EachWas (DeviceAsked t 8 outcome) old new) → Explains (IsRefusedFor (head_fault t.low) (Refused BadDevice)) t old new
+    → EndsAfter 3 old outcome new → KeepsAnswered t.addr old outcome new → (new.shared ≡ false → EachWas (DeviceAsked t 8 outcome) old new) → FailureReason (IsRefusedFor (head_fault t.low) (Refused BadDevice)) t old new
 head_refused t bytes fault stalled outcome old new e bad ends addresses what =
     let So : Spec → Type 0 = IsRefusedFor (head_fault t.low) (Refused BadDevice) in
     learned_explains So So t old new (λ spec x. x)
@@ -95,7 +95,7 @@ device_malformed low spec device bad = rw (device, bad) refl
 
 pub descriptor_unanswered : (t : Target) (outcome : Result (Vec ℕ) PipeFault) (stop : Stop) (old new : World) → answered_or (Stalled request.Device) outcome ≡ Err stop → 8 ≤ t.max
     → (new.shared ≡ false → EachWas (DeviceAsked t 18 outcome) old new)
-    → (NoThreeDamaged old → 8 ≤ t.max → new.shared ≡ false → EachWas (WhyAsked t 18 outcome) old new) → Explains (Refuses t (device_fault t.low) stop) t old new
+    → (NoThreeDamaged old → 8 ≤ t.max → new.shared ≡ false → EachWas (ReadFailure t 18 outcome) old new) → FailureReason (Refuses t (device_fault t.low) stop) t old new
 descriptor_unanswered t outcome stop old new is least what why =
     request_refused device_given (λ s bytes. HasText (device_given s.spec) t 18 s bytes.items) t 18 outcome old new what least why
     (device_fault t.low) (Stalled request.Device) stop is (device_ungiven t.low)
@@ -103,23 +103,23 @@ descriptor_unanswered t outcome stop old new is least what why =
 -- a responsive device gives an answer
 pub descriptor_none : (t : Target) (outcome : Result (Vec ℕ) PipeFault) (old new : World) → outcome ≡ Err pipe.NoAnswer → 8 ≤ t.max
     → (new.shared ≡ false → EachWas (DeviceAsked t 18 outcome) old new)
-    → (NoThreeDamaged old → 8 ≤ t.max → new.shared ≡ false → EachWas (WhyAsked t 18 outcome) old new) → AskedData t (get_device_descriptor 18) old outcome new → FindsDescriptor t old new None
+    → (NoThreeDamaged old → 8 ≤ t.max → new.shared ≡ false → EachWas (ReadFailure t 18 outcome) old new) → Queried t (get_device_descriptor 18) old outcome new → FindsDescriptor t old new None
 descriptor_none t outcome old new is least what why asked = record {
   goes = device_goes t 18 outcome old new asked;
   why =
       failure_explains device_given (λ s bytes. HasText (device_given s.spec) t 18 s bytes.items) t 18 outcome old new what least why
-      (λ spec. IsResponsive t spec → ⊥) pipe.NoAnswer is (λ spec fails r. no (sym r.loud ∙ fails (inl r.max)));
+      (λ spec. IsResponsive t spec → ⊥) pipe.NoAnswer is (λ spec fails r. false_true (sym r.loud ∙ fails (inl r.max)));
 }
 
 -- who answered where it is refused
 
-had_claims : (f : Claims) (t : Target) (w : World) → Owned f w → HadOne t w → (p : List ℕ) × (f p ≡ Some t.addr)
+had_claims : (f : AddressMap) (t : Target) (w : World) → MapHolds f w → HadOne t w → (p : List ℕ) × (f p ≡ Some t.addr)
 had_claims f t w owned h = (
   path_to h.spot,
   sym (owned.own (path_to h.spot) h.on) ∙ ap (option_map address_of) h.stands ∙ ap (λ n. Some n) (equal_same (address_of h.state) t.addr h.at),
 )
 
-module _ (t : Target) (outcome : Result (Vec ℕ) PipeFault) (old new : World) (asked : AskedData t (get_device_descriptor 18) old outcome new) (addresses : KeepsAnswered t.addr old outcome new) where
+module _ (t : Target) (outcome : Result (Vec ℕ) PipeFault) (old new : World) (asked : Queried t (get_device_descriptor 18) old outcome new) (addresses : KeepsAnswered t.addr old outcome new) where
   failed_who : (fault : PipeFault) → outcome ≡ Err fault → IsTransferAnswer fault → old.fault ≡ None → IsClaimed t.addr old
   unfolding get_device_descriptor
   failed_who fault e is sound = record {
@@ -147,7 +147,7 @@ module _ (t : Target) (outcome : Result (Vec ℕ) PipeFault) (old new : World) (
   answered_who stalled bytes told = (subst (λ r. KeepsAnswered t.addr old r new) (answered_ok stalled outcome bytes told) addresses).who
 
 pub descriptor_refused : (t : Target) (bytes : Vec ℕ) (stalled : Cause) (outcome : Result (Vec ℕ) PipeFault) (old new : World) → answered_or stalled outcome ≡ Ok bytes → is_device t.low (take 18 bytes.items) ≡ false
-    → EndsAfter 3 old outcome new → KeepsAnswered t.addr old outcome new → (new.shared ≡ false → EachWas (DeviceAsked t 18 outcome) old new) → Explains (Refuses t (device_fault t.low) (Refused BadDevice)) t old new
+    → EndsAfter 3 old outcome new → KeepsAnswered t.addr old outcome new → (new.shared ≡ false → EachWas (DeviceAsked t 18 outcome) old new) → FailureReason (Refuses t (device_fault t.low) (Refused BadDevice)) t old new
 descriptor_refused t bytes stalled outcome old new e bad ends addresses what =
     let So : Spec → Type 0 = AtMaximum t (λ spec. device_fault t.low spec ≡ Some BadDevice) in
     learned_explains So (Refuses t (device_fault t.low) (Refused BadDevice)) t old new (λ spec x r. x r.max)
@@ -159,17 +159,17 @@ descriptor_refused t bytes stalled outcome old new e bad ends addresses what =
 pub no_answer : {A : Type 0} (E : A → A → Bool) (F : PipeFault → PipeFault → Bool) (outcome : Result A PipeFault) → result_eq E F outcome (Err pipe.NoAnswer) ≡ true
     → F pipe.Stalled pipe.NoAnswer ≡ false → F pipe.Busy pipe.NoAnswer ≡ false → F pipe.Broken pipe.NoAnswer ≡ false → ((why : BusFault) → F (pipe.Bus why) pipe.NoAnswer ≡ false) → F pipe.Memory pipe.NoAnswer ≡ false
     → outcome ≡ Err pipe.NoAnswer
-no_answer E F (Ok x) is a b c d e = no is
-no_answer E F (Err pipe.Stalled) is a b c d e = no (sym a ∙ is)
-no_answer E F (Err pipe.Busy) is a b c d e = no (sym b ∙ is)
+no_answer E F (Ok x) is a b c d e = false_true is
+no_answer E F (Err pipe.Stalled) is a b c d e = false_true (sym a ∙ is)
+no_answer E F (Err pipe.Busy) is a b c d e = false_true (sym b ∙ is)
 no_answer E F (Err pipe.NoAnswer) is a b c d e = refl
-no_answer E F (Err pipe.Broken) is a b c d e = no (sym c ∙ is)
-no_answer E F (Err (pipe.Bus why)) is a b c d e = no (sym (d why) ∙ is)
-no_answer E F (Err pipe.Memory) is a b c d e = no (sym e ∙ is)
+no_answer E F (Err pipe.Broken) is a b c d e = false_true (sym c ∙ is)
+no_answer E F (Err (pipe.Bus why)) is a b c d e = false_true (sym (d why) ∙ is)
+no_answer E F (Err pipe.Memory) is a b c d e = false_true (sym e ∙ is)
 
 -- where it is told different, it is not
 pub some_answer : {A : Type 0} (E : A → A → Bool) (F : PipeFault → PipeFault → Bool) (outcome : Result A PipeFault) → result_eq E F outcome (Err pipe.NoAnswer) ≡ false → F pipe.NoAnswer pipe.NoAnswer ≡ true → outcome ≡ Err pipe.NoAnswer → ⊥
-some_answer E F outcome differs same e = no (sym differs ∙ ap (λ o. result_eq E F o (Err pipe.NoAnswer)) e ∙ same)
+some_answer E F outcome differs same e = false_true (sym differs ∙ ap (λ o. result_eq E F o (Err pipe.NoAnswer)) e ∙ same)
 
 -- it is too short
 pub short_device : (low : Bool) (bytes : List ℕ) → length bytes < 18 → is_device low (take 18 bytes) ≡ false

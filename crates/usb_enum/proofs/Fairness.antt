@@ -7,28 +7,28 @@ use Rattle.usb_port.specs.PortState.{PortState}
 use Rattle.usb_port.proofs.Interface.{parent}
 use Rattle.usb_port.specs.declared.call.PortCall.{PortCall}
 use Rattle.usb_device.specs.Rows.{State}
-use Rattle.usb_device.specs.Tree.{Ports, ended, vacant, taken, reach, state_at, port_at, Spot, path_to, reach_on, state_on}
+use Rattle.usb_device.specs.Tree.{Ports, ended, vacant, taken, reach, state_at, port_at, Location, path_to, reach_on, state_on}
 use Rattle.usb_device.specs.View.{state_there, port_there}
-use Rattle.usb_world.specs.Courses.{Spares}
+use Rattle.usb_world.specs.Courses.{KeepsPendingAt}
 use Rattle.usb_world.specs.Devices.{Was}
-use Rattle.usb_world.specs.Paths.{is_way, live, pend}
+use Rattle.usb_world.specs.Paths.{is_way, has_power, pending}
 use Rattle.usb_world.specs.AttemptPackets.{deep_at}
 use Rattle.usb_world.specs.PlanCourses.{spec_of}
-use Rattle.usb_world.specs.RestingPorts.{AsksNothingOf, SameAt, RestsOrPends, StandsOrPends}
-use Rattle.usb_world.specs.SanePorts.{IsSane}
+use Rattle.usb_world.specs.RestingPorts.{LeavesPortAlone, SameAt, UnchangedOrPending, SameDeviceOrPending}
+use Rattle.usb_world.specs.SanePorts.{Consistent}
 use Rattle.usb_world.specs.Steps.{Course}
 use Rattle.usb_world.specs.World.{World}
-use Rattle.usb_world.proofs.Interface.{course_wider, no, pending_persists, reach_live, rests_or_pends, stands_or_pends}
-use Rattle.usb_bus.specs.Traces.{WentOn}
+use Rattle.usb_world.proofs.Interface.{course_wider, false_true, pending_persists, reach_live, rests_or_pends, stands_or_pends}
+use Rattle.usb_bus.specs.Traces.{StepRun}
 use Rattle.usb_transaction.specs.declared.target.Target.{Target}
-use Rattle.usb_address.specs.Claims.{Claims}
+use Rattle.usb_address.specs.Claims.{AddressMap}
 use Rattle.usb_address.proofs.Interface.{live_port, not_way, pend_or_live}
 use Rattle.usb_pipe.specs.declared.fault.PipeFault.{PipeFault}
 use Rattle.usb_pipe.specs.declared.fault.PipeFault.TheVariants as pipe
 use Rattle.usb_hub.specs.declared.port.HubPort.{HubPort}
 use Rattle.usb_hub.specs.declared.port.HubPort.TheVariants.{Root, External}
 use Rattle.usb_hub.specs.Addresses.{IsAt, IsBelow, StaysAs}
-use Rattle.usb_hub.specs.CallFailures.{HasPort, Serves, NoHubFailed}
+use Rattle.usb_hub.specs.CallFailures.{HasPort, HubServes, NoHubFailed}
 use Rattle.usb_hub.proofs.Interface.{stays-registers, stays-spec}
 use Rattle.usb_enum.specs.declared.cause.Cause.{Cause}
 use Rattle.usb_enum.specs.declared.fault.EnumFault.{EnumFault}
@@ -38,19 +38,19 @@ use Rattle.usb_enum.specs.declared.stop.Stop.TheVariants.{Refused, Fault}
 use Rattle.usb_device.specs.Spec.{Spec}
 use Rattle.usb_enum.specs.Addresses.{IsSpare, AtPort}
 use Rattle.usb_enum.specs.Calls.{CalledAt, StatusAt}
-use Rattle.usb_enum.specs.FairEnumerations.{ServesAt, HasServer, IsFairAt, PendsOr, FaultsFor, StopsFor, StopsFairly, Faulted}
+use Rattle.usb_enum.specs.FairEnumerations.{ServesAt, HasServer, IsFairAt, PendingOr, FaultsFor, StopsFor, StopsFairly, Faulted}
 use Rattle.usb_enum.specs.Frames.{OnlyAt}
 use Rattle.usb_enum.specs.Places.{IsOccupied, IsReachedAt}
 use Rattle.usb_enum.specs.PresentDevices.{AtPath}
-use Rattle.usb_enum.specs.Stop.{at_port, FaultAt, FaultTold}
+use Rattle.usb_enum.specs.Stop.{at_port, FaultAllowedAt, FaultAllowed}
 use Rattle.usb_enum.proofs.Courses.{went_sound, went_in_order, went_course}
 use Rattle.usb_enum.proofs.Damages.{went_three}
 use Rattle.usb_enum.proofs.Losses.{few_before}
-use Rattle.usb_enum.proofs.ReachedDevices.{some_of, standing, occupied_on}
+use Rattle.usb_enum.proofs.ReachedDevices.{some_of, is_some-state, occupied_on}
 
 -- The hub of a port
 
-module _ (f : Claims) (hub : Target) (n : ℕ) (p : List ℕ) (at : IsBelow f hub.addr n p) where
+module _ (f : AddressMap) (hub : Target) (n : ℕ) (p : List ℕ) (at : IsBelow f hub.addr n p) where
   pub parent_is : parent_of p ≡ Some at.hub
   parent_is = ap parent_of at.path ∙ parent at.hub n at.is_path.0
 
@@ -58,18 +58,18 @@ module _ (f : Claims) (hub : Target) (n : ℕ) (p : List ℕ) (at : IsBelow f hu
   apart = ap (λ x. is_way x at.hub) at.path ∙ not_way at.hub n
 
   module _ (old new : World) (only : OnlyAt p old new) where
-    hub_asks : Course (AsksNothingOf at.hub) old new
+    hub_asks : Course (LeavesPortAlone at.hub) old new
     hub_asks = only.others at.hub apart
 
-    hub_pends_on : pend old.roots at.hub ≡ true → pend new.roots at.hub ≡ true
+    hub_pends_on : pending old.roots at.hub ≡ true → pending new.roots at.hub ≡ true
     hub_pends_on h = pending_persists at.hub (course_wider (λ s w k. k.spares) hub_asks) h
 
-    module _ (sane : IsSane old.roots) (was : ServesAt hub n at.hub old) where
-      abbrev j : Spot
+    module _ (sane : Consistent old.roots) (was : ServesAt hub n at.hub old) where
+      abbrev j : Location
       j = was.serves.spot
 
-      hub_live : live old.roots at.hub ≡ true
-      hub_live = subst (λ q. live old.roots q ≡ true) (sym was.there) (reach_live old.roots j.row j.rest sane was.serves.on)
+      hub_live : has_power old.roots at.hub ≡ true
+      hub_live = subst (λ q. has_power old.roots q ≡ true) (sym was.there) (reach_live old.roots j.row j.rest sane was.serves.on)
 
       hub_served : (v : State) → reach_on new.roots j ≡ true → state_on new.roots j ≡ Some v → ServesAt hub n at.hub new
       hub_served v on there =
@@ -100,57 +100,57 @@ module _ (f : Claims) (hub : Target) (n : ℕ) (p : List ℕ) (at : IsBelow f hu
       hub_same same =
           let on : reach_on new.roots j ≡ true = subst (λ q. reach new.roots q ≡ reach old.roots q) was.there same.on ∙ was.serves.on in
           let what = subst (λ q. option_map spec_of (state_there new.roots q) ≡ option_map spec_of (state_there old.roots q)) was.there same.what in
-          let v = standing (state_on new.roots j) (some_of (state_on old.roots j) (state_on new.roots j) what (ap is_some was.serves.stands)) in
+          let v = is_some-state (state_on new.roots j) (some_of (state_on old.roots j) (state_on new.roots j) what (ap is_some was.serves.stands)) in
           hub_served v.0 on v.1
 
-      serves_on : (pend new.roots at.hub ≡ true) ⊎ ServesAt hub n at.hub new
+      serves_on : (pending new.roots at.hub ≡ true) ⊎ ServesAt hub n at.hub new
       serves_on = pick (rests_or_pends at.hub hub_asks hub_live)
         where
-          pick : RestsOrPends old new at.hub → (pend new.roots at.hub ≡ true) ⊎ ServesAt hub n at.hub new
+          pick : UnchangedOrPending old new at.hub → (pending new.roots at.hub ≡ true) ⊎ ServesAt hub n at.hub new
           pick (inl y) = inr (hub_same y.1)
           pick (inr y) = inl y
 
-pub server_on : (f : Claims) (port : HubPort) (p : List ℕ) → IsAt f port p → (old new : World) → IsSane old.roots → OnlyAt p old new → HasServer port p old → HasServer port p new
+pub server_on : (f : AddressMap) (port : HubPort) (p : List ℕ) → IsAt f port p → (old new : World) → Consistent old.roots → OnlyAt p old new → HasServer port p old → HasServer port p new
 server_on f (Root n) p at old new sane only server = tt
 server_on f (External hub n) p at old new sane only server =
-    let P : World → List ℕ → Type 0 = λ w q. (pend w.roots q ≡ true) ⊎ ServesAt hub n q w in
+    let P : World → List ℕ → Type 0 = λ w q. (pending w.roots q ≡ true) ⊎ ServesAt hub n q w in
     subst (λ o. IsSomeAnd o (P new)) (sym (parent_is f hub n p at)) (pick (subst (λ o. IsSomeAnd o (P old)) (parent_is f hub n p at) server))
   where
-    pick : (pend old.roots at.hub ≡ true) ⊎ ServesAt hub n at.hub old → (pend new.roots at.hub ≡ true) ⊎ ServesAt hub n at.hub new
+    pick : (pending old.roots at.hub ≡ true) ⊎ ServesAt hub n at.hub old → (pending new.roots at.hub ≡ true) ⊎ ServesAt hub n at.hub new
     pick (inl h) = inl (hub_pends_on f hub n p at old new only h)
     pick (inr h) = serves_on f hub n p at old new only sane h
 
 -- a hub that serves its port is not lost
-pub hub_lost : (f : Claims) (port : HubPort) (p : List ℕ) → IsAt f port p → (why : EnumFault) (new : World) → FaultAt port why new → HasServer port p new
-    → ((hub : Target) (n : ℕ) → port ≡ External hub n → why ≡ fault.ParentLost → (serves : Serves hub n new) → p ≡ path_to serves.spot ++ (n ∷ []) → 8 ≤ hub.max → pend new.roots (path_to serves.spot) ≡ true) → FaultsFor p why new
-hub_lost f port p at (fault.Bus why) new told server denies = tt
-hub_lost f port p at fault.Memory new told server denies = tt
-hub_lost f (Root n) p at fault.ParentLost new told server denies = absurd told
-hub_lost f (External hub n) p at fault.ParentLost new told server denies =
-    let P : List ℕ → Type 0 = λ q. (pend new.roots q ≡ true) ⊎ ServesAt hub n q new in
-    subst (λ o. IsSomeAnd o (λ q. pend new.roots q ≡ true)) (sym (parent_is f hub n p at)) (pick (subst (λ o. IsSomeAnd o P) (parent_is f hub n p at) server))
+pub lost_hub_faults : (f : AddressMap) (port : HubPort) (p : List ℕ) → IsAt f port p → (why : EnumFault) (new : World) → FaultAllowedAt port why new → HasServer port p new
+    → ((hub : Target) (n : ℕ) → port ≡ External hub n → why ≡ fault.ParentLost → (serves : HubServes hub n new) → p ≡ path_to serves.spot ++ (n ∷ []) → 8 ≤ hub.max → pending new.roots (path_to serves.spot) ≡ true) → FaultsFor p why new
+lost_hub_faults f port p at (fault.Bus why) new told server denies = tt
+lost_hub_faults f port p at fault.Memory new told server denies = tt
+lost_hub_faults f (Root n) p at fault.ParentLost new told server denies = absurd told
+lost_hub_faults f (External hub n) p at fault.ParentLost new told server denies =
+    let P : List ℕ → Type 0 = λ q. (pending new.roots q ≡ true) ⊎ ServesAt hub n q new in
+    subst (λ o. IsSomeAnd o (λ q. pending new.roots q ≡ true)) (sym (parent_is f hub n p at)) (pick (subst (λ o. IsSomeAnd o P) (parent_is f hub n p at) server))
   where
-    pick : (pend new.roots at.hub ≡ true) ⊎ ServesAt hub n at.hub new → pend new.roots at.hub ≡ true
+    pick : (pending new.roots at.hub ≡ true) ⊎ ServesAt hub n at.hub new → pending new.roots at.hub ≡ true
     pick (inl h) = h
-    pick (inr h) = subst (λ q. pend new.roots q ≡ true) (sym h.there) (denies hub n refl refl h.serves (at.path ∙ ap (λ q. q ++ (n ∷ [])) h.there) h.wide)
+    pick (inr h) = subst (λ q. pending new.roots q ≡ true) (sym h.there) (denies hub n refl refl h.serves (at.path ∙ ap (λ q. q ++ (n ∷ [])) h.there) h.wide)
 
 -- a served call loses no hub
-pub unserved : {A : Type 0} (outcome : Result A PipeFault) (why : EnumFault) → Err why ≡ at_port outcome → why ≡ fault.ParentLost → NoHubFailed outcome → ⊥
-unserved (Ok x) why told lost served = cc
-unserved (Err pipe.Stalled) why told lost served = served
-unserved (Err pipe.Busy) why told lost served = served
-unserved (Err pipe.NoAnswer) why told lost served = served
-unserved (Err pipe.Broken) why told lost served = served
-unserved (Err (pipe.Bus f)) why told lost served = cc
-unserved (Err pipe.Memory) why told lost served = cc
+pub parent_lost_not_served : {A : Type 0} (outcome : Result A PipeFault) (why : EnumFault) → Err why ≡ at_port outcome → why ≡ fault.ParentLost → NoHubFailed outcome → ⊥
+parent_lost_not_served (Ok x) why told lost served = cc
+parent_lost_not_served (Err pipe.Stalled) why told lost served = served
+parent_lost_not_served (Err pipe.Busy) why told lost served = served
+parent_lost_not_served (Err pipe.NoAnswer) why told lost served = served
+parent_lost_not_served (Err pipe.Broken) why told lost served = served
+parent_lost_not_served (Err (pipe.Bus f)) why told lost served = cc
+parent_lost_not_served (Err pipe.Memory) why told lost served = cc
 
 -- What is fair
 
 -- no device at the port has taken its address yet
-pub held_spare : (f : Claims) (port : HubPort) (p : List ℕ) (address : ℕ) → IsSpare f port p address → IsSpare f port p 0
+pub held_spare : (f : AddressMap) (port : HubPort) (p : List ℕ) (address : ℕ) → IsSpare f port p address → IsSpare f port p 0
 held_spare f port p address spare = record { at = spare.at; free = spare.free; none = spare.none; spare = spare.none }
 
-module _ (f : Claims) (port : HubPort) (p : List ℕ) (address m n : ℕ) {old mid new : World} {a b c d : Option (List ℕ)} (first : WentOn m old a mid b) (second : WentOn n mid c new d) (fair : IsFairAt f port p address old new) where
+module _ (f : AddressMap) (port : HubPort) (p : List ℕ) (address m n : ℕ) {old mid new : World} {a b c d : Option (List ℕ)} (first : StepRun m old a mid b) (second : StepRun n mid c new d) (fair : IsFairAt f port p address old new) where
   pub fair_sound : mid.fault ≡ None
   fair_sound = went_sound n mid new second fair.working
 
@@ -184,99 +184,99 @@ module _ (f : Claims) (port : HubPort) (p : List ℕ) (address m n : ℕ) {old m
       }
 
 -- what calls at the port keep
-pub fair_only : (f : Claims) (port : HubPort) (p : List ℕ) (address : ℕ) {old new : World} → IsFairAt f port p address old new → AtPort port address old new → OnlyAt p old new
+pub fair_only : (f : AddressMap) (port : HubPort) (p : List ℕ) (address : ℕ) {old new : World} → IsFairAt f port p address old new → AtPort port address old new → OnlyAt p old new
 fair_only f port p address fair at = at.only.at f p fair.spare fair.held fair.working
 
-pub fair_single : (f : Claims) (port : HubPort) (p : List ℕ) (address : ℕ) {old new : World} → IsFairAt f port p address old new → AtPort port address old new → new.shared ≡ false
+pub fair_single : (f : AddressMap) (port : HubPort) (p : List ℕ) (address : ℕ) {old new : World} → IsFairAt f port p address old new → AtPort port address old new → new.shared ≡ false
 fair_single f port p address fair at = (at.within.stays f p fair.spare fair.held).single
 
 -- Calls at the port
 
-pub called_faulted : (port : HubPort) (address n : ℕ) (call : Option PortCall) (why : EnumFault) {old new : World} {a b : Option (List ℕ)} → WentOn n old a new b → AtPort port address old new → FaultAt port why new → CalledAt port call old (Err why) new
+pub called_faulted : (port : HubPort) (address n : ℕ) (call : Option PortCall) (why : EnumFault) {old new : World} {a b : Option (List ℕ)} → StepRun n old a new b → AtPort port address old new → FaultAllowedAt port why new → CalledAt port call old (Err why) new
     → Faulted port address why old new
 called_faulted port address n call why {old} {new} went at told called = record { why = lost }
   where
-    lost : (f : Claims) (p : List ℕ) → IsFairAt f port p address old new → FaultsFor p why new
+    lost : (f : AddressMap) (p : List ℕ) → IsFairAt f port p address old new → FaultsFor p why new
     lost f p fair =
-        hub_lost f port p fair.spare.at why new told (server_on f port p fair.spare.at old new (fair.order (went_sound n old new went fair.working)).sane (fair_only f port p address fair at) fair.server)
-        (λ hub i is parent serves there wide. absurd (unserved called.outcome why called.told parent (called.calls.why hub i is fair.few (fair_single f port p address fair at) serves)))
+        lost_hub_faults f port p fair.spare.at why new told (server_on f port p fair.spare.at old new (fair.order (went_sound n old new went fair.working)).sane (fair_only f port p address fair at) fair.server)
+        (λ hub i is parent serves there wide. absurd (parent_lost_not_served called.outcome why called.told parent (called.calls.why hub i is fair.few (fair_single f port p address fair at) serves)))
 
 -- a port stands where its change of connection is pending and that of its hub is not, and where a device stands
 
 state_port : (k : Ports) (j : ℕ) (p : List ℕ) → IsSome (state_at k j p) → IsSome (port_at k j p)
 unfolding state_at port_at
-state_port ended j p h = no h
-state_port (vacant b k) zero p h = no h
+state_port ended j p h = false_true h
+state_port (vacant b k) zero p h = false_true h
 state_port (vacant b k) (suc j) p h = state_port k j p h
 state_port (taken b s a k) zero [] h = refl
-state_port (taken b s a k) zero (zero ∷ p) h = no h
+state_port (taken b s a k) zero (zero ∷ p) h = false_true h
 state_port (taken b s a k) zero (suc i ∷ p) h = state_port a i p h
 state_port (taken b s a k) (suc j) p h = state_port k j p h
 
-stands_at : (o : Option PortState) → IsSome o → (b : PortState) × (o ≡ Some b)
-stands_at None some = no some
-stands_at (Some b) some = (b, refl)
+is_some-port : (o : Option PortState) → IsSome o → (b : PortState) × (o ≡ Some b)
+is_some-port None some = false_true some
+is_some-port (Some b) some = (b, refl)
 
-pub port_stands : (k : Ports) (p : List ℕ) → IsSome (state_there k p) → (b : PortState) × (port_there k p ≡ Some b)
-port_stands k [] some = no some
-port_stands k (zero ∷ p) some = no some
-port_stands k (suc j ∷ p) some = stands_at (port_at k j p) (state_port k j p some)
+pub state_there-port : (k : Ports) (p : List ℕ) → IsSome (state_there k p) → (b : PortState) × (port_there k p ≡ Some b)
+state_there-port k [] some = false_true some
+state_there-port k (zero ∷ p) some = false_true some
+state_there-port k (suc j ∷ p) some = is_some-port (port_at k j p) (state_port k j p some)
 
 -- where no change is pending at its hub
-hub_port : (w : World) (j : Spot) (n : ℕ) → IsOccupied w (path_to j ++ (n ∷ [])) → (pend w.roots (path_to j) ≡ true) ⊎ IsSome (port_there w.roots (path_to j ++ (n ∷ [])))
-hub_port w j n (inl h) = pick (pend_or_live w.roots (path_to j) n h)
+occupied_port_there : (w : World) (j : Location) (n : ℕ) → IsOccupied w (path_to j ++ (n ∷ [])) → (pending w.roots (path_to j) ≡ true) ⊎ IsSome (port_there w.roots (path_to j ++ (n ∷ [])))
+occupied_port_there w j n (inl h) = pick (pend_or_live w.roots (path_to j) n h)
   where
-    pick : (live w.roots (path_to j ++ (n ∷ [])) ≡ true) ⊎ (pend w.roots (path_to j) ≡ true) → (pend w.roots (path_to j) ≡ true) ⊎ IsSome (port_there w.roots (path_to j ++ (n ∷ [])))
+    pick : (has_power w.roots (path_to j ++ (n ∷ [])) ≡ true) ⊎ (pending w.roots (path_to j) ≡ true) → (pending w.roots (path_to j) ≡ true) ⊎ IsSome (port_there w.roots (path_to j ++ (n ∷ [])))
     pick (inl on) = inr (subst IsSome (sym (live_port w.roots (path_to j ++ (n ∷ [])) on).1) refl)
     pick (inr above) = inl above
-hub_port w j n (inr h) = inr (state_port w.roots j.row (j.rest ++ (n ∷ [])) h.1)
+occupied_port_there w j n (inr h) = inr (state_port w.roots j.row (j.rest ++ (n ∷ [])) h.1)
 
-module _ (port : HubPort) (address n : ℕ) (why : EnumFault) {old new : World} {a b : Option (List ℕ)} (went : WentOn n old a new b) (at : AtPort port address old new) (told : FaultAt port why new) (shown : StatusAt port old (Err why) new) where
-  status_denies : (f : Claims) (p : List ℕ) → IsFairAt f port p address old new → (hub : Target) (i : ℕ) → port ≡ External hub i → why ≡ fault.ParentLost → (serves : Serves hub i new) → p ≡ path_to serves.spot ++ (i ∷ []) → 8 ≤ hub.max
-      → pend new.roots (path_to serves.spot) ≡ true
-  status_denies f p fair hub i is parent serves there wide = pick (hub_port old serves.spot i (subst (IsOccupied old) there fair.occupied))
+module _ (port : HubPort) (address n : ℕ) (why : EnumFault) {old new : World} {a b : Option (List ℕ)} (went : StepRun n old a new b) (at : AtPort port address old new) (told : FaultAllowedAt port why new) (shown : StatusAt port old (Err why) new) where
+  status_denies : (f : AddressMap) (p : List ℕ) → IsFairAt f port p address old new → (hub : Target) (i : ℕ) → port ≡ External hub i → why ≡ fault.ParentLost → (serves : HubServes hub i new) → p ≡ path_to serves.spot ++ (i ∷ []) → 8 ≤ hub.max
+      → pending new.roots (path_to serves.spot) ≡ true
+  status_denies f p fair hub i is parent serves there wide = pick (occupied_port_there old serves.spot i (subst (IsOccupied old) there fair.occupied))
     where
       off : is_way p (path_to serves.spot) ≡ false
       off = ap (λ x. is_way x (path_to serves.spot)) there ∙ not_way (path_to serves.spot) i
 
-      pick : (pend old.roots (path_to serves.spot) ≡ true) ⊎ IsSome (port_there old.roots (path_to serves.spot ++ (i ∷ []))) → pend new.roots (path_to serves.spot) ≡ true
+      pick : (pending old.roots (path_to serves.spot) ≡ true) ⊎ IsSome (port_there old.roots (path_to serves.spot ++ (i ∷ []))) → pending new.roots (path_to serves.spot) ≡ true
       pick (inl h) = pending_persists (path_to serves.spot) (course_wider (λ s w k. k.spares) ((fair_only f port p address fair at).others (path_to serves.spot) off)) h
       pick (inr h) =
-          let b = stands_at (port_there old.roots (path_to serves.spot ++ (i ∷ []))) h in
-          absurd (unserved shown.outcome why shown.told parent (shown.tells.why hub i is fair.few (fair_single f port p address fair at) wide serves b.0 b.1))
+          let b = is_some-port (port_there old.roots (path_to serves.spot ++ (i ∷ []))) h in
+          absurd (parent_lost_not_served shown.outcome why shown.told parent (shown.tells.why hub i is fair.few (fair_single f port p address fair at) wide serves b.0 b.1))
 
   pub status_faulted : Faulted port address why old new
   status_faulted = record {
     why = λ f p fair.
-        hub_lost f port p fair.spare.at why new told
+        lost_hub_faults f port p fair.spare.at why new told
         (server_on f port p fair.spare.at old new (fair.order (went_sound n old new went fair.working)).sane (fair_only f port p address fair at) fair.server)
         (status_denies f p fair);
   }
 
 -- What ends an enumeration
 
-pub pends_on : (So : Spec → Type 0) (p : List ℕ) {old new : World} → Course (Spares p) old new → IsOccupied old p → PendsOr So p old → PendsOr So p new
+pub pends_on : (So : Spec → Type 0) (p : List ℕ) {old new : World} → Course (KeepsPendingAt p) old new → IsOccupied old p → PendingOr So p old → PendingOr So p new
 pends_on So p c (inl pending) so = inl (pending_persists p c pending)
 pends_on So p c (inr is) (inl pending) = inl (pending_persists p c pending)
 pends_on So p {old} {new} c (inr is) (inr so) = pick (stands_or_pends p c is.0)
   where
-    pick : StandsOrPends old new p → PendsOr So p new
+    pick : SameDeviceOrPending old new p → PendingOr So p new
     pick (inr y) = inl y
     pick (inl y) =
-        let s = standing (state_there old.roots p) is.1 in
+        let s = is_some-state (state_there old.roots p) is.1 in
         inr (λ v there.
         subst So (same_Some s.0.spec v.spec (sym (ap (option_map spec_of) s.1) ∙ sym y.1 ∙ ap (option_map spec_of) there)) (so s.0 s.1))
 
-pub pends_wider : (A B : Spec → Type 0) (p : List ℕ) (w : World) → ((spec : Spec) → A spec → B spec) → PendsOr A p w → PendsOr B p w
+pub pends_wider : (A B : Spec → Type 0) (p : List ℕ) (w : World) → ((spec : Spec) → A spec → B spec) → PendingOr A p w → PendingOr B p w
 pends_wider A B p w f (inl pending) = inl pending
 pends_wider A B p w f (inr so) = inr (λ s there. f s.spec (so s there))
 
 -- what is so of the device that is reached is so of the one that stands there
-pub pends_reached : (So : Spec → Type 0) (p : List ℕ) (w : World) → IsReachedAt w p → AtPath (λ s. So s.spec) p w → PendsOr So p w
+pub pends_reached : (So : Spec → Type 0) (p : List ℕ) (w : World) → IsReachedAt w p → AtPath (λ s. So s.spec) p w → PendingOr So p w
 pends_reached So p w (inl pending) so = inl pending
 pends_reached So p w (inr is) so = inr (λ s there. so s is.1 there)
 
-stop_wider : (A B : Spec → Option Cause) (f : Claims) (p : List ℕ) (old new : World) → ((spec : Spec) (cause : Cause) → A spec ≡ Some cause → B spec ≡ Some cause) → (stop : Stop) → StopsFor A f p old stop new → StopsFor B f p old stop new
+stop_wider : (A B : Spec → Option Cause) (f : AddressMap) (p : List ℕ) (old new : World) → ((spec : Spec) (cause : Cause) → A spec ≡ Some cause → B spec ≡ Some cause) → (stop : Stop) → StopsFor A f p old stop new → StopsFor B f p old stop new
 stop_wider A B f p old new more (Refused cause) stops = λ held. pends_wider (λ spec. A spec ≡ Some cause) (λ spec. B spec ≡ Some cause) p new (λ spec. more spec cause) (stops held)
 stop_wider A B f p old new more (Fault why) stops = stops
 
@@ -286,11 +286,11 @@ stops_wider A B port address stop old new more stops = record { why = λ f p fai
 pub stops_faulted : (wrong : Spec → Option Cause) (port : HubPort) (address : ℕ) (why : EnumFault) (old new : World) → Faulted port address why old new → StopsFairly wrong port address (Fault why) old new
 stops_faulted wrong port address why old new faulted = record { why = faulted.why }
 
-pub faulted_after : (port : HubPort) (address m n : ℕ) (why : EnumFault) {old mid new : World} {a b c d : Option (List ℕ)} → WentOn m old a mid b → WentOn n mid c new d → AtPort port address old mid → Faulted port address why mid new → Faulted port address why old new
+pub faulted_after : (port : HubPort) (address m n : ℕ) (why : EnumFault) {old mid new : World} {a b c d : Option (List ℕ)} → StepRun m old a mid b → StepRun n mid c new d → AtPort port address old mid → Faulted port address why mid new → Faulted port address why old new
 faulted_after port address m n why first second at faulted = record { why = λ f p fair. faulted.why f p (fair_then f port p address m n first second fair at) }
 
 -- no port was asked
-pub none_lost : (p : List ℕ) (why : EnumFault) (w : World) → FaultTold why w → FaultsFor p why w
-none_lost p fault.ParentLost w told = absurd told
-none_lost p (fault.Bus why) w told = tt
-none_lost p fault.Memory w told = tt
+pub faults_for_told : (p : List ℕ) (why : EnumFault) (w : World) → FaultAllowed why w → FaultsFor p why w
+faults_for_told p fault.ParentLost w told = absurd told
+faults_for_told p (fault.Bus why) w told = tt
+faults_for_told p fault.Memory w told = tt

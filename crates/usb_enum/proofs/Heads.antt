@@ -1,5 +1,5 @@
 -- What a device's descriptor says of it, as it was read.
-use Rattle.usb_device.specs.Tree.{Spot}
+use Rattle.usb_device.specs.Tree.{Location}
 use Rattle.std.proofs.Common.{◌≡◌, ℕ, ◌==◌, ◌&&◌, ◌||◌, not, nat_lt, inl, inr, Bool, true, false, List, length, slice_index, take, if◌then◌else◌, Some, Result, Ok, Err, is_ok, refl, ap, sym, subst, ◌∙◌, arith}
 use Rattle.std.proofs.lemmas.Bool.Decides.{nat_tests}
 use Rattle.std.proofs.lemmas.List.{get_or-take, take-take}
@@ -31,7 +31,7 @@ use Rattle.usb_enum.proofs.Targets.{head_maximum}
 
 module _ (So : Spec → Type 0) (t : Target) (n : ℕ) (bytes : Vec ℕ)
     (so : (s : State) → s.spec.silent ≡ false → s.spec.busy ≡ false → s.spec.stalls.device ≡ false → (IsMaximum t n s → bytes.items ≡ take n s.spec.descriptor) → So s.spec) where
-  device_learned : (j : Spot) (s v : State) → DeviceAsked t n (Ok bytes) j s v → Learned So t j s v
+  device_learned : (j : Location) (s v : State) → DeviceAsked t n (Ok bytes) j s v → Learned So t j s v
   device_learned j s v x = record {
     frame = x.frame;
     so = λ at.

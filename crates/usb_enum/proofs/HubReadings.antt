@@ -14,7 +14,7 @@ use Rattle.usb_device.specs.Spec.{Spec, Hub, IsHub, IsSpec, agrees, hub_fits, ha
 use Rattle.usb_world.specs.Devices.{EachWas}
 use Rattle.usb_world.specs.World.{World}
 use Rattle.usb_transaction.specs.declared.target.Target.{Target}
-use Rattle.usb_bus.specs.Traces.{WentOn}
+use Rattle.usb_bus.specs.Traces.{StepRun}
 use Rattle.usb_pipe.specs.declared.fault.PipeFault.{PipeFault}
 use Rattle.usb_hub.specs.declared.status.DeviceStatus.{DeviceStatus}
 use Rattle.usb_hub.specs.Addresses.{KeepsDevices}
@@ -22,20 +22,20 @@ use Rattle.usb_hub.specs.GivenAnswers.{hub_given, status_given, HubAsked, Status
 use Rattle.usb_enum.specs.declared.cause.Cause.{Cause}
 use Rattle.usb_enum.specs.Verdicts.{gives_hub, facts_of}
 use Rattle.usb_enum.specs.Device.{is_hub_device}
-use Rattle.usb_enum.specs.LearnedFacts.{Learns}
+use Rattle.usb_enum.specs.LearnedFacts.{DeviceFact}
 use Rattle.usb_enum.specs.Readings.{AtMaximum, Ruled, HasPorts, HasSupply, IsGoodHub}
 use Rattle.usb_enum.specs.Stop.{answered_or}
 use Rattle.usb_enum.proofs.Refusals.{answered_ok}
 use Rattle.usb_enum.proofs.Readings.{given_allows, answer_learned, text_learned, learns_on, learns_kept}
 
 pub ports_learned : (t : Target) (stalled : Cause) (outcome : Result (Vec ℕ) PipeFault) (bytes : Vec ℕ) (hub : List ℕ) (old new : World) → answered_or stalled outcome ≡ Ok bytes → Ok hub ≡ hub_spelled bytes.items → hub ≡ bytes.items
-    → (new.shared ≡ false → EachWas (HubAsked t outcome) old new) → Learns (AtMaximum t (HasPorts (port_count hub))) t old new
+    → (new.shared ≡ false → EachWas (HubAsked t outcome) old new) → DeviceFact (AtMaximum t (HasPorts (port_count hub))) t old new
 ports_learned t stalled outcome bytes hub old new answered good same =
     text_learned hub_given (HasPorts (port_count hub)) t 9 outcome bytes old new (answered_ok stalled outcome bytes answered)
     (λ spec text given first. record { text = text; given = given; good = ap hub_spelled (sym first) ∙ sym good ∙ ap Ok (same ∙ first); said = ap port_count (same ∙ first) })
 
 pub supply_learned : (t : Target) (stalled : Cause) (outcome : Result DeviceStatus PipeFault) (status : DeviceStatus) (old new : World) → answered_or stalled outcome ≡ Ok status
-    → (new.shared ≡ false → EachWas (StatusAsked t outcome) old new) → Learns (HasSupply (supply_of false status.self_powered)) t old new
+    → (new.shared ≡ false → EachWas (StatusAsked t outcome) old new) → DeviceFact (HasSupply (supply_of false status.self_powered)) t old new
 supply_learned t stalled outcome status old new answered =
     answer_learned status_given (λ s given. status_given s.spec ≡ Some given) t outcome old new (HasSupply (supply_of false status.self_powered)) status (answered_ok stalled outcome status answered)
     (λ s is. let given = given_allows s.spec.stalls.status _ status is in record { given = given.0; said = ap (λ (x : DeviceStatus). supply_of false x.self_powered) (sym (same_Some _ _ given.1)) })
@@ -49,14 +49,14 @@ record Given (spec : Spec) (text : List ℕ) : Type 0 where
   pub descriptor : hub.descriptor ≡ text
   pub allowed : spec.stalls.hub ≡ false
 
-hub_found : (o : Option Hub) (text : List ℕ) → option_map (λ (hub : Hub). hub.descriptor) o ≡ Some text → (hub : Hub) × (o ≡ Some hub) × (hub.descriptor ≡ text)
-hub_found None text is = absurd cc
-hub_found (Some hub) text is = (hub, refl, same_Some hub.descriptor text is)
+descriptor_of_hub : (o : Option Hub) (text : List ℕ) → option_map (λ (hub : Hub). hub.descriptor) o ≡ Some text → (hub : Hub) × (o ≡ Some hub) × (hub.descriptor ≡ text)
+descriptor_of_hub None text is = absurd cc
+descriptor_of_hub (Some hub) text is = (hub, refl, same_Some hub.descriptor text is)
 
 was_given : (spec : Spec) (text : List ℕ) → hub_given spec ≡ Some text → Given spec text
 was_given spec text given =
     let allowed = given_allows spec.stalls.hub (option_map (λ (hub : Hub). hub.descriptor) spec.hub) text given in
-    let found = hub_found spec.hub text allowed.1 in
+    let found = descriptor_of_hub spec.hub text allowed.1 in
     record { hub = found.0; is = found.1; descriptor = found.2; allowed = allowed.0 }
 
 hub_gives : (spec : Spec) (text : List ℕ) → Given spec text → spec.stalls.status ≡ false → hub_spelled (take 9 text) ≡ Ok (take 9 text) → gives_hub spec spec.hub ≡ true
@@ -93,9 +93,9 @@ facts_are : (spec : Spec) (hub : Hub) (ports supply : ℕ) → spec.hub ≡ Some
     → facts_of spec ≡ Some (record { ports = ports; supply = supply })
 facts_are spec hub ports supply is class count said = rw (class, is, count, said) refl
 
-good_hub : (text : List ℕ) (ports supply : ℕ) (spec : Spec) → is_some (status_endpoint_of text) ≡ true → HasPorts ports spec → HasSupply supply spec → IsSpec spec
+is_good_hub_read : (text : List ℕ) (ports supply : ℕ) (spec : Spec) → is_some (status_endpoint_of text) ≡ true → HasPorts ports spec → HasSupply supply spec → IsSpec spec
     → IsGoodHub text (record { ports = ports; supply = supply }) spec
-good_hub text ports supply spec endpoint p s ruled =
+is_good_hub_read text ports supply spec endpoint p s ruled =
     let g = was_given spec p.text p.given in
     let had = had_ports ports spec p ruled in
     record {
@@ -104,9 +104,9 @@ good_hub text ports supply spec endpoint p s ruled =
     }
 
 pub hub_learned : (t : Target) (text : List ℕ) (ports supply m n : ℕ) (old a b new : World) {q r s u : Option (List ℕ)} → is_some (status_endpoint_of text) ≡ true
-    → Learns (AtMaximum t (HasPorts ports)) t old a → WentOn m a q b r → Learns (HasSupply supply) t a b → WentOn n b s new u → KeepsDevices b new
-    → Learns (AtMaximum t (Ruled (IsGoodHub text (record { ports = ports; supply = supply })))) t old new
+    → DeviceFact (AtMaximum t (HasPorts ports)) t old a → StepRun m a q b r → DeviceFact (HasSupply supply) t a b → StepRun n b s new u → KeepsDevices b new
+    → DeviceFact (AtMaximum t (Ruled (IsGoodHub text (record { ports = ports; supply = supply })))) t old new
 hub_learned t text ports supply m n old a b new endpoint counted wa supplied wb keeps =
     let Facts : Spec → Type 0 = AtMaximum t (Ruled (IsGoodHub text (record { ports = ports; supply = supply }))) in
     learns_kept Facts t n old b new
-    (learns_on (AtMaximum t (HasPorts ports)) (HasSupply supply) Facts t m old a b (λ spec p s max ruled. good_hub text ports supply spec endpoint (p max) s ruled) counted wa supplied) wb keeps
+    (learns_on (AtMaximum t (HasPorts ports)) (HasSupply supply) Facts t m old a b (λ spec p s max ruled. is_good_hub_read text ports supply spec endpoint (p max) s ruled) counted wa supplied) wb keeps

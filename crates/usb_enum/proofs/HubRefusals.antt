@@ -11,13 +11,13 @@ use Rattle.usb_transaction.specs.declared.target.Target.{Target}
 use Rattle.usb_transaction.specs.Failures.{NoThreeDamaged}
 use Rattle.usb_pipe.specs.declared.fault.PipeFault.{PipeFault}
 use Rattle.usb_hub.specs.declared.status.DeviceStatus.{DeviceStatus}
-use Rattle.usb_hub.specs.GivenAnswers.{unless_refused, hub_given, status_given, HasText, HubAsked, StatusAsked, WhyAsked}
+use Rattle.usb_hub.specs.GivenAnswers.{unless_refused, hub_given, status_given, HasText, HubAsked, StatusAsked, ReadFailure}
 use Rattle.usb_enum.specs.declared.cause.Cause.{Cause}
 use Rattle.usb_enum.specs.declared.cause.Cause.TheVariants.{BadHub}
 use Rattle.usb_enum.specs.declared.stop.Stop.{Stop}
 use Rattle.usb_enum.specs.declared.stop.Stop.TheVariants.{Refused}
 use Rattle.usb_enum.specs.Verdicts.{gives_hub}
-use Rattle.usb_enum.specs.LearnedFacts.{Explains}
+use Rattle.usb_enum.specs.LearnedFacts.{FailureReason}
 use Rattle.usb_enum.specs.Readings.{AtMaximum}
 use Rattle.usb_enum.specs.Refusals.{Refuses, hub_fault}
 use Rattle.usb_enum.specs.Stop.{answered_or}
@@ -37,14 +37,14 @@ not_third true true c h = h
 not_third true false c h = refl
 not_third false b c h = refl
 
-refused_by : {X : Type 0} (refused : Bool) (given : X) → unless_refused refused (Some given) ≡ None → not refused ≡ false
-refused_by true given none = refl
-refused_by false given none = absurd cc
+unless_refused-not : {X : Type 0} (refused : Bool) (given : X) → unless_refused refused (Some given) ≡ None → not refused ≡ false
+unless_refused-not true given none = refl
+unless_refused-not false given none = absurd cc
 
 -- it does not give its descriptor
 hub_ungiven : (spec : Spec) (o : Option Hub) → unless_refused spec.stalls.hub (option_map (λ (hub : Hub). hub.descriptor) o) ≡ None → gives_hub spec o ≡ false
 hub_ungiven spec None none = refl
-hub_ungiven spec (Some hub) none = not_all (not spec.stalls.hub) (not spec.stalls.status) (is_ok (hub_spelled (take 9 hub.descriptor))) (refused_by spec.stalls.hub hub.descriptor none)
+hub_ungiven spec (Some hub) none = not_all (not spec.stalls.hub) (not spec.stalls.status) (is_ok (hub_spelled (take 9 hub.descriptor))) (unless_refused-not spec.stalls.hub hub.descriptor none)
 
 -- its descriptor is malformed
 hub_malformed : (spec : Spec) (o : Option Hub) (text : List ℕ) → option_map (λ (hub : Hub). hub.descriptor) o ≡ Some text → is_ok (hub_spelled (take 9 text)) ≡ false → gives_hub spec o ≡ false
@@ -61,13 +61,13 @@ bad_hub : (spec : Spec) → gives_hub spec spec.hub ≡ false → hub_fault spec
 bad_hub spec bad = ap (λ b. if b then None else Some BadHub) bad
 
 pub count_unanswered : (t : Target) (outcome : Result (Vec ℕ) PipeFault) (stop : Stop) (old new : World) → answered_or BadHub outcome ≡ Err stop → 8 ≤ t.max → (new.shared ≡ false → EachWas (HubAsked t outcome) old new)
-    → (NoThreeDamaged old → 8 ≤ t.max → new.shared ≡ false → EachWas (WhyAsked t 9 outcome) old new) → Explains (Refuses t hub_fault stop) t old new
+    → (NoThreeDamaged old → 8 ≤ t.max → new.shared ≡ false → EachWas (ReadFailure t 9 outcome) old new) → FailureReason (Refuses t hub_fault stop) t old new
 count_unanswered t outcome stop old new is least what why =
     request_refused hub_given (λ s bytes. HasText (hub_given s.spec) t 9 s bytes.items) t 9 outcome old new what least why
     hub_fault BadHub stop is (λ spec none. bad_hub spec (hub_ungiven spec spec.hub none))
 
 pub count_refused : (t : Target) (stalled : Cause) (outcome : Result (Vec ℕ) PipeFault) (bytes : Vec ℕ) (fault : DescriptorFault) (old new : World) → answered_or stalled outcome ≡ Ok bytes → hub_spelled bytes.items ≡ Err fault
-    → (new.shared ≡ false → EachWas (HubAsked t outcome) old new) → Explains (Refuses t hub_fault (Refused BadHub)) t old new
+    → (new.shared ≡ false → EachWas (HubAsked t outcome) old new) → FailureReason (Refuses t hub_fault (Refused BadHub)) t old new
 count_refused t stalled outcome bytes fault old new answered bad what =
     learned_explains (AtMaximum t (λ spec. hub_fault spec ≡ Some BadHub)) (Refuses t hub_fault (Refused BadHub)) t old new (λ spec x r. x r.max)
     (text_learned hub_given (λ spec. hub_fault spec ≡ Some BadHub) t 9 outcome bytes old new (answered_ok stalled outcome bytes answered)
@@ -76,7 +76,7 @@ count_refused t stalled outcome bytes fault old new answered bad what =
     what)
 
 pub supply_unanswered : (t : Target) (outcome : Result DeviceStatus PipeFault) (stop : Stop) (old new : World) → answered_or BadHub outcome ≡ Err stop → 8 ≤ t.max → (new.shared ≡ false → EachWas (StatusAsked t outcome) old new)
-    → (NoThreeDamaged old → 8 ≤ t.max → new.shared ≡ false → EachWas (WhyAsked t 2 outcome) old new) → Explains (Refuses t hub_fault stop) t old new
+    → (NoThreeDamaged old → 8 ≤ t.max → new.shared ≡ false → EachWas (ReadFailure t 2 outcome) old new) → FailureReason (Refuses t hub_fault stop) t old new
 supply_unanswered t outcome stop old new is least what why =
     request_refused status_given (λ s status. status_given s.spec ≡ Some status) t 2 outcome old new what least why
-    hub_fault BadHub stop is (λ spec none. bad_hub spec (status_ungiven spec spec.hub (refused_by spec.stalls.status _ none)))
+    hub_fault BadHub stop is (λ spec none. bad_hub spec (status_ungiven spec spec.hub (unless_refused-not spec.stalls.status _ none)))

@@ -7,7 +7,7 @@ use Rattle.usb_pipe.specs.declared.fault.PipeFault.{PipeFault}
 use Rattle.std.specs.Global.{Vec}
 use Rattle.usb_request.specs.Features.{PORT_POWER}
 use Rattle.usb_request.specs.Requests.{get_hub_descriptor, set_port_feature}
-use Rattle.usb_hub.specs.Requests.{AskedData, Ordered}
+use Rattle.usb_hub.specs.Requests.{Queried, Commanded}
 use Rattle.usb_descriptor.specs.Hub.{hub_spelled, port_count}
 use Rattle.usb_resources.specs.Power.{supply_of}
 use Rattle.usb_enum.specs.declared.cause.Cause.{Cause}
@@ -16,8 +16,8 @@ use Rattle.usb_enum.specs.declared.stop.Stop.{Stop}
 use Rattle.usb_enum.specs.declared.stop.Stop.TheVariants.{Refused, Fault}
 use Rattle.usb_enum.specs.Device.{is_hub_device, fits_tier}
 use Rattle.usb_enum.specs.Hub.{CountTold, IsPowered, Powered}
-use Rattle.usb_enum.specs.Reasons.{ToldAtStart}
-use Rattle.usb_enum.specs.Stop.{ToldOfDevice, answered_or}
+use Rattle.usb_enum.specs.Reasons.{CauseAllowedAtStart}
+use Rattle.usb_enum.specs.Stop.{CauseAllowedOfDevice, answered_or}
 use Rattle.usb_enum.proofs.Reasons.{because_plain}
 use Rattle.usb_enum.proofs.Refusals.{answered_ok}
 use Rattle.usb_enum.proofs.ToldFailures.{plain_fits}
@@ -36,13 +36,13 @@ not_last_by false tier done is fits e = absurd cc
 pub not_last : (tier : ℕ) (bytes : List ℕ) → is_hub_device bytes ≡ true → fits_tier tier bytes ≡ Ok tt → tier ≢ 7
 not_last tier bytes = not_last_by (is_hub_device bytes) tier tt
 
-pub told_of_hub : (tier : ℕ) (bytes : List ℕ) (stop : Stop) (t : Target) (text : List ℕ) (old new : World) → fits_tier tier bytes ≡ Ok tt → is_hub_device bytes ≡ true → ToldAtStart t text stop old new → ToldOfDevice tier stop new
+pub told_of_hub : (tier : ℕ) (bytes : List ℕ) (stop : Stop) (t : Target) (text : List ℕ) (old new : World) → fits_tier tier bytes ≡ Ok tt → is_hub_device bytes ≡ true → CauseAllowedAtStart t text stop old new → CauseAllowedOfDevice tier stop new
 told_of_hub tier bytes (Refused why) t text old new fits is (inl bad) = rw bad.0 (not_last tier bytes is fits)
 told_of_hub tier bytes (Refused why) t text old new fits is (inr b) = plain_fits tier why (because_plain why t old new b)
 told_of_hub tier bytes (Fault fault) t text old new fits is told = told
 
 -- the descriptor that a hub told
-pub count_told : (hub : Target) (stalled : Cause) (outcome : Result (Vec ℕ) PipeFault) (bytes : Vec ℕ) (view : List ℕ) (old new : World) → answered_or stalled outcome ≡ Ok bytes → AskedData hub get_hub_descriptor old outcome new → Ok view ≡ hub_spelled bytes.items → view ≡ bytes.items → CountTold hub old new (port_count view)
+pub count_told : (hub : Target) (stalled : Cause) (outcome : Result (Vec ℕ) PipeFault) (bytes : Vec ℕ) (view : List ℕ) (old new : World) → answered_or stalled outcome ≡ Ok bytes → Queried hub get_hub_descriptor old outcome new → Ok view ≡ hub_spelled bytes.items → view ≡ bytes.items → CountTold hub old new (port_count view)
 count_told hub stalled outcome bytes view old new answered asked good same = record {
   bytes = bytes;
   asked = rw (answered_ok stalled outcome bytes answered) at asked;
@@ -51,9 +51,9 @@ count_told hub stalled outcome bytes view old new answered asked good same = rec
 }
 
 -- a port whose power was ordered, where that was done
-pub powered_by : (hub : Target) (port : ℕ) (old new : World) (outcome : Result (Unit {0}) PipeFault) (result : Result (Unit {0}) Stop) → result ≡ answered_or cause.BadHub outcome → Ordered hub (set_port_feature PORT_POWER port) old outcome new
+pub powered_by : (hub : Target) (port : ℕ) (old new : World) (outcome : Result (Unit {0}) PipeFault) (result : Result (Unit {0}) Stop) → result ≡ answered_or cause.BadHub outcome → Commanded hub (set_port_feature PORT_POWER port) old outcome new
     → IfOk result (λ _. IsPowered hub port old new)
-powered_by hub port old new outcome (Ok done) is ordered = subst (λ r. Ordered hub (set_port_feature PORT_POWER port) old r new) (answered_ok cause.BadHub outcome tt (sym is)) ordered
+powered_by hub port old new outcome (Ok done) is ordered = subst (λ r. Commanded hub (set_port_feature PORT_POWER port) old r new) (answered_ok cause.BadHub outcome tt (sym is)) ordered
 powered_by hub port old new outcome (Err stop) is ordered = tt
 
 -- one port more

@@ -1,8 +1,8 @@
 -- The lemmas that crates above cite. All others are for this crate alone.
-pub use Rattle.usb_enum.proofs.ChosenConfigurations.{Accepts, HasChosen, accepts, chosen_bulk, chosen_some, has_chosen}
-pub use Rattle.usb_enum.proofs.Courses.{AtWork, Onward, opening_in_order, orderly_on, regular_order, sound_before, traced_faulted, traced_in_order, traced_onward, went_course, went_in_order, went_sound}
+pub use Rattle.usb_enum.proofs.ChosenConfigurations.{AcceptsChosen, HasChosen, accepts, chosen_bulk, chosen_some, has_chosen}
+pub use Rattle.usb_enum.proofs.Courses.{AtWork, OnlyLater, opening_in_order, orderly_on, regular_order, sound_before, traced_faulted, traced_in_order, traced_only_later, went_course, went_in_order, went_sound}
 pub use Rattle.usb_enum.proofs.Damages.{went_three}
-pub use Rattle.usb_enum.proofs.Frames.{ended}
+pub use Rattle.usb_enum.proofs.Frames.{ends_without_fault}
 pub use Rattle.usb_enum.proofs.Losses.{course_later, few_before, step_later}
 pub use Rattle.usb_enum.proofs.ReachedDevices.{disabled_known, pends_there, some_of}
 pub use Rattle.usb_enum.proofs.Readings.{devices_then}

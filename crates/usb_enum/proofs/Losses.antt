@@ -9,7 +9,7 @@ use Rattle.usb_world.specs.declared.losses.Losses.{Losses}
 use Rattle.usb_world.specs.declared.types.Attempt.{Attempt}
 use Rattle.usb_world.specs.Exchange.{lost_in, cleared_in, token_out, payload_out, reply_out, ports_in}
 use Rattle.usb_world.specs.Losses.{one_more, counted, after_clearing}
-use Rattle.usb_world.specs.Steps.{AnyStep, took, ready, damage_in, with_attempt, Step, after, Course}
+use Rattle.usb_world.specs.Steps.{AnyStep, after_event, at_attempt, damage_in, with_attempt, Step, after, Course}
 use Rattle.usb_world.specs.AttemptPackets.{after_sent, after_attempt}
 use Rattle.usb_world.specs.World.{World, roots_of}
 use Rattle.usb_world.proofs.Interface.{OverSteps, happened_long, over_course, over_step, row_long, with_limit_told}
@@ -34,9 +34,9 @@ sent_row (Some q) k = row_of-after q false k
 attempt_row : (t d r : Option Sent) (k : Ports) → row_of (after_attempt t d r k) ≡ row_of k
 attempt_row t d r k = row_of-forgotten (after_sent r (after_sent d (after_sent t k))) ∙ sent_row r (after_sent d (after_sent t k)) ∙ sent_row d (after_sent t k) ∙ sent_row t k
 
-made_row : (a : Attempt) (damage : Option Damage) (k : Ports) → length (row_of (ports_in a damage k)) ≡ length (row_of k)
+ports_in-row : (a : Attempt) (damage : Option Damage) (k : Ports) → length (row_of (ports_in a damage k)) ≡ length (row_of k)
 unfolding ports_in
-made_row a damage k = ap length (attempt_row (token_out a damage) (payload_out a damage) (reply_out a damage k) k)
+ports_in-row a damage k = ap length (attempt_row (token_out a damage) (payload_out a damage) (reply_out a damage k) k)
 
 cleared_worst : (b : Bool) (l : Losses) → (after_clearing b l).worst ≡ l.worst
 cleared_worst true l = refl
@@ -52,18 +52,18 @@ unfolding with_attempt
 made_later a w =
     let cleared : Bool = cleared_in a (damage_in w) w.roots in
     let lost : Bool = lost_in a (damage_in w) w.roots in
-    record { damages = refl; roots = made_row a (damage_in w) w.roots; worst = subst (λ x. x ≤ (counted lost (after_clearing cleared w.losses)).worst) (cleared_worst cleared w.losses) (counted_worst lost (after_clearing cleared w.losses)) }
+    record { damages = refl; roots = ports_in-row a (damage_in w) w.roots; worst = subst (λ x. x ≤ (counted lost (after_clearing cleared w.losses)).worst) (cleared_worst cleared w.losses) (counted_worst lost (after_clearing cleared w.losses)) }
 
 later_steps : {K : Step → World → Type 0} → OverSteps K IsLater
-unfolding took
+unfolding after_event
 later_steps = record {
   events = record {
     same = λ w. later_same w w refl refl refl;
     joined = later_then;
     came = λ e es w l.
-        later_same w (took e es w) refl (happened_long e.action w.devices w.roots) refl;
+        later_same w (after_event e es w) refl (happened_long e.action w.devices w.roots) refl;
   };
-  made = λ a w made k. made_later a (ready w);
+  made = λ a w made k. made_later a (at_attempt w);
   root = λ c n w k. record {
     damages = refl;
     roots = row_long (called c) w.roots (n ∷ []);

@@ -7,7 +7,7 @@ use Rattle.usb_request.specs.Requests.{set_address, set_configuration}
 use Rattle.usb_device.specs.Spec.{Spec}
 use Rattle.usb_world.specs.Devices.{EachWas}
 use Rattle.usb_world.specs.World.{World}
-use Rattle.usb_bus.specs.Traces.{WentOn}
+use Rattle.usb_bus.specs.Traces.{StepRun}
 use Rattle.usb_bus.proofs.Interface.{went_none, went_then, went_wider}
 use Rattle.usb_transaction.specs.declared.target.Target.{Target}
 use Rattle.usb_address.specs.Ownership.{KeepsAddresses}
@@ -16,14 +16,14 @@ use Rattle.usb_pipe.specs.Control.{control_bound}
 use Rattle.usb_hub.specs.declared.port.HubPort.{HubPort}
 use Rattle.usb_hub.specs.Addresses.{GivesAddress}
 use Rattle.usb_hub.specs.GivenAnswers.{TextAsked}
-use Rattle.usb_hub.specs.Requests.{AskedData, Ordered}
+use Rattle.usb_hub.specs.Requests.{Queried, Commanded}
 use Rattle.usb_hub.specs.Settings.{AddressAsked, ConfigurationAsked}
 use Rattle.usb_enum.specs.Addresses.{AtPort}
 use Rattle.usb_enum.specs.Bounds.{read_bound}
 use Rattle.usb_enum.specs.Frames.{OnlyAsks, OnlySets, OnlyTells}
-use Rattle.usb_enum.specs.Parts.{Ending, Steps}
+use Rattle.usb_enum.specs.Parts.{Ending, KeepingSteps}
 use Rattle.usb_enum.proofs.Counts.{read_went, went_again, went_times}
-use Rattle.usb_enum.proofs.Frames.{asks_none, asks_then, at_addressed, at_none, at_then, configuration_sets, sets_asked, sets_then, tells_none, tells_then, text_asks}
+use Rattle.usb_enum.proofs.Frames.{asks_none, asks_then, at_addressed, at_port_none, at_port_then, configuration_sets, sets_asked, sets_then, tells_none, tells_then, text_asks}
 use Rattle.usb_enum.proofs.Refusals.{handed_match}
 
 -- What is kept where nothing went, and from one part to the next
@@ -31,7 +31,7 @@ use Rattle.usb_enum.proofs.Refusals.{handed_match}
 pub record Keeping (Keeps : World → World → Type 0) : Type 0 where
   pub none : (w : World) → Keeps w w
   pub joined : (n : ℕ) (old mid new : World) {r s : Option (List ℕ)} → Keeps old mid
-      → WentOn n mid r new s → Keeps mid new → Keeps old new
+      → StepRun n mid r new s → Keeps mid new → Keeps old new
 
 pub asking : Keeping OnlyAsks
 asking = record { none = asks_none; joined = asks_then }
@@ -46,70 +46,70 @@ setting address = record {
 }
 
 pub enumerating : (port : HubPort) (address : ℕ) → Keeping (AtPort port address)
-enumerating port address = record { none = at_none port address; joined = at_then port address }
+enumerating port address = record { none = at_port_none port address; joined = at_port_then port address }
 
 -- Steps
 
 pub steps_none : {K : World → World → Type 0} (n : ℕ) (w : World) {a : Option (List ℕ)} → Keeping K
-    → Steps K n w a w a
+    → KeepingSteps K n w a w a
 steps_none n w keeping = record {
   went = went_wider 0 n went_none (omega arith);
   keeps = keeping.none w;
 }
 
 pub steps_joined : {K : World → World → Type 0} {m n : ℕ} {old mid new : World}
-    {a b c : Option (List ℕ)} → Keeping K → Steps K m old a mid b → Steps K n mid b new c
-    → Steps K (m + n) old a new c
+    {a b c : Option (List ℕ)} → Keeping K → KeepingSteps K m old a mid b → KeepingSteps K n mid b new c
+    → KeepingSteps K (m + n) old a new c
 steps_joined {K} {m} {n} {old} {mid} {new} keeping first next = record {
   went = went_then m n first.went next.went;
   keeps = keeping.joined n old mid new first.keeps next.went next.keeps;
 }
 
 pub steps_wider : {K : World → World → Type 0} {m n : ℕ} {old new : World} {a b : Option (List ℕ)}
-    → Steps K m old a new b → m ≤ n → Steps K n old a new b
+    → KeepingSteps K m old a new b → m ≤ n → KeepingSteps K n old a new b
 steps_wider {K} {m} {n} steps le =
     record { went = went_wider m n steps.went le; keeps = steps.keeps }
 
 pub steps_then : {K : World → World → Type 0} {m n k : ℕ} {old mid new : World}
-    {a b c : Option (List ℕ)} → Keeping K → Steps K m old a mid b → Steps K n mid b new c
-    → m + n ≤ k → Steps K k old a new c
+    {a b c : Option (List ℕ)} → Keeping K → KeepingSteps K m old a mid b → KeepingSteps K n mid b new c
+    → m + n ≤ k → KeepingSteps K k old a new c
 steps_then keeping first next le = steps_wider (steps_joined keeping first next) le
 
 -- so many times the same, once more, and no more than there may be
 pub steps_again : {K : World → World → Type 0} (k n : ℕ) {old mid new : World}
-    {a b c : Option (List ℕ)} → Keeping K → Steps K (k * n) old a mid b → Steps K n mid b new c
-    → Steps K ((k + 1) * n) old a new c
+    {a b c : Option (List ℕ)} → Keeping K → KeepingSteps K (k * n) old a mid b → KeepingSteps K n mid b new c
+    → KeepingSteps K ((k + 1) * n) old a new c
 steps_again {K} k n {old} {mid} {new} keeping first next = record {
   went = went_again k n old mid new first.went next.went;
   keeps = keeping.joined n old mid new first.keeps next.went next.keeps;
 }
 
 pub steps_times : {K : World → World → Type 0} (k m n : ℕ) {old new : World} {a b : Option (List ℕ)}
-    → Steps K (k * n) old a new b → k ≤ m → Steps K (m * n) old a new b
+    → KeepingSteps K (k * n) old a new b → k ≤ m → KeepingSteps K (m * n) old a new b
 steps_times {K} k m n {old} {new} steps le = record {
   went = went_times k m n old new steps.went le;
   keeps = steps.keeps;
 }
 
 pub steps_more : {K : World → World → Type 0} (k m n : ℕ) {old mid new : World}
-    {a b c : Option (List ℕ)} → Keeping K → Steps K (k * n) old a mid b → Steps K n mid b new c
-    → k < m → Steps K (m * n) old a new c
+    {a b c : Option (List ℕ)} → Keeping K → KeepingSteps K (k * n) old a mid b → KeepingSteps K n mid b new c
+    → k < m → KeepingSteps K (m * n) old a new c
 steps_more k m n keeping first next less =
     steps_times (k + 1) m n (steps_again k n keeping first next) (omega (arith, less))
 
 -- what is kept keeps something else
 pub steps_as : {K L : World → World → Type 0} {n : ℕ} {old new : World} {a b : Option (List ℕ)}
-    → ((v w : World) → K v w → L v w) → Steps K n old a new b → Steps L n old a new b
+    → ((v w : World) → K v w → L v w) → KeepingSteps K n old a new b → KeepingSteps L n old a new b
 steps_as {K} {L} {n} {old} {new} f steps =
     record { went = steps.went; keeps = f old new steps.keeps }
 
 -- a request for data, at a maximum packet of 8 or more
 pub steps_asked : (given : Spec → Option (List ℕ)) {t : Target} {request : Setup} {wanted : ℕ}
     (bytes : ℕ) {outcome : Result (Vec ℕ) PipeFault} {old new : World} {a b : Option (List ℕ)}
-    → 8 ≤ t.max → WentOn (control_bound t.max bytes) old a new b
-    → AskedData t request old outcome new
+    → 8 ≤ t.max → StepRun (control_bound t.max bytes) old a new b
+    → Queried t request old outcome new
     → (new.shared ≡ false → EachWas (TextAsked given t wanted outcome) old new)
-    → KeepsAddresses old new → Steps OnlyAsks (read_bound bytes) old a new b
+    → KeepsAddresses old new → KeepingSteps OnlyAsks (read_bound bytes) old a new b
 steps_asked given {t} {request} {wanted} bytes {outcome} {old} {new} wide went asked what keeps =
     record {
       went = read_went t.max bytes old new wide went;
@@ -118,10 +118,10 @@ steps_asked given {t} {request} {wanted} bytes {outcome} {old} {new} wide went a
 
 -- SET_ADDRESS, at address 0
 pub steps_addressed : {p : HubPort} {a m n : ℕ} {t : Target} {r : Result (Unit {0}) PipeFault}
-    {old mid new : World} {x y z : Option (List ℕ)} → Steps (AtPort p a) m old x mid y
-    → t.addr ≡ 0 → 1 ≤ a → WentOn n mid y new z → Ordered t (set_address a) mid r new
+    {old mid new : World} {x y z : Option (List ℕ)} → KeepingSteps (AtPort p a) m old x mid y
+    → t.addr ≡ 0 → 1 ≤ a → StepRun n mid y new z → Commanded t (set_address a) mid r new
     → (new.shared ≡ false → EachWas (AddressAsked t a r mid new) mid new)
-    → GivesAddress t.addr a mid new → Steps (AtPort p a) (m + n) old x new z
+    → GivesAddress t.addr a mid new → KeepingSteps (AtPort p a) (m + n) old x new z
 steps_addressed {p} {a} {m} {n} {t} {r} {old} {mid} {new} first zero least went made what gives =
     record {
       went = went_then m n first.went went;
@@ -130,10 +130,10 @@ steps_addressed {p} {a} {m} {n} {t} {r} {old} {mid} {new} first zero least went 
 
 -- SET_CONFIGURATION
 pub steps_set : {n value : ℕ} {t : Target} {result : Result (Unit {0}) PipeFault} {old new : World}
-    {a b : Option (List ℕ)} → WentOn n old a new b
-    → Ordered t (set_configuration value) old result new
+    {a b : Option (List ℕ)} → StepRun n old a new b
+    → Commanded t (set_configuration value) old result new
     → (new.shared ≡ false → EachWas (ConfigurationAsked t value result new) old new)
-    → KeepsAddresses old new → Steps (OnlySets t.addr) n old a new b
+    → KeepsAddresses old new → KeepingSteps (OnlySets t.addr) n old a new b
 steps_set {n} {value} {t} {result} {old} {new} went ordered what keeps = record {
   went = went;
   keeps = configuration_sets t value result old new ordered what keeps;
@@ -145,7 +145,7 @@ steps_set {n} {value} {t} {result} {old} {new} went ordered what keeps = record 
 pub part_fails : {A E : Type 0} {K : World → World → Type 0} {n : ℕ}
     {Gives : World → World → A → Type 0} {Stops : World → World → E → Type 0} {old new : World}
     {a b : Option (List ℕ)} (result : Result A E) (why : E) → IsErrAnd result (λ e. e ≡ why)
-    → Steps K n old a new b → Stops old new why → Ending K n Gives Stops old a result new b
+    → KeepingSteps K n old a new b → Stops old new why → Ending K n Gives Stops old a result new b
 part_fails result why same steps stops = record {
   steps = steps;
   ends = handed_match result _ _ why same stops;

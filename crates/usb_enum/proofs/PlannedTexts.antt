@@ -19,7 +19,7 @@ use Rattle.usb_world.specs.PlanCourses.{spec_of}
 use Rattle.usb_world.specs.PluggedDevices.{PluggedMap, index_at, device_indexed, plugged_after, plugged_by, plugged_without}
 use Rattle.usb_world.specs.World.{World}
 use Rattle.usb_world.proofs.Interface.{course_joined, devices_left}
-use Rattle.usb_bus.specs.Traces.{WentOn}
+use Rattle.usb_bus.specs.Traces.{StepRun}
 use Rattle.usb_enum.specs.TextLengths.{PlugsWithin, HasPlanWithin}
 use Rattle.usb_enum.proofs.Courses.{went_course}
 
@@ -86,8 +86,8 @@ plugged_within most w has path s there =
     (sym (devices_left plan has.planned.is has.planned.paths w has.planned.course path) ∙ ap (option_map spec_of) there)
 
 -- from one call to the next
-pub plan_within : (most n : ℕ) (old new : World) {t s : Option (List ℕ)} → WentOn n old t new s → new.fault ≡ None → HasPlanWithin most old → HasPlanWithin most new
-plan_within most n old new went none has = record {
+pub plan_within_after : (most n : ℕ) (old new : World) {t s : Option (List ℕ)} → StepRun n old t new s → new.fault ≡ None → HasPlanWithin most old → HasPlanWithin most new
+plan_within_after most n old new went none has = record {
   planned = record { plan = has.planned.plan; is = has.planned.is; paths = has.planned.paths; course = course_joined has.planned.course (went_course n old new went none) };
   plugs = has.plugs;
 }

@@ -13,30 +13,30 @@ use Rattle.usb_device.specs.declared.request.Registers.{Registers}
 use Rattle.usb_device.specs.Request.{Is, port_named}
 use Rattle.usb_device.specs.Rows.{State}
 use Rattle.usb_device.specs.Spec.{Hub}
-use Rattle.usb_device.specs.Tree.{Ports, ended, vacant, taken, port_of, all_off, place_at, Spot, path_to, state_on}
+use Rattle.usb_device.specs.Tree.{Ports, ended, vacant, taken, port_of, all_off, place_at, Location, path_to, state_on}
 use Rattle.usb_device.specs.View.{port_there, state_there}
 use Rattle.usb_world.specs.Courses.{is_harmless}
 use Rattle.usb_world.specs.Devices.{Was, EachWas}
 use Rattle.usb_world.specs.Paths.{address_of, is_way, same_number}
 use Rattle.usb_world.specs.PluggedDevices.{hub_ports}
 use Rattle.usb_world.specs.PlanCourses.{spec_of}
-use Rattle.usb_world.specs.RestingPorts.{AsksNothingOf, RestsOrPends}
+use Rattle.usb_world.specs.RestingPorts.{LeavesPortAlone, UnchangedOrPending}
 use Rattle.usb_world.specs.Steps.{AnyStep, Course, step}
 use Rattle.usb_world.specs.World.{World}
-use Rattle.usb_world.proofs.Interface.{and_false, course_joined, course_wider, equal_same, no, pending_persists, ports_stand, rests_or_pends}
-use Rattle.usb_bus.specs.Traces.{WentOn}
+use Rattle.usb_world.proofs.Interface.{and_false, course_joined, course_wider, equal_same, false_true, pending_persists, ports_stand, rests_or_pends}
+use Rattle.usb_bus.specs.Traces.{StepRun}
 use Rattle.usb_transaction.specs.declared.target.Target.{Target}
 use Rattle.usb_transaction.specs.Answerer.{Answerer}
 use Rattle.usb_transaction.specs.Leaves.{is_at}
 use Rattle.usb_pipe.specs.declared.fault.PipeFault.{PipeFault}
 use Rattle.usb_pipe.proofs.Interface.{who_writes}
-use Rattle.usb_address.specs.Claims.{Claims}
-use Rattle.usb_address.specs.Ownership.{Owned, TillFault, KeepsAddresses}
-use Rattle.usb_address.proofs.Interface.{Follows, NoPower, below_of, claimed_path, quiet_follows, read_keeps, same_setup, stays_unpowered}
-use Rattle.usb_hub.specs.Moments.{PortDone}
-use Rattle.usb_hub.specs.Requests.{AllRest, AskedData, Ordered}
+use Rattle.usb_address.specs.Claims.{AddressMap}
+use Rattle.usb_address.specs.Ownership.{MapHolds, WhileBusWorks, KeepsAddresses}
+use Rattle.usb_address.proofs.Interface.{KeepsClaim, NoPower, place_ports, claimed_path, quiet_follows, read_keeps, same_setup, stays_unpowered}
+use Rattle.usb_hub.specs.Moments.{PortCallDone}
+use Rattle.usb_hub.specs.Requests.{TouchesNoPort, Queried, Commanded}
 use Rattle.usb_hub.specs.Settings.{ConfigurationAsked, WentOff}
-use Rattle.usb_hub.proofs.Interface.{AsksFor, hub_done, hub_named, hub_rests, none_of, place_below, port_of_place, powered_stands, set_asks, set_keeps}
+use Rattle.usb_hub.proofs.Interface.{AsksFor, hub_done, hub_named, hub_rests, spec_of-none, place_below, port_of_place, powered_stands, set_asks, set_keeps}
 use Rattle.usb_enum.specs.declared.hub.HubFacts.{HubFacts}
 use Rattle.usb_enum.specs.Findings.{EmptiesPorts}
 use Rattle.usb_enum.specs.Frames.{OnlyAsks}
@@ -44,7 +44,7 @@ use Rattle.usb_enum.specs.Hub.{IsPowered, Powered, Started}
 use Rattle.usb_enum.specs.Places.{IsKnownAs, HasEmptyPorts}
 use Rattle.usb_enum.specs.PresentDevices.{IsInOrder, IsOrderly}
 use Rattle.usb_enum.proofs.Courses.{orderly_on, went_in_order}
-use Rattle.usb_enum.proofs.Frames.{ended as sound_end}
+use Rattle.usb_enum.proofs.Frames.{ends_without_fault as sound_end}
 
 -- Numbers
 
@@ -84,13 +84,13 @@ all_off_power (vacant c k) (suc i) b h = all_off_power k i b h
 all_off_power (taken c s a k) zero b h = ap (λ o. o.power) (sym (same_Some (powered_off c) b h))
 all_off_power (taken c s a k) (suc i) b h = all_off_power k i b h
 
-pub off_unpowered : (new : World) (j : Spot) → WentOff new j → (i : ℕ) → NoPower (port_there new.roots (path_to j ++ (suc i ∷ [])))
+pub off_unpowered : (new : World) (j : Location) → WentOff new j → (i : ℕ) → NoPower (port_there new.roots (path_to j ++ (suc i ∷ [])))
 off_unpowered new j off i = stays_unpowered (path_to j ++ (suc i ∷ [])) (course_wider (λ s w k. k.leaves) (off.since (path_to j ++ (suc i ∷ [])))) then_off
   where
     then_off : NoPower (port_there off.now.roots (path_to j ++ (suc i ∷ [])))
     then_off =
         subst NoPower
-        (sym (port_of_place off.now.roots (path_to j ++ (suc i ∷ [])) ∙ ap (option_map port_of) (place_below off.now.roots j.row j.rest i [] ∙ ap (λ o. place_at (below_of o) i []) off.off)))
+        (sym (port_of_place off.now.roots (path_to j ++ (suc i ∷ [])) ∙ ap (option_map port_of) (place_below off.now.roots j.row j.rest i [] ∙ ap (λ o. place_at (place_ports o) i []) off.off)))
         (all_off_power off.ports i)
 
 -- A port that the hub has stands there
@@ -109,31 +109,31 @@ port_within (Some hub) g i h = within (split (not (g.configuration == 0)) (nat_l
     within e = grind (arith, nat_tests, e)
 
 there_is : (o : Option PortState) → is_some o ≡ true → (b : PortState) × (o ≡ Some b)
-there_is None h = no h
+there_is None h = false_true h
 there_is (Some b) h = (b, refl)
 
 -- Ports of a hub at a path
 
 -- a port that is known as empty, and of which nothing is asked
-pub vacant_on : (p : List ℕ) {old new : World} → Course (AsksNothingOf p) old new → IsKnownAs old p None → IsKnownAs new p None
+pub vacant_on : (p : List ℕ) {old new : World} → Course (LeavesPortAlone p) old new → IsKnownAs old p None → IsKnownAs new p None
 vacant_on p {old} {new} c (inl x) = inl (pending_persists p (course_wider (λ s w k. k.spares) c) x)
 vacant_on p {old} {new} c (inr x) = pick (rests_or_pends p c x.0)
   where
-    pick : RestsOrPends old new p → IsKnownAs new p None
-    pick (inl y) = inr (y.0, none_of (state_there new.roots p) (state_there old.roots p) y.1.what x.1)
+    pick : UnchangedOrPending old new p → IsKnownAs new p None
+    pick (inl y) = inr (y.0, spec_of-none (state_there new.roots p) (state_there old.roots p) y.1.what x.1)
     pick (inr y) = inl y
 
-done_course : {p : List ℕ} {old new : World} → PortDone p SetPower old new → Course AnyStep old new
-done_course {p} x = course_joined (course_wider (λ s w k. tt) x.repeats) (step x.last tt (course_wider (λ s w k. tt) (x.since p)))
+power_course : {p : List ℕ} {old new : World} → PortCallDone p SetPower old new → Course AnyStep old new
+power_course {p} x = course_joined (course_wider (λ s w k. tt) x.repeats) (step x.last tt (course_wider (λ s w k. tt) (x.since p)))
 
-module _ (t : Target) (f : Claims) (j : Spot) (held : f (path_to j) ≡ Some t.addr) where
+module _ (t : Target) (f : AddressMap) (j : Location) (held : f (path_to j) ≡ Some t.addr) where
   abbrev port : ℕ → List ℕ
   port i = path_to j ++ (suc i ∷ [])
 
   -- the first so many ports were given power, and the others have none
   pub record Given (n : ℕ) (w : World) : Type 0 where
     pub sound : w.fault ≡ None
-    pub owned : Owned f w
+    pub owned : MapHolds f w
     pub order : IsOrderly w
     pub powered : (i : ℕ) → i < n → IsKnownAs w (port i) None
     pub off : (i : ℕ) → n ≤ i → NoPower (port_there w.roots (port i))
@@ -142,17 +142,17 @@ module _ (t : Target) (f : Claims) (j : Spot) (held : f (path_to j) ≡ Some t.a
     asked : AsksFor (set_port_feature PORT_POWER (suc n)) SetPower (suc n)
     asked = set_asks (suc n) SetPower PORT_POWER refl refl
 
-    follows : Follows t (set_port_feature PORT_POWER (suc n)) (path_to j) (Owned f)
+    follows : KeepsClaim t (set_port_feature PORT_POWER (suc n)) (path_to j) (MapHolds f)
     follows = quiet_follows t (set_port_feature PORT_POWER (suc n)) asked.same f (path_to j) (asked.harmless refl) held
 
-    owned : Owned f new
+    owned : MapHolds f new
     owned = ((set_keeps t PORT_POWER (suc n) old (Ok tt) new (λ h. absurd cc) ordered).kept f (record { so = λ h. was.owned; single = was.owned.single })).so ordered.ends.still
 
-    done : PortDone (port n) SetPower old new
-    done = hub_done t j n (set_port_feature PORT_POWER (suc n)) SetPower asked (Owned f) follows old new ordered was.owned owned (λ h. no (sym h ∙ asked.harmless refl))
+    done : PortCallDone (port n) SetPower old new
+    done = hub_done t j n (set_port_feature PORT_POWER (suc n)) SetPower asked (MapHolds f) follows old new ordered was.owned owned (λ h. false_true (sym h ∙ asked.harmless refl))
 
     has : (s : State) × ((state_on old.roots j ≡ Some s) × (port_named s.spec.hub s.registers (suc n) ≡ Some n))
-    has = hub_named t j n (set_port_feature PORT_POWER (suc n)) SetPower asked (Owned f) follows old new ordered was.owned owned (λ h. no (sym h ∙ asked.harmless refl))
+    has = hub_named t j n (set_port_feature PORT_POWER (suc n)) SetPower asked (MapHolds f) follows old new ordered was.owned owned (λ h. false_true (sym h ∙ asked.harmless refl))
 
     stood : (b : PortState) × (port_there old.roots (port n) ≡ Some b)
     stood =
@@ -162,15 +162,15 @@ module _ (t : Target) (f : Claims) (j : Spot) (held : f (path_to j) ≡ Some t.a
     now_powered : IsKnownAs new (port n) None
     now_powered = powered_stands (port n) old new done was.order stood.0 stood.1 (was.off n (omega arith) stood.0 stood.1)
 
-    rests : (i : ℕ) → same_number n i ≡ false → Course (AsksNothingOf (port i)) old new
+    rests : (i : ℕ) → same_number n i ≡ false → Course (LeavesPortAlone (port i)) old new
     rests i apart =
-        hub_rests t j n (set_port_feature PORT_POWER (suc n)) SetPower asked (Owned f) follows old (Ok tt) new tt ordered.stages was.owned (port i) (siblings (path_to j) n i apart)
+        hub_rests t j n (set_port_feature PORT_POWER (suc n)) SetPower asked (MapHolds f) follows old (Ok tt) new tt ordered.stages was.owned (port i) (siblings (path_to j) n i apart)
 
     one_more : Given (suc n) new
     one_more = record {
       sound = ordered.ends.still;
       owned = owned;
-      order = orderly_on was.order (done_course done);
+      order = orderly_on was.order (power_course done);
       powered = λ i below. by_number i (less_or i n below);
       off = λ i above. stays_unpowered (port i) (course_wider (λ s w k. k.leaves) (rests i (apart_more n i (omega (arith, above))))) (was.off i (omega (arith, above)));
     }
@@ -185,11 +185,11 @@ module _ (t : Target) (f : Claims) (j : Spot) (held : f (path_to j) ≡ Some t.a
 
 -- The reads of a hub's descriptor and status
 
-asked_keeps : (t : Target) (request : Setup) (old : World) (answer : Result (Vec ℕ) PipeFault) (new : World) → is_harmless request ≡ true → Is request DEVICE_OUT SET_ADDRESS ≡ false → AskedData t request old answer new → KeepsAddresses old new
+asked_keeps : (t : Target) (request : Setup) (old : World) (answer : Result (Vec ℕ) PipeFault) (new : World) → is_harmless request ≡ true → Is request DEVICE_OUT SET_ADDRESS ≡ false → Queried t request old answer new → KeepsAddresses old new
 asked_keeps t request old answer new harmless other asked = read_keeps t request (same_setup request) harmless other 3 1 old new answer asked.ends asked.stages
 
-module _ (t : Target) (f : Claims) (j : Spot) (held : f (path_to j) ≡ Some t.addr) where
-  asked_on : (request : Setup) (old : World) (answer : Result (Vec ℕ) PipeFault) (new : World) → is_harmless request ≡ true → Is request DEVICE_OUT SET_ADDRESS ≡ false → new.fault ≡ None → AskedData t request old answer new → Given t f j held 0 old → Given t f j held 0 new
+module _ (t : Target) (f : AddressMap) (j : Location) (held : f (path_to j) ≡ Some t.addr) where
+  asked_on : (request : Setup) (old : World) (answer : Result (Vec ℕ) PipeFault) (new : World) → is_harmless request ≡ true → Is request DEVICE_OUT SET_ADDRESS ≡ false → new.fault ≡ None → Queried t request old answer new → Given t f j held 0 old → Given t f j held 0 new
   asked_on request old answer new harmless other none asked was = record {
     sound = none;
     owned = ((asked_keeps t request old answer new harmless other asked).kept f (record { so = λ h. was.owned; single = was.owned.single })).so none;
@@ -198,7 +198,7 @@ module _ (t : Target) (f : Claims) (j : Spot) (held : f (path_to j) ≡ Some t.a
     off = λ i above. stays_unpowered (path_to j ++ (suc i ∷ [])) (course_wider (λ s w k. k.leaves) (rests (path_to j ++ (suc i ∷ [])))) (was.off i above);
   }
     where
-      rests : AllRest old new
+      rests : TouchesNoPort old new
       rests = asked.rests (sound_end 3 answer old new asked.ends none)
 
   started_given : (old new : World) (facts : HubFacts) → Started t old new facts → Given t f j held 0 old → Given t f j held facts.ports new
@@ -217,19 +217,19 @@ module _ (t : Target) (f : Claims) (j : Spot) (held : f (path_to j) ≡ Some t.a
 
 -- The configuring of a hub
 
-module _ (t : Target) (value l m : ℕ) (told : Option HubFacts) {before given set started new : World} {a b c d : Option (List ℕ)} (went_given : WentOn l before a given b) (keeps_given : KeepsAddresses before given)
-    (went_set : WentOn m given c set d) (ordered : Ordered t (set_configuration value) given (Ok tt) set) (what : set.shared ≡ false → EachWas (ConfigurationAsked t value (Ok tt) set) given set) (keeps_set : KeepsAddresses given set)
+module _ (t : Target) (value l m : ℕ) (told : Option HubFacts) {before given set started new : World} {a b c d : Option (List ℕ)} (went_given : StepRun l before a given b) (keeps_given : KeepsAddresses before given)
+    (went_set : StepRun m given c set d) (ordered : Commanded t (set_configuration value) given (Ok tt) set) (what : set.shared ≡ false → EachWas (ConfigurationAsked t value (Ok tt) set) given set) (keeps_set : KeepsAddresses given set)
     (starts : (facts : HubFacts) → told ≡ Some facts → Started t set started facts) (asks : OnlyAsks started new)
-    (f : Claims) (p : List ℕ) (held : f p ≡ Some t.addr) (till : TillFault (Owned f) before) (order : IsInOrder before) (working : new.fault ≡ None) where
-  own_given : TillFault (Owned f) given
+    (f : AddressMap) (p : List ℕ) (held : f p ≡ Some t.addr) (till : WhileBusWorks (MapHolds f) before) (order : IsInOrder before) (working : new.fault ≡ None) where
+  own_given : WhileBusWorks (MapHolds f) given
   own_given = keeps_given.kept f till
 
-  own_set : TillFault (Owned f) set
+  own_set : WhileBusWorks (MapHolds f) set
   own_set = keeps_set.kept f own_given
 
   who : Answerer t given set
   unfolding set_configuration
-  who = who_writes t (set_configuration value) tt given set (same_setup (set_configuration value)) (λ h. no (sym h)) ordered.settled ordered.stages own_set.single
+  who = who_writes t (set_configuration value) tt given set (same_setup (set_configuration value)) (λ h. false_true (sym h)) ordered.settled ordered.stages own_set.single
 
   path : path_to who.spot ≡ p
   path =
@@ -260,11 +260,11 @@ module _ (t : Target) (value l m : ℕ) (told : Option HubFacts) {before given s
       (given_below t f who.spot held_there started new facts (started_given t f who.spot held_there set started facts (starts facts is) all_off_set) working asks number least most)
 
 -- the same of what a call answered
-pub empties_ports : (t : Target) (value l m : ℕ) (told : Option HubFacts) (outcome : Result (Unit {0}) PipeFault) {before given set started new : World} {a b c d : Option (List ℕ)} → WentOn l before a given b → OnlyAsks before given
-    → WentOn m given c set d → outcome ≡ Ok tt → Ordered t (set_configuration value) given outcome set → (set.shared ≡ false → EachWas (ConfigurationAsked t value outcome set) given set) → KeepsAddresses given set
+pub empties_ports : (t : Target) (value l m : ℕ) (told : Option HubFacts) (outcome : Result (Unit {0}) PipeFault) {before given set started new : World} {a b c d : Option (List ℕ)} → StepRun l before a given b → OnlyAsks before given
+    → StepRun m given c set d → outcome ≡ Ok tt → Commanded t (set_configuration value) given outcome set → (set.shared ≡ false → EachWas (ConfigurationAsked t value outcome set) given set) → KeepsAddresses given set
     → ((facts : HubFacts) → told ≡ Some facts → Started t set started facts) → OnlyAsks started new
     → EmptiesPorts t.addr told before new
 empties_ports t value l m told outcome {before} {given} {set} {started} {new} went_given asks_given went_set done ordered what keeps starts asks = record {
-  empty = configured_below t value l m told went_given asks_given.addresses went_set (subst (λ r. Ordered t (set_configuration value) given r set) done ordered)
+  empty = configured_below t value l m told went_given asks_given.addresses went_set (subst (λ r. Commanded t (set_configuration value) given r set) done ordered)
       (subst (λ r. set.shared ≡ false → EachWas (ConfigurationAsked t value r set) given set) done what) keeps starts asks;
 }

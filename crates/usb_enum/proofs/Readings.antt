@@ -10,7 +10,7 @@ use Rattle.usb_world.specs.Devices.{EachWas}
 use Rattle.usb_world.specs.World.{World}
 use Rattle.usb_world.proofs.Interface.{each_joined, each_none, each_wider}
 use Rattle.usb_transaction.specs.declared.target.Target.{Target}
-use Rattle.usb_bus.specs.Traces.{WentOn}
+use Rattle.usb_bus.specs.Traces.{StepRun}
 use Rattle.usb_pipe.specs.declared.fault.PipeFault.{PipeFault}
 use Rattle.usb_pipe.specs.declared.fault.PipeFault.TheVariants.{Stalled}
 use Rattle.usb_hub.specs.Addresses.{StaysAs, KeepsDevices}
@@ -18,7 +18,7 @@ use Rattle.usb_hub.specs.GivenAnswers.{unless_refused, config_given, HasText, Re
 use Rattle.usb_hub.proofs.Interface.{stays_joined}
 use Rattle.usb_enum.specs.declared.cause.Cause.{Cause}
 use Rattle.usb_enum.specs.Verdicts.{text_read, is_good_text, texts_below, config_fault, first_fault, text_fault}
-use Rattle.usb_enum.specs.LearnedFacts.{Learned, Learns}
+use Rattle.usb_enum.specs.LearnedFacts.{Learned, DeviceFact}
 use Rattle.usb_enum.specs.Readings.{AtMaximum, HasTotal, HasConfiguration, HasConfigurations}
 use Rattle.usb_enum.specs.Stop.{answered_or}
 use Rattle.usb_enum.specs.Text.{config_text_of, any_has_value}
@@ -28,38 +28,38 @@ use Rattle.usb_enum.proofs.SharedAddresses.{went_unshared}
 use Rattle.usb_enum.proofs.VerdictRows.{first_none}
 
 -- where nothing went, what is so of every description
-pub learns_none : (So : Spec → Type 0) (t : Target) (w : World) → ((spec : Spec) → So spec) → Learns So t w w
+pub learns_none : (So : Spec → Type 0) (t : Target) (w : World) → ((spec : Spec) → So spec) → DeviceFact So t w w
 learns_none So t w all single = each_none (Learned So t) (λ j s. record { frame = refl; so = λ at. all s.spec }) w
 
 -- what is learned before a call and in it
-pub learns_on : (A B C : Spec → Type 0) (t : Target) (n : ℕ) (old mid new : World) {r s : Option (List ℕ)} → ((spec : Spec) → A spec → B spec → C spec) → Learns A t old mid → WentOn n mid r new s → Learns B t mid new
-    → Learns C t old new
+pub learns_on : (A B C : Spec → Type 0) (t : Target) (n : ℕ) (old mid new : World) {r s : Option (List ℕ)} → ((spec : Spec) → A spec → B spec → C spec) → DeviceFact A t old mid → StepRun n mid r new s → DeviceFact B t mid new
+    → DeviceFact C t old new
 learns_on A B C t n old mid new f a went b =
     learns_wider (λ x. A x × B x) C t old new (λ x both. f x both.0 both.1) (learns_then A B t old mid new (went_unshared n mid new went) a b)
 
 -- a call that leaves each device as it was, after others
 
-pub devices_then : (n : ℕ) (old mid new : World) {r s : Option (List ℕ)} → KeepsDevices old mid → WentOn n mid r new s → KeepsDevices mid new → KeepsDevices old new
+pub devices_then : (n : ℕ) (old mid new : World) {r s : Option (List ℕ)} → KeepsDevices old mid → StepRun n mid r new s → KeepsDevices mid new → KeepsDevices old new
 devices_then n old mid new a went b = record {
   stays = λ single.
       each_joined StaysAs StaysAs StaysAs stays_joined old mid new (a.stays (went_unshared n mid new went single)) (b.stays single);
 }
 
-pub learns_kept : (So : Spec → Type 0) (t : Target) (n : ℕ) (old mid new : World) {r s : Option (List ℕ)} → Learns So t old mid → WentOn n mid r new s → KeepsDevices mid new → Learns So t old new
+pub learns_kept : (So : Spec → Type 0) (t : Target) (n : ℕ) (old mid new : World) {r s : Option (List ℕ)} → DeviceFact So t old mid → StepRun n mid r new s → KeepsDevices mid new → DeviceFact So t old new
 learns_kept So t n old mid new a went keeps single =
     each_joined (Learned So t) StaysAs (Learned So t) (λ j s u v x y. record { frame = stays_joined j s u v x.frame y; so = x.so }) old mid new
     (a (went_unshared n mid new went single)) (keeps.stays single)
 
 module _ {A X : Type 0} (given : Spec → Option X) (Has : State → A → Type 0) (t : Target) (outcome : Result A PipeFault) (old new : World) where
   -- by an answer
-  pub answer_learned : (So : Spec → Type 0) (answer : A) → outcome ≡ Ok answer → ((s : State) → Has s answer → So s.spec) → (new.shared ≡ false → EachWas (ReadAsked given Has t outcome) old new) → Learns So t old new
+  pub answer_learned : (So : Spec → Type 0) (answer : A) → outcome ≡ Ok answer → ((s : State) → Has s answer → So s.spec) → (new.shared ≡ false → EachWas (ReadAsked given Has t outcome) old new) → DeviceFact So t old new
   answer_learned So answer is f what single =
       each_wider (ReadAsked given Has t outcome) (Learned So t)
       (λ j s v x. record { frame = x.frame; so = λ at. f s (x.done at answer is) })
       old new (what single)
 
   -- by a refusal
-  pub refusal_learned : (So : Spec → Type 0) → outcome ≡ Err Stalled → ((spec : Spec) → given spec ≡ None → So spec) → (new.shared ≡ false → EachWas (ReadAsked given Has t outcome) old new) → Learns So t old new
+  pub refusal_learned : (So : Spec → Type 0) → outcome ≡ Err Stalled → ((spec : Spec) → given spec ≡ None → So spec) → (new.shared ≡ false → EachWas (ReadAsked given Has t outcome) old new) → DeviceFact So t old new
   refusal_learned So is f what single =
       each_wider (ReadAsked given Has t outcome) (Learned So t)
       (λ j s v x. record { frame = x.frame; so = λ at. f s.spec (x.stalled at is) })
@@ -67,14 +67,14 @@ module _ {A X : Type 0} (given : Spec → Option X) (Has : State → A → Type 
 
 -- by a text, at the device's maximum packet
 pub text_learned : (given : Spec → Option (List ℕ)) (So : Spec → Type 0) (t : Target) (wanted : ℕ) (outcome : Result (Vec ℕ) PipeFault) (bytes : Vec ℕ) (old new : World) → outcome ≡ Ok bytes
-    → ((spec : Spec) (text : List ℕ) → given spec ≡ Some text → bytes.items ≡ take wanted text → So spec) → (new.shared ≡ false → EachWas (TextAsked given t wanted outcome) old new) → Learns (AtMaximum t So) t old new
+    → ((spec : Spec) (text : List ℕ) → given spec ≡ Some text → bytes.items ≡ take wanted text → So spec) → (new.shared ≡ false → EachWas (TextAsked given t wanted outcome) old new) → DeviceFact (AtMaximum t So) t old new
 text_learned given So t wanted outcome bytes old new is f =
     answer_learned given (λ s b. HasText (given s.spec) t wanted s b.items) t outcome old new (AtMaximum t So) bytes is (λ s has max. f s.spec has.text has.is (has.first (inl max)))
 
 -- Configurations
 
 pub total_learned : (t : Target) (stalled : Cause) (index total : ℕ) (outcome : Result (Vec ℕ) PipeFault) (bytes : Vec ℕ) (old new : World) → answered_or stalled outcome ≡ Ok bytes → config_head_of bytes.items ≡ Ok total
-    → (new.shared ≡ false → EachWas (ConfigAsked t index 9 outcome) old new) → Learns (AtMaximum t (HasTotal index total)) t old new
+    → (new.shared ≡ false → EachWas (ConfigAsked t index 9 outcome) old new) → DeviceFact (AtMaximum t (HasTotal index total)) t old new
 total_learned t stalled index total outcome bytes old new answered head =
     text_learned (config_given index) (HasTotal index total) t 9 outcome bytes old new (answered_ok stalled outcome bytes answered)
     (λ spec text given first. record { text = text; given = given; head = ap config_head_of (sym first) ∙ head })
@@ -109,8 +109,8 @@ record HasBytes (index total : ℕ) (bytes : List ℕ) (spec : Spec) : Type 0 wh
   pub first : bytes ≡ take total text
 
 pub configuration_learned : (t : Target) (stalled : Cause) (index total n : ℕ) (outcome : Result (Vec ℕ) PipeFault) (bytes : Vec ℕ) (text : List ℕ) (old mid new : World) {r s : Option (List ℕ)}
-    → answered_or stalled outcome ≡ Ok bytes → Some text ≡ config_text_of bytes.items → Learns (AtMaximum t (HasTotal index total)) t old mid → WentOn n mid r new s
-    → (new.shared ≡ false → EachWas (ConfigAsked t index total outcome) mid new) → Learns (AtMaximum t (HasConfiguration index text)) t old new
+    → answered_or stalled outcome ≡ Ok bytes → Some text ≡ config_text_of bytes.items → DeviceFact (AtMaximum t (HasTotal index total)) t old mid → StepRun n mid r new s
+    → (new.shared ≡ false → EachWas (ConfigAsked t index total outcome) mid new) → DeviceFact (AtMaximum t (HasConfiguration index text)) t old new
 configuration_learned t stalled index total n outcome bytes text old mid new answered good head went what =
     let Has : Spec → Type 0 = HasBytes index total bytes.items in
     learns_on (AtMaximum t (HasTotal index total)) (AtMaximum t Has) (AtMaximum t (HasConfiguration index text)) t n old mid new
@@ -153,7 +153,7 @@ configurations_more count texts text spec differs before now =
     }
 
 pub configurations_learned : (t : Target) (count n : ℕ) (texts : List (List ℕ)) (text : List ℕ) (old mid new : World) {r s : Option (List ℕ)} → any_has_value (configuration_value text) texts ≡ false
-    → Learns (AtMaximum t (HasConfigurations count texts)) t old mid → WentOn n mid r new s → Learns (AtMaximum t (HasConfiguration count text)) t mid new → Learns (AtMaximum t (HasConfigurations (count + 1) (texts ++ text ∷ []))) t old new
+    → DeviceFact (AtMaximum t (HasConfigurations count texts)) t old mid → StepRun n mid r new s → DeviceFact (AtMaximum t (HasConfiguration count text)) t mid new → DeviceFact (AtMaximum t (HasConfigurations (count + 1) (texts ++ text ∷ []))) t old new
 configurations_learned t count n texts text old mid new differs before went now =
     learns_on (AtMaximum t (HasConfigurations count texts)) (AtMaximum t (HasConfiguration count text)) (AtMaximum t (HasConfigurations (count + 1) (texts ++ text ∷ []))) t n old mid new
     (λ spec b h max. configurations_more count texts text spec differs (b max) (h max)) before went now

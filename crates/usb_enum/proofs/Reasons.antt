@@ -6,7 +6,7 @@ use Rattle.usb_request.specs.declared.setup.Setup.{Setup}
 use Rattle.usb_request.specs.Requests.{get_status}
 use Rattle.usb_world.specs.World.{World}
 use Rattle.usb_transaction.specs.declared.target.Target.{Target}
-use Rattle.usb_transaction.specs.Transactions.{Worked}
+use Rattle.usb_transaction.specs.Transactions.{AttemptsMade}
 use Rattle.usb_port.specs.declared.status.PortStatus.{PortStatus}
 use Rattle.usb_pipe.specs.declared.fault.PipeFault.{PipeFault}
 use Rattle.usb_pipe.specs.declared.fault.PipeFault.TheVariants as pipe
@@ -15,7 +15,7 @@ use Rattle.usb_pipe.specs.Stages.{Reads, WasRead, Writes}
 use Rattle.usb_hub.specs.declared.port.HubPort.{HubPort}
 use Rattle.usb_hub.specs.declared.status.DeviceStatus.{DeviceStatus}
 use Rattle.usb_hub.specs.Port.{PortCleared, PortRead, PortSet}
-use Rattle.usb_hub.specs.Requests.{AskedData, EndsAfter, Ordered, Told, device_status, said_in}
+use Rattle.usb_hub.specs.Requests.{Queried, EndsAfter, Commanded, ReadAs, device_status, said_in}
 use Rattle.usb_enum.specs.declared.cause.Cause.{Cause}
 use Rattle.usb_enum.specs.declared.cause.Cause.TheVariants as cause
 use Rattle.usb_enum.specs.declared.cause.Request.{Request}
@@ -24,9 +24,9 @@ use Rattle.usb_enum.specs.declared.fault.EnumFault.TheVariants as fault
 use Rattle.usb_enum.specs.declared.stop.Stop.{Stop}
 use Rattle.usb_enum.specs.declared.stop.Stop.TheVariants.{Refused, Fault}
 use Rattle.usb_enum.specs.LastRequests.{Leads}
-use Rattle.usb_enum.specs.Reasons.{FailsAs, EndsFailing, EndsReading, IsAny, IsNamed, DescriptorRead, TextRead, BadDescriptor, bad_head, bad_front, BadText, bad_total, bad_text, repeated, Because, StopTold}
-use Rattle.usb_enum.specs.Reasons.{HubFails, no_descriptor, bad_descriptor, no_status, no_power, ToldOfHub, ToldAtStart, PortFails, FaultBy, IsSpokenTo, RefusedEarly, answered, not_enabled, StopToldAt, NoAnswerTold}
-use Rattle.usb_enum.specs.Stop.{CanFail, FaultAt, FaultTold, IsPlain, StopFaults, StopToldIn, StopToldWithout, answered_or, at_port, stop_of}
+use Rattle.usb_enum.specs.Reasons.{FailsAs, EndsFailing, EndsReading, IsAny, IsNamed, DescriptorRead, TextRead, BadDescriptor, bad_head, bad_front, BadText, bad_total, bad_text, repeated, Because, CauseAllowed}
+use Rattle.usb_enum.specs.Reasons.{HubFails, no_descriptor, bad_descriptor, no_status, no_power, CauseAllowedOfHub, CauseAllowedAtStart, PortFails, FaultBy, IsSpokenTo, RefusedEarly, answered, not_enabled, CauseAllowedAt, NoAnswerTold}
+use Rattle.usb_enum.specs.Stop.{CanFail, FaultAllowedAt, FaultAllowed, IsPlain, StopFaults, CauseAllowedIn, CauseAllowedWithout, answered_or, at_port, stop_of}
 use Rattle.usb_enum.proofs.LastRequests.{leads_none, leads_then}
 use Rattle.usb_enum.proofs.Refusals.{answered_err, answered_ok}
 use Rattle.usb_enum.proofs.ToldFailures.{clear_fails, plain_fits, read_fails, set_fails}
@@ -54,7 +54,7 @@ text_after led got = record { size = got.size; read = reading_after led got.read
 -- a request that was answered
 pub was_read : {t : Target} {setup : Setup} {outcome : Result (Vec ℕ) PipeFault} {old new : World}
     (stalled : Cause) (bytes : Vec ℕ) → answered_or stalled outcome ≡ Ok bytes
-    → AskedData t setup old outcome new → EndsReading t setup bytes.items old new
+    → Queried t setup old outcome new → EndsReading t setup bytes.items old new
 was_read {t} {setup} {outcome} {old} {new} stalled bytes is asked =
     reading (subst (λ r. Reads t setup old r new) (answered_ok stalled outcome bytes is)
     asked.stages)
@@ -63,11 +63,11 @@ was_read {t} {setup} {outcome} {old} {new} stalled bytes is asked =
 
 -- by each fault
 stop_by : {A : Type 0} (P : Stop → Type 0) (Failed_as : PipeFault → Type 0) (stalled : Cause) (outcome : Result A PipeFault) (stop : Stop) (m n : ℕ) (old new : World) → answered_or stalled outcome ≡ Err stop
-    → ((why : PipeFault) → outcome ≡ Err why → Failed_as why) → MatchResult outcome (λ _. Worked m old new) (λ why. FaultAfter n old why new)
-    → (Failed_as pipe.Stalled → P (Refused stalled)) → (Failed_as pipe.Busy → P (Refused cause.Busy)) → (Failed_as pipe.NoAnswer → P (Refused cause.Silent)) → ((why : EnumFault) → FaultTold why new → P (Fault why)) → P stop
+    → ((why : PipeFault) → outcome ≡ Err why → Failed_as why) → MatchResult outcome (λ _. AttemptsMade m old new) (λ why. FaultAfter n old why new)
+    → (Failed_as pipe.Stalled → P (Refused stalled)) → (Failed_as pipe.Busy → P (Refused cause.Busy)) → (Failed_as pipe.NoAnswer → P (Refused cause.Silent)) → ((why : EnumFault) → FaultAllowed why new → P (Fault why)) → P stop
 stop_by {A} P Failed_as stalled outcome stop m n old new is failed ends by_stall by_wait by_silence by_fault =
     let f = answered_err stalled outcome stop is in
-    subst P f.2 (by f.0 (failed f.0 f.1) (subst (λ (r : Result A PipeFault). MatchResult r (λ _. Worked m old new) (λ why. FaultAfter n old why new)) f.1 ends))
+    subst P f.2 (by f.0 (failed f.0 f.1) (subst (λ (r : Result A PipeFault). MatchResult r (λ _. AttemptsMade m old new) (λ why. FaultAfter n old why new)) f.1 ends))
   where
     by : (why : PipeFault) → Failed_as why → FaultAfter n old why new → P (unwrap_or (stop_of why) (Refused stalled))
     by pipe.Stalled failed_so after = by_stall failed_so
@@ -79,17 +79,17 @@ stop_by {A} P Failed_as stalled outcome stop m n old new is failed ends by_stall
 
 -- of a request that a refusal names
 stop_told : {A : Type 0} (t : Target) (setup : Setup) (named : Request) (outcome : Result A PipeFault) (stop : Stop) (m n : ℕ) (old new : World) → answered_or (cause.Stalled named) outcome ≡ Err stop → IsNamed named setup
-    → ((why : PipeFault) → outcome ≡ Err why → FailsAs t setup why old new) → MatchResult outcome (λ _. Worked m old new) (λ why. FaultAfter n old why new) → StopTold t stop old new
+    → ((why : PipeFault) → outcome ≡ Err why → FailsAs t setup why old new) → MatchResult outcome (λ _. AttemptsMade m old new) (λ why. FaultAfter n old why new) → CauseAllowed t stop old new
 stop_told t setup named outcome stop m n old new is names failed ends =
-    stop_by (λ s. StopTold t s old new) (λ why. FailsAs t setup why old new) (cause.Stalled named) outcome stop m n old new is failed ends
+    stop_by (λ s. CauseAllowed t s old new) (λ why. FailsAs t setup why old new) (cause.Stalled named) outcome stop m n old new is failed ends
     (failing (IsNamed named) pipe.Stalled names) (failing IsAny pipe.Busy tt) (failing IsAny pipe.NoAnswer tt) (λ why told. told)
 
 -- of a request to a hub
-pub hub_told : {A : Type 0} (t : Target) (setup : Setup) (outcome : Result A PipeFault) (stop : Stop) (m n : ℕ) (old new : World) → answered_or cause.BadHub outcome ≡ Err stop
-    → ((why : PipeFault) → outcome ≡ Err why → FailsAs t setup why old new) → MatchResult outcome (λ _. Worked m old new) (λ why. FaultAfter n old why new)
-    → (EndsFailing t (λ x. x ≡ setup) pipe.Stalled old new → HubFails t old new) → ToldOfHub t stop old new
-hub_told t setup outcome stop m n old new is failed ends bad =
-    stop_by (λ s. ToldOfHub t s old new) (λ why. FailsAs t setup why old new) cause.BadHub outcome stop m n old new is failed ends
+pub bad_hub_told : {A : Type 0} (t : Target) (setup : Setup) (outcome : Result A PipeFault) (stop : Stop) (m n : ℕ) (old new : World) → answered_or cause.BadHub outcome ≡ Err stop
+    → ((why : PipeFault) → outcome ≡ Err why → FailsAs t setup why old new) → MatchResult outcome (λ _. AttemptsMade m old new) (λ why. FaultAfter n old why new)
+    → (EndsFailing t (λ x. x ≡ setup) pipe.Stalled old new → HubFails t old new) → CauseAllowedOfHub t stop old new
+bad_hub_told t setup outcome stop m n old new is failed ends bad =
+    stop_by (λ s. CauseAllowedOfHub t s old new) (λ why. FailsAs t setup why old new) cause.BadHub outcome stop m n old new is failed ends
     (λ f. inl (refl, bad (failing (λ x. x ≡ setup) pipe.Stalled refl f))) (λ f. inr (failing IsAny pipe.Busy tt f)) (λ f. inr (failing IsAny pipe.NoAnswer tt f)) (λ why told. told)
 
 pub reads_failed : (t : Target) (setup : Setup) (outcome : Result (Vec ℕ) PipeFault) (old new : World) → Reads t setup old outcome new → (why : PipeFault) → outcome ≡ Err why → FailsAs t setup why old new
@@ -99,19 +99,19 @@ pub writes_failed : (t : Target) (setup : Setup) (outcome : Result (Unit {0}) Pi
 writes_failed t setup outcome old new stages why is = inr (subst (λ r. Writes t setup old r new) is stages)
 
 -- so it is of one for data, and of one without
-pub read_told : {t : Target} {setup : Setup} {outcome : Result (Vec ℕ) PipeFault} {old new : World}
+pub read_stop_told : {t : Target} {setup : Setup} {outcome : Result (Vec ℕ) PipeFault} {old new : World}
     (named : Request) (stop : Stop) → IsNamed named setup
-    → answered_or (cause.Stalled named) outcome ≡ Err stop → AskedData t setup old outcome new
-    → StopTold t stop old new
-read_told {t} {setup} {outcome} {old} {new} named stop names is asked =
+    → answered_or (cause.Stalled named) outcome ≡ Err stop → Queried t setup old outcome new
+    → CauseAllowed t stop old new
+read_stop_told {t} {setup} {outcome} {old} {new} named stop names is asked =
     stop_told t setup named outcome stop 3 1 old new is names
     (reads_failed t setup outcome old new asked.stages) asked.ends
 
-pub write_told : {t : Target} {setup : Setup} {outcome : Result (Unit {0}) PipeFault}
+pub write_stop_told : {t : Target} {setup : Setup} {outcome : Result (Unit {0}) PipeFault}
     {old new : World} (named : Request) (stop : Stop) → IsNamed named setup
-    → answered_or (cause.Stalled named) outcome ≡ Err stop → Ordered t setup old outcome new
-    → StopTold t stop old new
-write_told {t} {setup} {outcome} {old} {new} named stop names is ordered =
+    → answered_or (cause.Stalled named) outcome ≡ Err stop → Commanded t setup old outcome new
+    → CauseAllowed t stop old new
+write_stop_told {t} {setup} {outcome} {old} {new} named stop names is ordered =
     stop_told t setup named outcome stop 2 1 old new is names
     (writes_failed t setup outcome old new ordered.stages) ordered.ends
 
@@ -135,9 +135,9 @@ StatusFails t old new why = (answer : Result (Vec ℕ) PipeFault) × (Reads t ge
 status_failed : (t : Target) (why : PipeFault) (old new : World) → why ≢ pipe.Stalled → StatusFails t old new why → FailsAs t get_status why old new
 status_failed t why old new other f = inl (subst (λ r. Reads t get_status old r new) (said_err f.0 get_status.length why other f.1.1) f.1.0)
 
-pub status_told : (t : Target) (outcome : Result DeviceStatus PipeFault) (stop : Stop) (old new : World) → answered_or cause.BadHub outcome ≡ Err stop → Told device_status t get_status old outcome new → ToldOfHub t stop old new
+pub status_told : (t : Target) (outcome : Result DeviceStatus PipeFault) (stop : Stop) (old new : World) → answered_or cause.BadHub outcome ≡ Err stop → ReadAs device_status t get_status old outcome new → CauseAllowedOfHub t stop old new
 status_told t outcome stop old new is told =
-    stop_by (λ s. ToldOfHub t s old new) (StatusFails t old new) cause.BadHub outcome stop 3 1 old new is
+    stop_by (λ s. CauseAllowedOfHub t s old new) (StatusFails t old new) cause.BadHub outcome stop 3 1 old new is
     (λ why e. (told.answer, (told.asked.stages, sym told.told ∙ e))) told.ends
     (λ f. inl (refl, no_status old f.0 (leads_none old) f.1.0 f.1.1))
     (λ f. inr (failing IsAny pipe.Busy tt (status_failed t pipe.Busy old new (λ e. absurd cc) f)))
@@ -146,21 +146,21 @@ status_told t outcome stop old new is told =
 
 -- of a string, whose STALL is no stop
 pub string_told : (t : Target) (setup : Setup) (outcome : Result (Vec ℕ) PipeFault) (fault_is : PipeFault) (stop : Stop) (old new : World) → outcome ≡ Err fault_is → stop_of fault_is ≡ Some stop → Reads t setup old outcome new → EndsAfter 3 old outcome new
-    → StopTold t stop old new
+    → CauseAllowed t stop old new
 string_told t setup outcome fault_is stop old new is some stages ends =
     by fault_is stop some (reads_failed t setup outcome old new stages fault_is is) (subst (λ r. EndsAfter 3 old r new) is ends)
   where
-    by : (why : PipeFault) (s : Stop) → stop_of why ≡ Some s → FailsAs t setup why old new → FaultAfter 1 old why new → StopTold t s old new
+    by : (why : PipeFault) (s : Stop) → stop_of why ≡ Some s → FailsAs t setup why old new → FaultAfter 1 old why new → CauseAllowed t s old new
     by pipe.Stalled s e failed after = absurd cc
-    by pipe.Busy s e failed after = subst (λ x. StopTold t x old new) (let same : Refused cause.Busy ≡ s = cc in same) (failing IsAny pipe.Busy tt failed)
-    by pipe.NoAnswer s e failed after = subst (λ x. StopTold t x old new) (let same : Refused cause.Silent ≡ s = cc in same) (failing IsAny pipe.NoAnswer tt failed)
+    by pipe.Busy s e failed after = subst (λ x. CauseAllowed t x old new) (let same : Refused cause.Busy ≡ s = cc in same) (failing IsAny pipe.Busy tt failed)
+    by pipe.NoAnswer s e failed after = subst (λ x. CauseAllowed t x old new) (let same : Refused cause.Silent ≡ s = cc in same) (failing IsAny pipe.NoAnswer tt failed)
     by pipe.Broken s e failed after = absurd after
-    by (pipe.Bus why) s e failed after = subst (λ x. StopTold t x old new) (let same : Fault (fault.Bus why) ≡ s = cc in same) after
-    by pipe.Memory s e failed after = subst (λ x. StopTold t x old new) (let same : Fault fault.Memory ≡ s = cc in same) tt
+    by (pipe.Bus why) s e failed after = subst (λ x. CauseAllowed t x old new) (let same : Fault (fault.Bus why) ≡ s = cc in same) after
+    by pipe.Memory s e failed after = subst (λ x. CauseAllowed t x old new) (let same : Fault fault.Memory ≡ s = cc in same) tt
 
 -- that there was no answer
-pub unanswered : (t : Target) (setup : Setup) (outcome : Result (Vec ℕ) PipeFault) (old new : World) → outcome ≡ Err pipe.NoAnswer → Reads t setup old outcome new → EndsFailing t IsAny pipe.NoAnswer old new
-unanswered t setup outcome old new is stages = failing IsAny pipe.NoAnswer tt (reads_failed t setup outcome old new stages pipe.NoAnswer is)
+pub unanswered_ends_failing : (t : Target) (setup : Setup) (outcome : Result (Vec ℕ) PipeFault) (old new : World) → outcome ≡ Err pipe.NoAnswer → Reads t setup old outcome new → EndsFailing t IsAny pipe.NoAnswer old new
+unanswered_ends_failing t setup outcome old new is stages = failing IsAny pipe.NoAnswer tt (reads_failed t setup outcome old new stages pipe.NoAnswer is)
 
 -- Of a device, after other steps
 
@@ -185,7 +185,7 @@ because_after cause.BadHub t old mid new led b = absurd b
 because_after cause.Lost t old mid new led b = absurd b
 because_after cause.NoAddress t old mid new led b = absurd b
 
-pub told_after : (stop : Stop) (t : Target) (old mid new : World) → Leads old mid → StopTold t stop mid new → StopTold t stop old new
+pub told_after : (stop : Stop) (t : Target) (old mid new : World) → Leads old mid → CauseAllowed t stop mid new → CauseAllowed t stop old new
 told_after (Refused why) t old mid new led told = because_after why t old mid new led told
 told_after (Fault why) t old mid new led told = told
 
@@ -197,12 +197,12 @@ fails_after led (bad_descriptor bytes why read bad) = bad_descriptor bytes why (
 fails_after led (no_status before answer first stages said) = no_status before answer (leads_then led first) stages said
 fails_after led (no_power port ends) = no_power port (failing_after led ends)
 
-pub hub_after : (stop : Stop) (t : Target) (old mid new : World) → Leads old mid → ToldOfHub t stop mid new → ToldOfHub t stop old new
+pub hub_after : (stop : Stop) (t : Target) (old mid new : World) → Leads old mid → CauseAllowedOfHub t stop mid new → CauseAllowedOfHub t stop old new
 hub_after (Refused why) t old mid new led (inl bad) = inl (bad.0, fails_after led bad.1)
 hub_after (Refused why) t old mid new led (inr b) = inr (because_after why t old mid new led b)
 hub_after (Fault why) t old mid new led told = told
 
-pub at_start : (stop : Stop) (t : Target) (text : List ℕ) (old new : World) → ToldOfHub t stop old new → ToldAtStart t text stop old new
+pub at_start : (stop : Stop) (t : Target) (text : List ℕ) (old new : World) → CauseAllowedOfHub t stop old new → CauseAllowedAtStart t text stop old new
 at_start (Refused why) t text old new (inl bad) = inl (bad.0, inr bad.1)
 at_start (Refused why) t text old new (inr b) = inr b
 at_start (Fault why) t text old new told = told
@@ -221,7 +221,7 @@ because_plain cause.BadHub t old new b = absurd b
 because_plain cause.Lost t old new b = tt
 because_plain cause.NoAddress t old new b = absurd b
 
-pub told_faults : (stop : Stop) (t : Target) (old new : World) → StopTold t stop old new → StopFaults stop new
+pub told_faults : (stop : Stop) (t : Target) (old new : World) → CauseAllowed t stop old new → StopFaults stop new
 told_faults (Refused why) t old new told = tt
 told_faults (Fault why) t old new told = told
 
@@ -238,7 +238,7 @@ port_fails {port} {old} {new} f = pick f.failed
     pick (inl read) = read_fails port f.before new (Err f.why) read refl
     pick (inr act) = acted act.0 act.1
 
-pub fault_by : (port : HubPort) (why : EnumFault) (old new : World) → FaultBy port why old new → FaultAt port why new
+pub fault_by : (port : HubPort) (why : EnumFault) (old new : World) → FaultBy port why old new → FaultAllowedAt port why new
 fault_by port fault.ParentLost old new by = port_fails by
 fault_by port (fault.Bus why) old new by = by
 fault_by port fault.Memory old new by = by
@@ -249,7 +249,7 @@ fault_after port (fault.Bus why) old mid new led by = by
 fault_after port fault.Memory old mid new led by = by
 
 -- no port was asked
-pub fault_told_by : (port : HubPort) (why : EnumFault) (old new : World) → FaultTold why new → FaultBy port why old new
+pub fault_told_by : (port : HubPort) (why : EnumFault) (old new : World) → FaultAllowed why new → FaultBy port why old new
 fault_told_by port fault.ParentLost old new told = absurd told
 fault_told_by port (fault.Bus why) old new told = told
 fault_told_by port fault.Memory old new told = told
@@ -269,12 +269,12 @@ called_by port (Err pipe.Memory) old new ends f = tt
 pub read_by : (port : HubPort) (outcome : Result PortStatus PipeFault) (old new : World) → IfErr outcome (λ why. FaultAfter 1 old why new) → PortRead port old outcome new → IfErr (at_port outcome) (λ why. FaultBy port why old new)
 read_by port outcome old new ends read = called_by port outcome old new ends (λ why is. inl (subst (λ r. PortRead port old r new) is read))
 
-pub set_by : (port : HubPort) (feature : ℕ) (outcome : Result (Unit {0}) PipeFault) (old new : World) → IfErr outcome (λ why. FaultAfter 1 old why new) → PortSet port feature old outcome new → IfErr (at_port outcome) (λ why. FaultBy port why old new)
-set_by port feature outcome old new ends set = called_by port outcome old new ends (λ why is. inr (feature, inl (subst (λ r. PortSet port feature old r new) is set)))
+pub port_set_fault : (port : HubPort) (feature : ℕ) (outcome : Result (Unit {0}) PipeFault) (old new : World) → IfErr outcome (λ why. FaultAfter 1 old why new) → PortSet port feature old outcome new → IfErr (at_port outcome) (λ why. FaultBy port why old new)
+port_set_fault port feature outcome old new ends set = called_by port outcome old new ends (λ why is. inr (feature, inl (subst (λ r. PortSet port feature old r new) is set)))
 
-pub cleared_by : (port : HubPort) (feature : ℕ) (outcome : Result (Unit {0}) PipeFault) (old new : World) → IfErr outcome (λ why. FaultAfter 1 old why new) → PortCleared port feature old outcome new
+pub port_cleared_fault : (port : HubPort) (feature : ℕ) (outcome : Result (Unit {0}) PipeFault) (old new : World) → IfErr outcome (λ why. FaultAfter 1 old why new) → PortCleared port feature old outcome new
     → IfErr (at_port outcome) (λ why. FaultBy port why old new)
-cleared_by port feature outcome old new ends cleared = called_by port outcome old new ends (λ why is. inr (feature, inr (subst (λ r. PortCleared port feature old r new) is cleared)))
+port_cleared_fault port feature outcome old new ends cleared = called_by port outcome old new ends (λ why is. inr (feature, inr (subst (λ r. PortCleared port feature old r new) is cleared)))
 
 -- how a call at the port ends
 pub call_ends : {A : Type 0} (port : HubPort) (result : Result A EnumFault)
@@ -294,14 +294,14 @@ early_after : {port : HubPort} {address : ℕ} {why : Cause} {old mid new : Worl
 early_after {why = why} {old = old} {mid = mid} {new = new} led (answered t is b) = answered t is (because_after why t old mid new led b)
 early_after led (not_enabled n) = not_enabled (record { before = n.before; led = leads_then led n.led; status = n.status; read = n.read; off = n.off })
 
-pub at_after : (stop : Stop) (port : HubPort) (address : ℕ) (old mid new : World) → Leads old mid → StopToldAt port address stop mid new → StopToldAt port address stop old new
+pub at_after : (stop : Stop) (port : HubPort) (address : ℕ) (old mid new : World) → Leads old mid → CauseAllowedAt port address stop mid new → CauseAllowedAt port address stop old new
 at_after (Refused why) port address old mid new led told = early_after led told
 at_after (Fault why) port address old mid new led told = fault_after port why old mid new led told
 
 -- of the device at the port
-pub told_at : (stop : Stop) (port : HubPort) (address : ℕ) (t : Target) (old new : World) → IsSpokenTo port address t → StopTold t stop old new → StopToldAt port address stop old new
-told_at (Refused why) port address t old new is told = answered t is told
-told_at (Fault why) port address t old new is told = fault_told_by port why old new told
+pub stop_told_at : (stop : Stop) (port : HubPort) (address : ℕ) (t : Target) (old new : World) → IsSpokenTo port address t → CauseAllowed t stop old new → CauseAllowedAt port address stop old new
+stop_told_at (Refused why) port address t old new is told = answered t is told
+stop_told_at (Fault why) port address t old new is told = fault_told_by port why old new told
 
 pub silent_after : {port : HubPort} {address : ℕ} {old mid new : World} → Leads old mid → NoAnswerTold port address mid new → NoAnswerTold port address old new
 silent_after led told = record { target = told.target; is = told.is; failed = failing_after led told.failed }
@@ -310,10 +310,10 @@ early_plain : {port : HubPort} {address : ℕ} {old new : World} (why : Cause) �
 early_plain {old = old} {new = new} why (answered t is b) = because_plain why t old new b
 early_plain why (not_enabled n) = tt
 
-pub told_in : (tier : ℕ) (stop : Stop) (port : HubPort) (address : ℕ) (old new : World) → StopToldAt port address stop old new → StopToldIn port tier stop new
+pub told_in : (tier : ℕ) (stop : Stop) (port : HubPort) (address : ℕ) (old new : World) → CauseAllowedAt port address stop old new → CauseAllowedIn port tier stop new
 told_in tier (Refused why) port address old new told = plain_fits tier why (early_plain why told)
 told_in tier (Fault why) port address old new told = fault_by port why old new told
 
-pub told_without : (stop : Stop) (port : HubPort) (address : ℕ) (old new : World) → StopToldAt port address stop old new → StopToldWithout port stop new
+pub told_without : (stop : Stop) (port : HubPort) (address : ℕ) (old new : World) → CauseAllowedAt port address stop old new → CauseAllowedWithout port stop new
 told_without (Refused why) port address old new told = inr (early_plain why told)
 told_without (Fault why) port address old new told = fault_by port why old new told

@@ -1,5 +1,5 @@
 -- How what a refusal tells of a device joins, and why a request for data fails.
-use Rattle.usb_device.specs.Tree.{Spot}
+use Rattle.usb_device.specs.Tree.{Location}
 use Rattle.std.proofs.Common.{◌≡◌, ◌⊎◌, inl, ◌≤◌, ℕ, ◌==◌, ◌&&◌, ◌||◌, not, Bool, true, false, List, if◌then◌else◌, Option, None, Some, Result, Ok, Err, refl, ap, sym, subst, ◌∙◌}
 use Rattle.std.specs.Prelude.{unwrap_or, IfOk, IfErr, IsErrAnd, MatchResult, ⊤}
 use Rattle.usb_device.specs.Spec.{Spec, IsSpec}
@@ -10,42 +10,42 @@ use Rattle.usb_world.specs.Devices.{Relation, EachWas}
 use Rattle.usb_world.specs.Paths.{address_of}
 use Rattle.usb_world.specs.AttemptPackets.{deep_at}
 use Rattle.usb_world.specs.World.{World}
-use Rattle.usb_world.proofs.Interface.{each_both, each_joined, each_none, each_wider, no}
+use Rattle.usb_world.proofs.Interface.{each_both, each_joined, each_none, each_wider, false_true}
 use Rattle.usb_transaction.specs.declared.target.Target.{Target}
 use Rattle.usb_transaction.specs.Leaves.{is_at}
 use Rattle.usb_transaction.specs.Failures.{NoThreeDamaged}
-use Rattle.usb_bus.specs.Traces.{WentOn}
+use Rattle.usb_bus.specs.Traces.{StepRun}
 use Rattle.usb_pipe.specs.declared.fault.PipeFault.{PipeFault}
 use Rattle.usb_pipe.specs.declared.fault.PipeFault.TheVariants as pipe
 use Rattle.usb_pipe.specs.Leaves.{IsMaximum}
-use Rattle.usb_hub.specs.GivenAnswers.{ReadAsked, WhyAsked}
+use Rattle.usb_hub.specs.GivenAnswers.{ReadAsked, ReadFailure}
 use Rattle.usb_hub.proofs.Interface.{stays-registers, stays-spec}
 use Rattle.usb_enum.specs.declared.cause.Cause.{Cause}
 use Rattle.usb_enum.specs.declared.fault.EnumFault.{EnumFault}
 use Rattle.usb_enum.specs.declared.stop.Stop.{Stop}
 use Rattle.usb_enum.specs.declared.stop.Stop.TheVariants.{Refused, Fault}
-use Rattle.usb_enum.specs.LearnedFacts.{Learned, Learns, Hears, HearsSet, Explained, Explains, ExplainsSet}
+use Rattle.usb_enum.specs.LearnedFacts.{Learned, DeviceFact, Hears, HearsSet, Explained, FailureReason, ExplainsSet}
 use Rattle.usb_enum.specs.Refusals.{IsResponsive, IsRefusedFor, Refuses}
 use Rattle.usb_enum.specs.Stop.{stop_of, answered_or}
 use Rattle.usb_enum.proofs.Damages.{went_three}
 use Rattle.usb_enum.proofs.SharedAddresses.{went_unshared}
 
 -- two things of each device in one call
-pub each_joint : (R S T : Relation) → ((j : Spot) (s v : State) → R j s v → S j s v → T j s v) → (old new : World) → EachWas R old new → EachWas S old new → EachWas T old new
+pub each_joint : (R S T : Relation) → ((j : Location) (s v : State) → R j s v → S j s v → T j s v) → (old new : World) → EachWas R old new → EachWas S old new → EachWas T old new
 each_joint R S T f old new x y = each_wider (λ j s v. R j s v × S j s v) T (λ j s v k. f j s v k.0 k.1) old new (each_both R S old new x y)
 
 -- from one call to the next
 
-pub hears_on : (t : Target) (place : Spot) (s u : State) → u.spec ≡ s.spec → address_of u ≡ address_of s → Hears t place s → Hears t place u
+pub hears_on : (t : Target) (place : Location) (s u : State) → u.spec ≡ s.spec → address_of u ≡ address_of s → Hears t place s → Hears t place u
 hears_on t place s u spec address h = record {
   at = ap (λ n. n == t.addr) address ∙ h.at;
   hears = ap (λ (x : Spec). if t.low then x.low && (not (deep_at false place.rest) || t.pre) else not x.low) spec ∙ h.hears;
 }
 
-hears_still : (t : Target) (place : Spot) (s u : State) → u.spec ≡ s.spec → u.registers ≡ s.registers → Hears t place s → Hears t place u
+hears_still : (t : Target) (place : Location) (s u : State) → u.spec ≡ s.spec → u.registers ≡ s.registers → Hears t place s → Hears t place u
 hears_still t place s u spec registers h = hears_on t place s u spec (ap (λ (r : Registers). r.address) registers) h
 
-set_still : (t : Target) (place : Spot) (s u : State) → u.spec ≡ s.spec → u.registers ≡ s.registers → HearsSet t place s → HearsSet t place u
+set_still : (t : Target) (place : Location) (s u : State) → u.spec ≡ s.spec → u.registers ≡ s.registers → HearsSet t place s → HearsSet t place u
 set_still t place s u spec registers h = record {
   hears = hears_still t place s u spec registers h.hears;
   addressed = h.addressed;
@@ -53,36 +53,36 @@ set_still t place s u spec registers h = record {
 }
 
 -- what was learned explains as well
-pub learned_explains : (A B : Spec → Type 0) (t : Target) (old new : World) → ((spec : Spec) → A spec → B spec) → Learns A t old new → Explains B t old new
+pub learned_explains : (A B : Spec → Type 0) (t : Target) (old new : World) → ((spec : Spec) → A spec → B spec) → DeviceFact A t old new → FailureReason B t old new
 learned_explains A B t old new f x three single =
     each_wider (Learned A t) (Explained Hears B t)
     (λ j s v l. record { spec = stays-spec s v l.frame; address = ap (λ (r : Registers). r.address) (stays-registers s v l.frame); so = λ h ruled. f s.spec (l.so h.at) }) old new (x single)
 
 -- a fault is no refusal
-pub fault_explains : (A : Spec → Type 0) (t : Target) (wrong : Spec → Option Cause) (fault : EnumFault) (old new : World) → Learns A t old new → Explains (Refuses t wrong (Fault fault)) t old new
+pub fault_explains : (A : Spec → Type 0) (t : Target) (wrong : Spec → Option Cause) (fault : EnumFault) (old new : World) → DeviceFact A t old new → FailureReason (Refuses t wrong (Fault fault)) t old new
 fault_explains A t wrong fault old new = learned_explains A (Refuses t wrong (Fault fault)) t old new (λ spec a r. tt)
 
 -- where nothing went, what is so of every description
-pub explains_none : (So : Spec → Type 0) (t : Target) (w : World) → ((spec : Spec) → So spec) → Explains So t w w
+pub explains_none : (So : Spec → Type 0) (t : Target) (w : World) → ((spec : Spec) → So spec) → FailureReason So t w w
 explains_none So t w all three single = each_none (Explained Hears So t) (λ j s. record { spec = refl; address = refl; so = λ h ruled. all s.spec }) w
 
 pub explains_set_none : (So : Spec → Type 0) (t : Target) (w : World) → ((spec : Spec) → So spec) → ExplainsSet So t w w
 explains_set_none So t w all three single = each_none (Explained HearsSet So t) (λ j s. record { spec = refl; address = refl; so = λ h ruled. all s.spec }) w
 
-pub explains_wider : (A B : Spec → Type 0) (t : Target) (old new : World) → ((spec : Spec) → A spec → B spec) → Explains A t old new → Explains B t old new
+pub explains_wider : (A B : Spec → Type 0) (t : Target) (old new : World) → ((spec : Spec) → A spec → B spec) → FailureReason A t old new → FailureReason B t old new
 explains_wider A B t old new f x three single =
     each_wider (Explained Hears A t) (Explained Hears B t) (λ j s v e. record { spec = e.spec; address = e.address; so = λ h ruled. f s.spec (e.so h ruled) }) old new (x three single)
 
 -- of a device that is configured as of any
-pub explains_set : (A B : Spec → Type 0) (t : Target) (old new : World) → ((spec : Spec) → A spec → B spec) → Explains A t old new → ExplainsSet B t old new
+pub explains_set : (A B : Spec → Type 0) (t : Target) (old new : World) → ((spec : Spec) → A spec → B spec) → FailureReason A t old new → ExplainsSet B t old new
 explains_set A B t old new f x three single =
     each_wider (Explained Hears A t) (Explained HearsSet B t) (λ j s v e. record { spec = e.spec; address = e.address; so = λ h ruled. f s.spec (e.so h.hears ruled) }) old new (x three single)
 
 -- after what was learned
-module _ (Heard : Target → Spot → State → Type 0) (at : (t : Target) (j : Spot) (s : State) → Heard t j s → is_at s t ≡ true)
-    (on : (t : Target) (j : Spot) (s u : State) → u.spec ≡ s.spec → u.registers ≡ s.registers → Heard t j s → Heard t j u) where
+module _ (Heard : Target → Location → State → Type 0) (at : (t : Target) (j : Location) (s : State) → Heard t j s → is_at s t ≡ true)
+    (on : (t : Target) (j : Location) (s u : State) → u.spec ≡ s.spec → u.registers ≡ s.registers → Heard t j s → Heard t j u) where
   explained_on : (A B C : Spec → Type 0) (t : Target) (m n : ℕ) (old mid new : World) {q r s u : Option (List ℕ)} → ((spec : Spec) → IsSpec spec → A spec → B spec → C spec)
-      → Learns A t old mid → WentOn m old q mid r → WentOn n mid s new u → (NoThreeDamaged mid → new.shared ≡ false → EachWas (Explained Heard B t) mid new)
+      → DeviceFact A t old mid → StepRun m old q mid r → StepRun n mid s new u → (NoThreeDamaged mid → new.shared ≡ false → EachWas (Explained Heard B t) mid new)
       → NoThreeDamaged old → new.shared ≡ false → EachWas (Explained Heard C t) old new
   explained_on A B C t m n old mid new f a first next b three single =
       each_joined (Learned A t) (Explained Heard B t) (Explained Heard C t)
@@ -96,11 +96,11 @@ module _ (Heard : Target → Spot → State → Type 0) (at : (t : Target) (j : 
       old mid new (a (went_unshared n mid new next single)) (b (went_three m old mid first three) single)
 
 pub explains_on : (A B C : Spec → Type 0) (t : Target) (m n : ℕ) (old mid new : World) {q r s u : Option (List ℕ)} → ((spec : Spec) → A spec → B spec → C spec)
-    → Learns A t old mid → WentOn m old q mid r → WentOn n mid s new u → Explains B t mid new → Explains C t old new
+    → DeviceFact A t old mid → StepRun m old q mid r → StepRun n mid s new u → FailureReason B t mid new → FailureReason C t old new
 explains_on A B C t m n old mid new f = explained_on Hears (λ t p s h. h.at) hears_still A B C t m n old mid new (λ spec ruled. f spec)
 
 pub explains_set_on : (A B C : Spec → Type 0) (t : Target) (m n : ℕ) (old mid new : World) {q r s u : Option (List ℕ)} → ((spec : Spec) → IsSpec spec → A spec → B spec → C spec)
-    → Learns A t old mid → WentOn m old q mid r → WentOn n mid s new u → ExplainsSet B t mid new → ExplainsSet C t old new
+    → DeviceFact A t old mid → StepRun m old q mid r → StepRun n mid s new u → ExplainsSet B t mid new → ExplainsSet C t old new
 explains_set_on A B C t m n old mid new f = explained_on HearsSet (λ t p s h. h.hears.at) set_still A B C t m n old mid new f
 
 -- an error that is handed on
@@ -120,20 +120,20 @@ by_error (Err why) P f = f why refl
 -- Why a request for data fails
 
 -- of this description
-abbrev pub Fails : {X : Type 0} → (Spec → Option X) → PipeFault → Spec → Type 0
-Fails given pipe.Stalled spec = (spec.silent ≡ false) × (spec.busy ≡ false) × (given spec ≡ None)
-Fails given pipe.Busy spec = (spec.silent ≡ false) × (spec.busy ≡ true)
-Fails given pipe.NoAnswer spec = spec.silent ≡ true
-Fails given pipe.Broken spec = ⊥
-Fails given (pipe.Bus fault) spec = ⊤
-Fails given pipe.Memory spec = ⊤
+abbrev pub FailsForSpec : {X : Type 0} → (Spec → Option X) → PipeFault → Spec → Type 0
+FailsForSpec given pipe.Stalled spec = (spec.silent ≡ false) × (spec.busy ≡ false) × (given spec ≡ None)
+FailsForSpec given pipe.Busy spec = (spec.silent ≡ false) × (spec.busy ≡ true)
+FailsForSpec given pipe.NoAnswer spec = spec.silent ≡ true
+FailsForSpec given pipe.Broken spec = ⊥
+FailsForSpec given (pipe.Bus fault) spec = ⊤
+FailsForSpec given pipe.Memory spec = ⊤
 
 -- only a STALL refuses a responsive device
-responsive_stop : {X : Type 0} (given : Spec → Option X) (t : Target) (wrong : Spec → Option Cause) (stalled : Cause) (spec : Spec) → IsResponsive t spec → (given spec ≡ None → wrong spec ≡ Some stalled) → (fault : PipeFault) → Fails given fault spec
+responsive_stop : {X : Type 0} (given : Spec → Option X) (t : Target) (wrong : Spec → Option Cause) (stalled : Cause) (spec : Spec) → IsResponsive t spec → (given spec ≡ None → wrong spec ≡ Some stalled) → (fault : PipeFault) → FailsForSpec given fault spec
     → IsRefusedFor wrong (unwrap_or (stop_of fault) (Refused stalled)) spec
 responsive_stop given t wrong stalled spec r f pipe.Stalled why = f why.2
-responsive_stop given t wrong stalled spec r f pipe.Busy why = no (sym r.free ∙ why.1)
-responsive_stop given t wrong stalled spec r f pipe.NoAnswer why = no (sym r.loud ∙ why)
+responsive_stop given t wrong stalled spec r f pipe.Busy why = false_true (sym r.free ∙ why.1)
+responsive_stop given t wrong stalled spec r f pipe.NoAnswer why = false_true (sym r.loud ∙ why)
 responsive_stop given t wrong stalled spec r f pipe.Broken why = absurd why
 responsive_stop given t wrong stalled spec r f (pipe.Bus fault) why = tt
 responsive_stop given t wrong stalled spec r f pipe.Memory why = tt
@@ -147,8 +147,8 @@ answered_ok stalled (Ok given) answer is = cc
 answered_ok stalled (Err fault) answer is = absurd cc
 
 module _ {A X : Type 0} (given : Spec → Option X) (Has : State → A → Type 0) (t : Target) (wanted : ℕ) where
-  read_fails : (fault : PipeFault) (j : Spot) (s v : State) → ReadAsked given Has t (Err fault) j s v → WhyAsked {A = A} t wanted (Err fault) j s v → Hears t j s → IsSpec s.spec → IsMaximum t wanted s
-      → Fails given fault s.spec
+  read_fails : (fault : PipeFault) (j : Location) (s v : State) → ReadAsked given Has t (Err fault) j s v → ReadFailure {A = A} t wanted (Err fault) j s v → Hears t j s → IsSpec s.spec → IsMaximum t wanted s
+      → FailsForSpec given fault s.spec
   read_fails pipe.Stalled j s v x y h ruled max = ((x.could h.at).0, (x.could h.at).1, x.stalled h.at refl)
   read_fails pipe.Busy j s v x y h ruled max = (x.could h.at, pick s.spec.busy refl)
     where
@@ -165,19 +165,19 @@ module _ {A X : Type 0} (given : Spec → Option X) (Has : State → A → Type 
   read_fails pipe.Memory j s v x y h ruled max = tt
 
   module _ (outcome : Result A PipeFault) (old new : World) (what : new.shared ≡ false → EachWas (ReadAsked given Has t outcome) old new) (least : 8 ≤ t.max)
-      (why : NoThreeDamaged old → 8 ≤ t.max → new.shared ≡ false → EachWas (WhyAsked t wanted outcome) old new) where
-    pub failure_explains : (So : Spec → Type 0) (fault : PipeFault) → outcome ≡ Err fault → ((spec : Spec) → (((max_packet spec ≡ t.max) ⊎ (wanted ≤ 8)) → Fails given fault spec) → So spec) → Explains So t old new
+      (why : NoThreeDamaged old → 8 ≤ t.max → new.shared ≡ false → EachWas (ReadFailure t wanted outcome) old new) where
+    pub failure_explains : (So : Spec → Type 0) (fault : PipeFault) → outcome ≡ Err fault → ((spec : Spec) → (((max_packet spec ≡ t.max) ⊎ (wanted ≤ 8)) → FailsForSpec given fault spec) → So spec) → FailureReason So t old new
     failure_explains So fault is f three single =
-        each_joint (ReadAsked given Has t (Err fault)) (WhyAsked {A = A} t wanted (Err fault)) (Explained Hears So t)
+        each_joint (ReadAsked given Has t (Err fault)) (ReadFailure {A = A} t wanted (Err fault)) (Explained Hears So t)
         (λ j s v x y. record { spec = ap (λ z. z.spec) x.frame; address = ap (λ z. z.registers.address) x.frame; so = λ h ruled. f s.spec (read_fails fault j s v x y h ruled) })
-        old new (subst (λ r. EachWas (ReadAsked given Has t r) old new) is (what single)) (subst (λ r. EachWas (WhyAsked t wanted r) old new) is (why three least single))
+        old new (subst (λ r. EachWas (ReadAsked given Has t r) old new) is (what single)) (subst (λ r. EachWas (ReadFailure t wanted r) old new) is (why three least single))
 
     -- by its answer to the host
     pub stop_explains : (So : Stop → Spec → Type 0) (stalled : Cause) (stop : Stop) → answered_or stalled outcome ≡ Err stop
-        → ((spec : Spec) (fault : PipeFault) → (((max_packet spec ≡ t.max) ⊎ (wanted ≤ 8)) → Fails given fault spec) → So (unwrap_or (stop_of fault) (Refused stalled)) spec) → Explains (So stop) t old new
+        → ((spec : Spec) (fault : PipeFault) → (((max_packet spec ≡ t.max) ⊎ (wanted ≤ 8)) → FailsForSpec given fault spec) → So (unwrap_or (stop_of fault) (Refused stalled)) spec) → FailureReason (So stop) t old new
     stop_explains So stalled stop is f =
         let failed = answered_err stalled outcome stop is in
         failure_explains (So stop) failed.0 failed.1 (λ spec why. subst (λ x. So x spec) failed.2 (f spec failed.0 why))
 
-    pub request_refused : (wrong : Spec → Option Cause) (stalled : Cause) (stop : Stop) → answered_or stalled outcome ≡ Err stop → ((spec : Spec) → given spec ≡ None → wrong spec ≡ Some stalled) → Explains (Refuses t wrong stop) t old new
+    pub request_refused : (wrong : Spec → Option Cause) (stalled : Cause) (stop : Stop) → answered_or stalled outcome ≡ Err stop → ((spec : Spec) → given spec ≡ None → wrong spec ≡ Some stalled) → FailureReason (Refuses t wrong stop) t old new
     request_refused wrong stalled stop is f = stop_explains (Refuses t wrong) stalled stop is (λ spec fault why r. responsive_stop given t wrong stalled spec r (f spec) fault (why (inl r.max)))

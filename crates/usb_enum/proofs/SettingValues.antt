@@ -86,13 +86,13 @@ ok_total (Ok total) h = refl
 ok_total (Err fault) h = absurd cc
 
 -- what a host reads of a text is what the device looks at, and has the device's value
-pub record IsRead (text : List ℕ) : Type 0 where
+pub record IsConfigurationRead (text : List ℕ) : Type 0 where
   pub value : configuration_value (text_read text) ≡ slice_index text 5
   pub read : take (min (total_of text) (length text)) text ≡ text_read text
   pub some : 1 ≤ slice_index text 5
   pub long : 9 ≤ length text
 
-pub good_read : (text : List ℕ) → is_good_text text ≡ true → IsRead text
+pub good_read : (text : List ℕ) → is_good_text text ≡ true → IsConfigurationRead text
 unfolding text_read
 good_read text good =
     let head = config_head_of (take 9 text) in

@@ -16,9 +16,9 @@ use Rattle.usb_enum.specs.declared.stop.Stop.TheVariants.{Refused, Fault}
 use Rattle.usb_enum.specs.Device.{LAST_TIER, fits_tier, is_hub_device}
 use Rattle.usb_enum.specs.Findings.{GivesUp}
 use Rattle.usb_enum.specs.LastRequests.{Leads}
-use Rattle.usb_enum.specs.Reasons.{DescriptorRead, StopTold, ToldAtStart, AllTexts, RefusedAs, by_answer, too_deep, bad_hub, StoppedAs, StopsDevice, FaultBy, IsSpokenTo, StopToldAt, early, late, StopsAtPort, StoppedFor}
+use Rattle.usb_enum.specs.Reasons.{DescriptorRead, CauseAllowed, CauseAllowedAtStart, AllTexts, RefusedAs, by_answer, too_deep, bad_hub, StoppedAs, StopsDevice, FaultBy, IsSpokenTo, CauseAllowedAt, early, late, StopsAtPort, StoppedFor}
 use Rattle.usb_enum.specs.Reasons.{StoppedWithout, HasReason, refused_for, refused_early, none_free, EndsFor}
-use Rattle.usb_enum.specs.Stop.{FaultAt, StopToldIn, StopToldWithout, ToldOfDevice}
+use Rattle.usb_enum.specs.Stop.{FaultAllowedAt, CauseAllowedIn, CauseAllowedWithout, CauseAllowedOfDevice}
 use Rattle.usb_enum.specs.Text.{choice_of}
 use Rattle.usb_enum.proofs.Hubs.{told_of_hub}
 use Rattle.usb_enum.proofs.LastRequests.{leads_then}
@@ -27,16 +27,16 @@ use Rattle.usb_enum.proofs.ToldFailures.{fault_at, plain_fits}
 
 -- By an answer
 
-told_fits : (tier : ℕ) (stop : Stop) (t : Target) (old new : World) → StopTold t stop old new → ToldOfDevice tier stop new
+told_fits : (tier : ℕ) (stop : Stop) (t : Target) (old new : World) → CauseAllowed t stop old new → CauseAllowedOfDevice tier stop new
 told_fits tier (Refused why) t old new told = plain_fits tier why (because_plain why t old new told)
 told_fits tier (Fault why) t old new told = told
 
-told_as : (t : Target) (bytes : List ℕ) (tier supply : ℕ) (stop : Stop) (old new : World) → StopTold t stop old new → StoppedAs t bytes tier supply stop old new
-told_as t bytes tier supply (Refused why) old new told = by_answer told
-told_as t bytes tier supply (Fault why) old new told = told
+stop_told_as : (t : Target) (bytes : List ℕ) (tier supply : ℕ) (stop : Stop) (old new : World) → CauseAllowed t stop old new → StoppedAs t bytes tier supply stop old new
+stop_told_as t bytes tier supply (Refused why) old new told = by_answer told
+stop_told_as t bytes tier supply (Fault why) old new told = told
 
-pub stops_by : (t : Target) (bytes : List ℕ) (tier supply : ℕ) (stop : Stop) (old new : World) → StopTold t stop old new → StopsDevice t bytes tier supply old new stop
-stops_by t bytes tier supply stop old new told = record { fits = told_fits tier stop t old new told; because = told_as t bytes tier supply stop old new told }
+pub stops_by : (t : Target) (bytes : List ℕ) (tier supply : ℕ) (stop : Stop) (old new : World) → CauseAllowed t stop old new → StopsDevice t bytes tier supply old new stop
+stops_by t bytes tier supply stop old new told = record { fits = told_fits tier stop t old new told; because = stop_told_as t bytes tier supply stop old new told }
 
 -- In the last tier
 
@@ -57,14 +57,14 @@ fits_stop t bytes tier supply stop w is = split (is_hub_device bytes && tier == 
 
 module _ (t : Target) (bytes : List ℕ) (tier supply : ℕ) where
   hub_as : (stop : Stop) (old read set new : World) → is_hub_device bytes ≡ true → (texts : List (List ℕ)) → AllTexts t bytes texts old read → (chosen : ℕ) → choice_of supply texts ≡ Some chosen → Leads old read → Leads read set
-      → ToldAtStart t (slice_index_or texts chosen []) stop set new → StoppedAs t bytes tier supply stop old new
+      → CauseAllowedAtStart t (slice_index_or texts chosen []) stop set new → StoppedAs t bytes tier supply stop old new
   hub_as (Refused why) old read set new hub texts all chosen choice first led (inl bad) =
       subst (RefusedAs t bytes tier supply old new) (sym bad.0) (bad_hub (record { hub = hub; texts = texts; read = read; all = all; chosen = chosen; choice = choice; set = set; led = led; fails = bad.1 }))
   hub_as (Refused why) old read set new hub texts all chosen choice first led (inr b) = by_answer (because_after why t old set new (leads_then first led) b)
   hub_as (Fault why) old read set new hub texts all chosen choice first led told = told
 
   pub hub_stops : (stop : Stop) (old read set new : World) → fits_tier tier bytes ≡ Ok tt → is_hub_device bytes ≡ true → (texts : List (List ℕ)) → AllTexts t bytes texts old read → (chosen : ℕ) → choice_of supply texts ≡ Some chosen
-      → Leads old read → Leads read set → ToldAtStart t (slice_index_or texts chosen []) stop set new → StopsDevice t bytes tier supply old new stop
+      → Leads old read → Leads read set → CauseAllowedAtStart t (slice_index_or texts chosen []) stop set new → StopsDevice t bytes tier supply old new stop
   hub_stops stop old read set new fits hub texts all chosen choice first led told = record {
     fits = told_of_hub tier bytes stop t (slice_index_or texts chosen []) set new fits hub told;
     because = hub_as stop old read set new hub texts all chosen choice first led told;
@@ -72,7 +72,7 @@ module _ (t : Target) (bytes : List ℕ) (tier supply : ℕ) where
 
 -- At the port
 
-device_in : (port : HubPort) (tier : ℕ) (stop : Stop) (w : World) → ToldOfDevice tier stop w → StopToldIn port tier stop w
+device_in : (port : HubPort) (tier : ℕ) (stop : Stop) (w : World) → CauseAllowedOfDevice tier stop w → CauseAllowedIn port tier stop w
 device_in port tier (Refused why) w told = told
 device_in port tier (Fault why) w told = fault_at port why w told
 
@@ -90,11 +90,11 @@ device_stops port address tier supply t bytes stop old mid new is read told = re
   because = device_for port address tier supply t bytes stop old mid new is read told.because;
 }
 
-early_for : (port : HubPort) (address tier supply : ℕ) (stop : Stop) (old new : World) → StopToldAt port address stop old new → StoppedFor port address tier supply stop old new
+early_for : (port : HubPort) (address tier supply : ℕ) (stop : Stop) (old new : World) → CauseAllowedAt port address stop old new → StoppedFor port address tier supply stop old new
 early_for port address tier supply (Refused why) old new told = early told
 early_for port address tier supply (Fault why) old new told = told
 
-pub early_stops : (port : HubPort) (address tier supply : ℕ) (stop : Stop) (old new : World) → StopToldAt port address stop old new → StopsAtPort port address tier supply old new stop
+pub early_stops : (port : HubPort) (address tier supply : ℕ) (stop : Stop) (old new : World) → CauseAllowedAt port address stop old new → StopsAtPort port address tier supply old new stop
 early_stops port address tier supply stop old new told = record { fits = told_in tier stop port address old new told; because = early_for port address tier supply stop old new told }
 
 -- The whole
@@ -132,14 +132,14 @@ module _ (port : HubPort) (addresses : Addresses) (tier supply : ℕ) where
 
 -- where no address was free
 pub stopped_without : (port : HubPort) (stop : Stop) (old new : World)
-    → StoppedWithout port stop old new → StopToldWithout port stop new
-stopped_without port stop old new (inl none) = subst (λ s. StopToldWithout port s new) (sym none)
+    → StoppedWithout port stop old new → CauseAllowedWithout port stop new
+stopped_without port stop old new (inl none) = subst (λ s. CauseAllowedWithout port s new) (sym none)
     (inl refl)
 stopped_without port stop old new (inr told) = told_without stop port 0 old new told
 
 -- what is told of its end
-pub given_told : (port : HubPort) (stop : Stop) (mid new : World) (result : Result Finding EnumFault) → ((why : EnumFault) → stop ≡ Fault why → FaultAt port why mid) → GivesUp port stop mid result new → IfErr result (λ fault. FaultAt port fault new)
+pub given_told : (port : HubPort) (stop : Stop) (mid new : World) (result : Result Finding EnumFault) → ((why : EnumFault) → stop ≡ Fault why → FaultAllowedAt port why mid) → GivesUp port stop mid result new → IfErr result (λ fault. FaultAllowedAt port fault new)
 given_told port (Refused why) mid new (Ok finding) faults gives = tt
 given_told port (Refused why) mid new (Err fault) faults gives = fault_by port fault mid new gives
 given_told port (Fault why) mid new result faults gives =
-    subst (λ r. IfErr r (λ fault. FaultAt port fault new)) (let e : result ≡ Err why = gives.0 in sym e) (subst (FaultAt port why) (sym gives.1) (faults why refl))
+    subst (λ r. IfErr r (λ fault. FaultAllowedAt port fault new)) (let e : result ≡ Err why = gives.0 in sym e) (subst (FaultAllowedAt port why) (sym gives.1) (faults why refl))

@@ -14,7 +14,7 @@ use Rattle.usb_world.specs.OneHolder.{IsMade, IsOut}
 use Rattle.usb_world.specs.AttemptPackets.{IsSettled}
 use Rattle.usb_world.specs.Steps.{Step, attempt, root_call, event, report, after, Course}
 use Rattle.usb_world.specs.World.{World}
-use Rattle.usb_world.proofs.Interface.{MadeOrNot, attempt_cases, in_clears, kept_course, loses, losses_as, made_here, not_true, out_counts, set_up_counts, settled_after}
+use Rattle.usb_world.proofs.Interface.{MadeOrNot, attempt_cases, in_clears, kept_course, loses, losses_as, made_here, not-true, out_counts, set_up_counts, settled_after}
 use Rattle.usb_transaction.specs.declared.target.Target.{Target}
 use Rattle.usb_transaction.specs.Losses.{begins_no_stretch}
 use Rattle.usb_transaction.specs.Transactions.{in_attempt, out_attempt, setup_attempt}
@@ -26,15 +26,15 @@ use Rattle.usb_pipe.proofs.Interface.{read_attempts, write_attempts}
 use Rattle.usb_hub.specs.declared.port.HubPort.{HubPort}
 use Rattle.usb_hub.specs.declared.port.HubPort.TheVariants.{Root, External}
 use Rattle.usb_hub.specs.Port.{PortRead, PortSet, PortCleared}
-use Rattle.usb_hub.specs.Requests.{AskedData, Ordered}
+use Rattle.usb_hub.specs.Requests.{Queried, Commanded}
 use Rattle.usb_enum.specs.Losses.{NoNewStretch}
-use Rattle.usb_enum.proofs.Frames.{ended}
+use Rattle.usb_enum.proofs.Frames.{ends_without_fault}
 
-pub goes_none : (w : World) → NoNewStretch w w
-goes_none w = record { run = omega arith }
+pub no_stretch_none : (w : World) → NoNewStretch w w
+no_stretch_none w = record { run = omega arith }
 
-pub goes_then : (w m v : World) → NoNewStretch w m → NoNewStretch m v → NoNewStretch w v
-goes_then w m v a b = let x = a.run in let y = b.run in record { run = omega (arith, x, y) }
+pub no_stretch_then : (w m v : World) → NoNewStretch w m → NoNewStretch m v → NoNewStretch w v
+no_stretch_then w m v a b = let x = a.run in let y = b.run in record { run = omega (arith, x, y) }
 
 goes_same : (w v : World) → v.losses ≡ w.losses → NoNewStretch w v
 goes_same w v same = record { run = rw same (omega arith) }
@@ -66,7 +66,7 @@ out_goes t {toggle} a e w m = goes_same w _ (out_counts a [] (subst (λ x. IsOut
 
 module _ (t : Target) (request : Setup) (none : begins_no_stretch request ≡ true) where
   set_up_goes : (w : World) → IsMade (setup_attempt t (bytes_of request)) w → NoNewStretch w (after (attempt (setup_attempt t (bytes_of request))) w)
-  set_up_goes w m = goes_same w _ (set_up_counts (setup_attempt t (bytes_of request)) (bytes_of request) refl refl (not_true _ (ap begins_no_stretch (same_setup request) ∙ none)) w m)
+  set_up_goes w m = goes_same w _ (set_up_counts (setup_attempt t (bytes_of request)) (bytes_of request) refl refl (not-true _ (ap begins_no_stretch (same_setup request) ∙ none)) w m)
 
   behind_goes : (s : Step) (w : World) → IsBehind t s w → IsSettled w.roots
       → NoNewStretch w (after s w)
@@ -88,16 +88,16 @@ module _ (t : Target) (request : Setup) (none : begins_no_stretch request ≡ tr
   transfer_goes : {w v : World} → Course (IsOfTransfer t request) w v → IsSettled w.roots → NoNewStretch w v
   transfer_goes {w} c settled =
       (kept_course (λ v. NoNewStretch w v × IsSettled v.roots)
-      (λ s u k h. (goes_then w u (after s u) h.0 (step_goes s u k h.1), settled_after s u h.1))
-      c (goes_none w, settled)).0
+      (λ s u k h. (no_stretch_then w u (after s u) h.0 (step_goes s u k h.1), settled_after s u h.1))
+      c (no_stretch_none w, settled)).0
 
-  pub asked_goes : (answer : Result (Vec ℕ) PipeFault) (old new : World) → AskedData t request old answer new → new.fault ≡ None → NoNewStretch old new
-  asked_goes answer old new asked still = transfer_goes ((read_attempts t request answer old new asked.stages).whole (ended 3 answer old new asked.ends still)) asked.settled
+  pub asked_goes : (answer : Result (Vec ℕ) PipeFault) (old new : World) → Queried t request old answer new → new.fault ≡ None → NoNewStretch old new
+  asked_goes answer old new asked still = transfer_goes ((read_attempts t request answer old new asked.stages).whole (ends_without_fault 3 answer old new asked.ends still)) asked.settled
 
-  pub ordered_goes : (result : Result (Unit {0}) PipeFault) (old new : World) → Ordered t request old result new → new.fault ≡ None → NoNewStretch old new
-  ordered_goes result old new ordered still = transfer_goes ((write_attempts t request result old new ordered.stages).whole (ended 2 result old new ordered.ends still)) ordered.settled
+  pub ordered_goes : (result : Result (Unit {0}) PipeFault) (old new : World) → Commanded t request old result new → new.fault ≡ None → NoNewStretch old new
+  ordered_goes result old new ordered still = transfer_goes ((write_attempts t request result old new ordered.stages).whole (ends_without_fault 2 result old new ordered.ends still)) ordered.settled
 
-pub device_goes : (t : Target) (length : ℕ) (answer : Result (Vec ℕ) PipeFault) (old new : World) → AskedData t (get_device_descriptor length) old answer new → new.fault ≡ None → NoNewStretch old new
+pub device_goes : (t : Target) (length : ℕ) (answer : Result (Vec ℕ) PipeFault) (old new : World) → Queried t (get_device_descriptor length) old answer new → new.fault ≡ None → NoNewStretch old new
 unfolding get_device_descriptor
 device_goes t length answer old new asked still = asked_goes t (get_device_descriptor length) refl answer old new asked still
 
@@ -109,7 +109,7 @@ cleared_none c n old new e is = goes_same old new (ap (λ v. v.losses) is ∙ ap
 
 pub status_goes : (port : HubPort) (outcome : Result PortStatus PipeFault) (old new : World) → PortRead port old outcome new → new.fault ≡ None → NoNewStretch old new
 unfolding get_port_status
-status_goes (Root n) outcome old new read still = subst (NoNewStretch old) (sym read.same) (goes_none old)
+status_goes (Root n) outcome old new read still = subst (NoNewStretch old) (sym read.same) (no_stretch_none old)
 status_goes (External hub n) outcome old new told still = asked_goes hub (get_port_status n) refl told.answer old new told.asked still
 
 pub set_goes : (port : HubPort) (feature : ℕ) (c : PortCall) (outcome : Result (Unit {0}) PipeFault) (old new : World) → set_call feature ≡ Some c → is_clearing c ≡ false → PortSet port feature old outcome new → new.fault ≡ None → NoNewStretch old new

@@ -5,7 +5,7 @@ use Rattle.usb_device.specs.Spec.{Spec}
 use Rattle.usb_world.specs.Devices.{EachWas}
 use Rattle.usb_world.specs.World.{World}
 use Rattle.usb_transaction.specs.declared.target.Target.{Target}
-use Rattle.usb_bus.specs.Traces.{WentOn}
+use Rattle.usb_bus.specs.Traces.{StepRun}
 use Rattle.usb_pipe.specs.declared.fault.PipeFault.{PipeFault}
 use Rattle.usb_pipe.specs.declared.fault.PipeFault.TheVariants as pipe
 use Rattle.usb_hub.specs.GivenAnswers.{unless_refused, string_given, HasText, StringAsked}
@@ -13,7 +13,7 @@ use Rattle.usb_enum.specs.declared.strings.StringIndexes.{StringIndexes}
 use Rattle.usb_enum.specs.declared.strings.Strings.{Strings}
 use Rattle.usb_enum.specs.Verdicts.{string_read, string_at, strings_by}
 use Rattle.usb_enum.specs.Frames.{OnlyAsks}
-use Rattle.usb_enum.specs.LearnedFacts.{Learns}
+use Rattle.usb_enum.specs.LearnedFacts.{DeviceFact}
 use Rattle.usb_enum.specs.Parts.{Answered, Ending, StopsRead}
 use Rattle.usb_enum.specs.Readings.{AtMaximum, HasString, bytes_given, language_of, string_in, no_strings}
 use Rattle.usb_enum.specs.Refusals.{no_fault}
@@ -25,8 +25,8 @@ use Rattle.usb_enum.proofs.Readings.{learns_none, learns_on, refusal_learned, te
 
 -- One string
 
-read_given : (spec : Spec) (index : ℕ) → string_read spec index ≡ option_map (take 255) (string_given index spec)
-read_given spec index = split spec.stalls.string (slice_get spec.strings index)
+string_read-given : (spec : Spec) (index : ℕ) → string_read spec index ≡ option_map (take 255) (string_given index spec)
+string_read-given spec index = split spec.stalls.string (slice_get spec.strings index)
   where
     split : (refused : Bool) (text : Option (List ℕ)) → (if refused then None else option_map (take 255) text) ≡ option_map (take 255) (unless_refused refused text)
     split true text = refl
@@ -34,10 +34,10 @@ read_given spec index = split spec.stalls.string (slice_get spec.strings index)
 
 -- its first bytes
 pub string_learned : (t : Target) (index : ℕ) (outcome : Result (Vec ℕ) PipeFault) (bytes : Vec ℕ) (old new : World) → outcome ≡ Ok bytes → (new.shared ≡ false → EachWas (StringAsked t index outcome) old new)
-    → Learns (AtMaximum t (HasString index (Some bytes))) t old new
+    → DeviceFact (AtMaximum t (HasString index (Some bytes))) t old new
 string_learned t index outcome bytes old new is =
     text_learned (string_given index) (HasString index (Some bytes)) t 255 outcome bytes old new is
-    (λ spec text given first. ap Some first ∙ sym (read_given spec index ∙ ap (option_map (take 255)) given))
+    (λ spec text given first. ap Some first ∙ sym (string_read-given spec index ∙ ap (option_map (take 255)) given))
 
 -- only a STALL is no stop
 pub stall_alone : (fault : PipeFault) → stop_of fault ≡ None → fault ≡ pipe.Stalled
@@ -50,10 +50,10 @@ stall_alone pipe.Memory none = absurd cc
 
 -- that it is not given
 pub no_string_learned : (t : Target) (index : ℕ) (outcome : Result (Vec ℕ) PipeFault) (fault : PipeFault) (old new : World) → outcome ≡ Err fault → stop_of fault ≡ None
-    → (new.shared ≡ false → EachWas (StringAsked t index outcome) old new) → Learns (AtMaximum t (HasString index None)) t old new
+    → (new.shared ≡ false → EachWas (StringAsked t index outcome) old new) → DeviceFact (AtMaximum t (HasString index None)) t old new
 no_string_learned t index outcome fault old new is none =
     refusal_learned (string_given index) (λ s b. HasText (string_given index s.spec) t 255 s b.items) t outcome old new (AtMaximum t (HasString index None)) (is ∙ ap Err (stall_alone fault none))
-    (λ spec given max. sym (read_given spec index ∙ ap (option_map (take 255)) given))
+    (λ spec given max. sym (string_read-given spec index ∙ ap (option_map (take 255)) given))
 
 nonzero : (index : ℕ) → (index ≡ 0 → ⊥) → (index == 0) ≡ false
 nonzero index given = grind (arith, given)
@@ -78,7 +78,7 @@ string_named t index language bytes string {old = old} {new = new} is_named is r
   };
 }
 
-pub unnamed_learned : (t : Target) (index : ℕ) (w : World) → index ≡ 0 → Learns (AtMaximum t (λ spec. None ≡ string_in spec index)) t w w
+pub unnamed_learned : (t : Target) (index : ℕ) (w : World) → index ≡ 0 → DeviceFact (AtMaximum t (λ spec. None ≡ string_in spec index)) t w w
 unnamed_learned t index w unnamed = learns_none (AtMaximum t (λ spec. None ≡ string_in spec index)) t w (λ spec max. rw unnamed refl)
 
 pub language_asked : (t : Target) (bytes : Option (Vec ℕ)) (language : Option ℕ) {n : ℕ}
@@ -107,41 +107,41 @@ at_language spec index language is = ap (λ o. if index == 0 || not (is_some o) 
     split true string = refl
     split false string = refl
 
-at_none : (spec : Spec) (index : ℕ) → None ≡ language_of spec → string_at spec index ≡ None
+string_at-no_language : (spec : Spec) (index : ℕ) → None ≡ language_of spec → string_at spec index ≡ None
 unfolding string_at
-at_none spec index is = ap (λ o. if index == 0 || not (is_some o) then None else option_and_then string_units (string_read spec index)) (sym is) ∙ split (index == 0) (option_and_then string_units (string_read spec index))
+string_at-no_language spec index is = ap (λ o. if index == 0 || not (is_some o) then None else option_and_then string_units (string_read spec index)) (sym is) ∙ split (index == 0) (option_and_then string_units (string_read spec index))
   where
     split : (b : Bool) (string : Option (List ℕ)) → (if b || true then None else string) ≡ None
     split true string = refl
     split false string = refl
 
-at_zero : (spec : Spec) (index : ℕ) → index ≡ 0 → string_at spec index ≡ None
+string_at-zero : (spec : Spec) (index : ℕ) → index ≡ 0 → string_at spec index ≡ None
 unfolding string_at
-at_zero spec index is = rw is refl
+string_at-zero spec index is = rw is refl
 
 same_strings : (a b c x y z : Option (List ℕ)) → a ≡ x → b ≡ y → c ≡ z → record { manufacturer = a; product = b; serial_number = c } ≡ (let s : Strings = record { manufacturer = x; product = y; serial_number = z } in s)
 same_strings a b c x y z e f g = rw (e, f, g) refl
 
 -- where none is named
 pub unnamed_strings_learned : (t : Target) (indexes : StringIndexes) (w : World) → indexes.manufacturer ≡ 0 → indexes.product ≡ 0 → indexes.serial_number ≡ 0
-    → Learns (AtMaximum t (λ spec. no_strings ≡ strings_by spec indexes)) t w w
+    → DeviceFact (AtMaximum t (λ spec. no_strings ≡ strings_by spec indexes)) t w w
 unnamed_strings_learned t indexes w m p n =
     learns_none (AtMaximum t (λ spec. no_strings ≡ strings_by spec indexes)) t w
-    (λ spec max. same_strings _ _ _ _ _ _ (sym (at_zero spec indexes.manufacturer m)) (sym (at_zero spec indexes.product p)) (sym (at_zero spec indexes.serial_number n)))
+    (λ spec max. same_strings _ _ _ _ _ _ (sym (string_at-zero spec indexes.manufacturer m)) (sym (string_at-zero spec indexes.product p)) (sym (string_at-zero spec indexes.serial_number n)))
 
 -- where there is no language
-pub no_strings_learned : (t : Target) (indexes : StringIndexes) (old new : World) → Learns (AtMaximum t (λ spec. None ≡ language_of spec)) t old new → Learns (AtMaximum t (λ spec. no_strings ≡ strings_by spec indexes)) t old new
+pub no_strings_learned : (t : Target) (indexes : StringIndexes) (old new : World) → DeviceFact (AtMaximum t (λ spec. None ≡ language_of spec)) t old new → DeviceFact (AtMaximum t (λ spec. no_strings ≡ strings_by spec indexes)) t old new
 no_strings_learned t indexes old new =
     learns_wider (AtMaximum t (λ spec. None ≡ language_of spec)) (AtMaximum t (λ spec. no_strings ≡ strings_by spec indexes)) t old new
-    (λ spec none max. same_strings _ _ _ _ _ _ (sym (at_none spec indexes.manufacturer (none max))) (sym (at_none spec indexes.product (none max))) (sym (at_none spec indexes.serial_number (none max))))
+    (λ spec none max. same_strings _ _ _ _ _ _ (sym (string_at-no_language spec indexes.manufacturer (none max))) (sym (string_at-no_language spec indexes.product (none max))) (sym (string_at-no_language spec indexes.serial_number (none max))))
 
 -- each in the language
 pub strings_learned : (t : Target) (indexes : StringIndexes) (language : ℕ) (manufacturer product serial_number : Option (List ℕ)) (k m n : ℕ) (old a b c new : World) {q r s u v w : Option (List ℕ)}
-    → Learns (AtMaximum t (λ spec. Some language ≡ language_of spec)) t old a
-    → WentOn k a q b r → Learns (AtMaximum t (λ spec. manufacturer ≡ string_in spec indexes.manufacturer)) t a b
-    → WentOn m b s c u → Learns (AtMaximum t (λ spec. product ≡ string_in spec indexes.product)) t b c
-    → WentOn n c v new w → Learns (AtMaximum t (λ spec. serial_number ≡ string_in spec indexes.serial_number)) t c new
-    → Learns (AtMaximum t (λ spec. record { manufacturer = manufacturer; product = product; serial_number = serial_number } ≡ strings_by spec indexes)) t old new
+    → DeviceFact (AtMaximum t (λ spec. Some language ≡ language_of spec)) t old a
+    → StepRun k a q b r → DeviceFact (AtMaximum t (λ spec. manufacturer ≡ string_in spec indexes.manufacturer)) t a b
+    → StepRun m b s c u → DeviceFact (AtMaximum t (λ spec. product ≡ string_in spec indexes.product)) t b c
+    → StepRun n c v new w → DeviceFact (AtMaximum t (λ spec. serial_number ≡ string_in spec indexes.serial_number)) t c new
+    → DeviceFact (AtMaximum t (λ spec. record { manufacturer = manufacturer; product = product; serial_number = serial_number } ≡ strings_by spec indexes)) t old new
 strings_learned t indexes language manufacturer product serial_number k m n old a b c new said wa la wb lb wc lc =
     let Said : Spec → Type 0 = AtMaximum t (λ spec. Some language ≡ language_of spec) in
     let One : Spec → Type 0 = AtMaximum t (λ spec. manufacturer ≡ string_in spec indexes.manufacturer) in

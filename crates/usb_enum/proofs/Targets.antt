@@ -55,8 +55,8 @@ both_first true b h = refl
 both_first false b h = absurd cc
 
 -- an enumerated device can be spoken to, and in packets of 8 bytes or more
-pub target_fits : (supply : ℕ) (device : Accepted) (below_hub : Bool) → IsWhole supply device → IsTarget (target_of device below_hub)
-target_fits supply device below_hub whole =
+pub whole_target_fits : (supply : ℕ) (device : Accepted) (below_hub : Bool) → IsWhole supply device → IsTarget (target_of device below_hub)
+whole_target_fits supply device below_hub whole =
     let fits = device_fits device.low device.bytes whole.head in
     record {
       addr_fits = whole.address.1;
@@ -65,8 +65,8 @@ target_fits supply device below_hub whole =
       pre_low = both_first device.low below_hub;
     }
 
-pub target_wide : (supply : ℕ) (device : Accepted) (below_hub : Bool) → IsWhole supply device → 8 ≤ (target_of device below_hub).max
-target_wide supply device below_hub whole = (device_fits device.low device.bytes whole.head).0
+pub whole_target_wide : (supply : ℕ) (device : Accepted) (below_hub : Bool) → IsWhole supply device → 8 ≤ (target_of device below_hub).max
+whole_target_wide supply device below_hub whole = (device_fits device.low device.bytes whole.head).0
 
 -- a status, an order and an enumeration take no more
 pub status_most : (port : HubPort) → IsWide port → status_bound port ≤ read_bound 4

@@ -13,7 +13,7 @@ use Rattle.usb_enum.specs.declared.cause.Cause.{Cause}
 use Rattle.usb_enum.specs.declared.cause.Cause.TheVariants as cause
 use Rattle.usb_enum.specs.declared.fault.EnumFault.{EnumFault}
 use Rattle.usb_enum.specs.declared.fault.EnumFault.TheVariants as fault
-use Rattle.usb_enum.specs.Stop.{CanFail, FitsTier, IsPlain, FaultAt, FaultTold, at_port}
+use Rattle.usb_enum.specs.Stop.{CanFail, FitsTier, IsPlain, FaultAllowedAt, FaultAllowed, at_port}
 
 pub plain_fits : (tier : ℕ) (why : Cause) → IsPlain why → FitsTier tier why
 plain_fits tier cause.Silent plain = plain
@@ -27,7 +27,7 @@ plain_fits tier cause.BadHub plain = absurd plain
 plain_fits tier cause.Lost plain = plain
 plain_fits tier cause.NoAddress plain = plain
 
-pub fault_at : (port : HubPort) (why : EnumFault) (w : World) → FaultTold why w → FaultAt port why w
+pub fault_at : (port : HubPort) (why : EnumFault) (w : World) → FaultAllowed why w → FaultAllowedAt port why w
 fault_at port fault.ParentLost w told = absurd told
 fault_at port (fault.Bus why) w told = told
 fault_at port fault.Memory w told = told
@@ -49,7 +49,7 @@ clear_fails (Root number) feature old new (Ok done) cleared failed = absurd cc
 clear_fails (Root number) feature old new (Err why) cleared failed = let done = cleared.done in absurd cc
 clear_fails (External hub port) feature old new outcome cleared failed = tt
 
-pub port_told : {A : Type 0} (port : HubPort) (n : ℕ) (old new : World) (outcome : Result A PipeFault) → (IsErr outcome → CanFail port) → IfErr outcome (λ why. FaultAfter n old why new) → IfErr (at_port outcome) (λ why. FaultAt port why new)
+pub port_told : {A : Type 0} (port : HubPort) (n : ℕ) (old new : World) (outcome : Result A PipeFault) → (IsErr outcome → CanFail port) → IfErr outcome (λ why. FaultAfter n old why new) → IfErr (at_port outcome) (λ why. FaultAllowedAt port why new)
 port_told port n old new (Ok answer) can told = tt
 port_told port n old new (Err pipe.Stalled) can told = can refl
 port_told port n old new (Err pipe.Busy) can told = can refl

@@ -6,7 +6,7 @@ use Rattle.std.proofs.lemmas.List.{get_or-take}
 use Rattle.usb_descriptor.specs.Config.{configuration_value}
 use Rattle.usb_descriptor.specs.Device.{device_head_of, configuration_count}
 use Rattle.usb_device.specs.Rows.{State}
-use Rattle.usb_device.specs.Tree.{Ports, Spot}
+use Rattle.usb_device.specs.Tree.{Ports, Location}
 use Rattle.usb_device.specs.View.{state_there}
 use Rattle.usb_device.specs.Spec.{Spec, IsSpec}
 use Rattle.usb_resources.specs.Power.{supply_of}
@@ -14,10 +14,10 @@ use Rattle.usb_transaction.specs.declared.target.Target.{Target}
 use Rattle.usb_world.specs.Addresses.{after_taking}
 use Rattle.usb_world.specs.Paths.{address_of}
 use Rattle.usb_world.specs.PluggedDevices.{hub_ports}
-use Rattle.usb_world.specs.SanePorts.{IsSane}
+use Rattle.usb_world.specs.SanePorts.{Consistent}
 use Rattle.usb_world.specs.World.{World}
 use Rattle.usb_world.proofs.Interface.{sane_spec, self_path}
-use Rattle.usb_bus.specs.Traces.{WentOn}
+use Rattle.usb_bus.specs.Traces.{StepRun}
 use Rattle.usb_address.specs.Ownership.{KeepsAddresses}
 use Rattle.usb_hub.specs.declared.port.HubPort.{HubPort}
 use Rattle.usb_enum.specs.declared.addressed.Addressed.{Addressed}
@@ -36,7 +36,7 @@ use Rattle.usb_enum.specs.Readings.{AtMaximum, IsGoodHub}
 use Rattle.usb_enum.specs.StringRequests.{EndsWithStrings}
 use Rattle.usb_enum.specs.Text.{choice_of}
 use Rattle.usb_enum.proofs.Courses.{went_in_order, went_regular}
-use Rattle.usb_enum.proofs.Enumerations.{within_on, takes_then}
+use Rattle.usb_enum.proofs.Enumerations.{within-keeps_addresses, takes_then}
 use Rattle.usb_enum.proofs.Heads.{head_packet}
 use Rattle.usb_enum.proofs.LastRequests.{leads_went}
 use Rattle.usb_enum.proofs.Presence.{finds_on}
@@ -46,20 +46,20 @@ use Rattle.usb_enum.proofs.VerdictRows.{GaveHead, GaveDevice, GaveTexts, row_acc
 
 -- What is read of the first 18 bytes of a descriptor
 
-front_at : (d : List ℕ) (i : ℕ) → i < 18 → slice_index (take 18 d) i ≡ slice_index d i
-front_at d i below = get_or-take 18 d i 0 below
+slice_index-take : (d : List ℕ) (i : ℕ) → i < 18 → slice_index (take 18 d) i ≡ slice_index d i
+slice_index-take d i below = get_or-take 18 d i 0 below
 
 pub front_count : (d : List ℕ) → configuration_count (take 18 d) ≡ configuration_count d
-front_count d = front_at d 17 (omega arith)
+front_count d = slice_index-take d 17 (omega arith)
 
 pub front_hub : (d : List ℕ) → is_hub_device (take 18 d) ≡ is_hub_device d
-front_hub d = ap (λ n. n == 9) (front_at d 4 (omega arith))
+front_hub d = ap (λ n. n == 9) (slice_index-take d 4 (omega arith))
 
 front_indexes : (d : List ℕ) → string_indexes (take 18 d) ≡ string_indexes d
 front_indexes d =
-    ap (λ n. record { manufacturer = n; product = slice_index (take 18 d) 15; serial_number = slice_index (take 18 d) 16 }) (front_at d 14 (omega arith))
-    ∙ ap (λ n. record { manufacturer = slice_index d 14; product = n; serial_number = slice_index (take 18 d) 16 }) (front_at d 15 (omega arith))
-    ∙ ap (λ n. record { manufacturer = slice_index d 14; product = slice_index d 15; serial_number = n }) (front_at d 16 (omega arith))
+    ap (λ n. record { manufacturer = n; product = slice_index (take 18 d) 15; serial_number = slice_index (take 18 d) 16 }) (slice_index-take d 14 (omega arith))
+    ∙ ap (λ n. record { manufacturer = slice_index d 14; product = n; serial_number = slice_index (take 18 d) 16 }) (slice_index-take d 15 (omega arith))
+    ∙ ap (λ n. record { manufacturer = slice_index d 14; product = slice_index d 15; serial_number = n }) (slice_index-take d 16 (omega arith))
 
 -- Tier
 
@@ -67,8 +67,8 @@ shallow_by : (deep : Bool) → (let fits : Result (Unit {0}) Stop = if deep then
 shallow_by true e = absurd cc
 shallow_by false e = refl
 
-shallow : (tier : ℕ) (bytes : List ℕ) → fits_tier tier bytes ≡ Ok tt → (is_hub_device bytes && tier == 7) ≡ false
-shallow tier bytes e = shallow_by (is_hub_device bytes && tier == 7) e
+fits_tier-hub : (tier : ℕ) (bytes : List ℕ) → fits_tier tier bytes ≡ Ok tt → (is_hub_device bytes && tier == 7) ≡ false
+fits_tier-hub tier bytes e = shallow_by (is_hub_device bytes && tier == 7) e
 
 -- Hubs
 
@@ -81,16 +81,16 @@ no_hub : (hub good : Bool) → hub ≡ false → (hub && not good) ≡ false
 no_hub true good e = absurd cc
 no_hub false good e = refl
 
-good_hub : (hub good : Bool) → good ≡ true → (hub && not good) ≡ false
-good_hub hub false e = absurd cc
-good_hub true true e = refl
-good_hub false true e = refl
+good_not_refused : (hub good : Bool) → good ≡ true → (hub && not good) ≡ false
+good_not_refused hub false e = absurd cc
+good_not_refused true true e = refl
+good_not_refused false true e = refl
 
-hub_told : (spec : Spec) (bytes text : List ℕ) (told : Option HubFacts) → IsSpec spec → is_hub_device bytes ≡ is_hub_device spec.descriptor → HasFacts bytes text told → TellsPorts text told spec → HubTold spec text told
-hub_told spec bytes text (Some facts) ruled same has tells =
+facts_told : (spec : Spec) (bytes text : List ℕ) (told : Option HubFacts) → IsSpec spec → is_hub_device bytes ≡ is_hub_device spec.descriptor → HasFacts bytes text told → TellsPorts text told spec → HubTold spec text told
+facts_told spec bytes text (Some facts) ruled same has tells =
     let is : IsGoodHub text facts spec = tells ruled in
-    record { good = good_hub (is_hub_device spec.descriptor) (is_good_hub spec text) is.good; facts = sym is.told }
-hub_told spec bytes text None ruled same has tells = record {
+    record { good = good_not_refused (is_hub_device spec.descriptor) (is_good_hub spec text) is.good; facts = sym is.told }
+facts_told spec bytes text None ruled same has tells = record {
   good = no_hub (is_hub_device spec.descriptor) (is_good_hub spec text) (sym same ∙ has);
   facts = sym (ap (λ b. if b then Some (record { ports = hub_ports spec.hub; supply = supply_of false spec.self_powered }) else None) (sym same ∙ has));
 }
@@ -122,7 +122,7 @@ module _ (spec : Spec) (tier supply : ℕ) (device : Accepted) (target : Target)
     first = gave_head;
     address = allowed;
     whole = ap (λ l. is_device l (take 18 spec.descriptor)) (low ∙ sym same_low) ∙ ap (is_device device.low) (sym (same_bytes ∙ front)) ∙ whole.head;
-    shallow = ap (λ h. h && tier == 7) (sym hub_same) ∙ shallow tier bytes fits;
+    shallow = ap (λ h. h && tier == 7) (sym hub_same) ∙ fits_tier-hub tier bytes fits;
   }
 
   gave_texts : GaveTexts spec tier supply device.chosen
@@ -133,7 +133,7 @@ module _ (spec : Spec) (tier supply : ℕ) (device : Accepted) (target : Target)
   }
 
   hub_is : HubTold spec (configuration_of device) device.hub
-  hub_is = hub_told spec device.bytes (configuration_of device) device.hub ruled (ap is_hub_device same_bytes ∙ hub_same) whole.hub read.ports
+  hub_is = facts_told spec device.bytes (configuration_of device) device.hub ruled (ap is_hub_device same_bytes ∙ hub_same) whole.hub read.ports
 
   own_verdict : verdict spec tier supply ≡ Ok device.chosen
   own_verdict =
@@ -150,9 +150,9 @@ module _ (spec : Spec) (tier supply : ℕ) (device : Accepted) (target : Target)
   }
 
 -- it is set as it says, where its address is the target's and its configuration the chosen one's
-own : (tier supply : ℕ) (addressed : Addressed) (device : Accepted) (j : Spot) (s v : State) {old new : World} → IsWhole supply device → IsListed addressed tier old new device
+accepted_own_device : (tier supply : ℕ) (addressed : Addressed) (device : Accepted) (j : Location) (s v : State) {old new : World} → IsWhole supply device → IsListed addressed tier old new device
     → LearnedSet (AtMaximum addressed.target (HasReadings addressed.bytes device)) addressed.target (configuration_value (configuration_of device)) j s v → IsAddressed addressed s → IsSpec s.spec → IsOwn tier supply device v
-own tier supply addressed device j s v whole is learned found ruled =
+accepted_own_device tier supply addressed device j s v whole is learned found ruled =
     let target = addressed.target in
     let learned_of = learned.so (eq-eqb (address_of s) target.addr found.address) in
     let read : HasReadings addressed.bytes device s.spec = learned_of.0 (head_packet s.spec target.low target.max found.low found.head) in (
@@ -164,7 +164,7 @@ own tier supply addressed device j s v whole is learned found ruled =
       learned_of.2,
     )
 
-pub ruled_there : (k : Ports) (p : List ℕ) (s : State) → IsSane k → state_there k p ≡ Some s → IsSpec s.spec
+pub ruled_there : (k : Ports) (p : List ℕ) (s : State) → Consistent k → state_there k p ≡ Some s → IsSpec s.spec
 ruled_there k [] s sane there = absurd cc
 ruled_there k (zero ∷ p) s sane there = absurd cc
 ruled_there k (suc i ∷ p) s sane there = sane_spec k i p s sane there
@@ -173,11 +173,11 @@ abbrev AddressedByRules : Addressed → State → Type 0
 AddressedByRules addressed s = IsAddressed addressed s × IsSpec s.spec
 
 -- the device at the port, where it was read and configured after it took the address
-own_found : (port : HubPort) (address tier supply n : ℕ) (addressed : Addressed) (device : Accepted) {old mid new : World} {a b : Option (List ℕ)} → WentOn n old a mid b → Within port address old mid → HasTaken port address old mid addressed
+own_found : (port : HubPort) (address tier supply n : ℕ) (addressed : Addressed) (device : Accepted) {old mid new : World} {a b : Option (List ℕ)} → StepRun n old a mid b → Within port address old mid → HasTaken port address old mid addressed
     → KeepsAddresses mid new → IsWhole supply device → IsListed addressed tier mid new device → Finds (IsOwn tier supply device) port address old new
 own_found port address tier supply n addressed device {old} {mid} {new} went within taken keeps whole is =
     finds_on (LearnedSet (AtMaximum addressed.target (HasReadings addressed.bytes device)) addressed.target (configuration_value (configuration_of device))) (AddressedByRules addressed) (IsOwn tier supply device) port address
-    (λ j s v learned found. own tier supply addressed device j s v whole is learned found.0 found.1) is.learned (within_on port address old mid new within keeps) ruled
+    (λ j s v learned found. accepted_own_device tier supply addressed device j s v whole is learned found.0 found.1) is.learned (within-keeps_addresses port address old mid new within keeps) ruled
   where
     ruled : Finds (AddressedByRules addressed) port address old mid
     ruled = record {
@@ -188,8 +188,8 @@ own_found port address tier supply n addressed device {old} {mid} {new} went wit
 target_is : (t : Target) (address : ℕ) (low pre : Bool) → address ≡ t.addr → low ≡ t.low → t.pre ≡ (t.low && pre) → t ≡ record { addr = address; max = t.max; low = low; pre = low && pre }
 target_is t address low pre at slow before = rw (at, slow, ← before) refl
 
-pub accepted : (port : HubPort) (address tier supply n m : ℕ) (addressed : Addressed) (result : Result Accepted Stop) {old mid new : World} {a b c d : Option (List ℕ)} → WentOn n old a mid b → Within port address old mid → HasTaken port address old mid addressed
-    → OnlySets address mid new → WentOn m mid c new d → IfOk result (λ device. IsWhole supply device) → IfOk result (IsListed addressed tier mid new) → IfOk result (IsAccepted port address tier supply old new)
+pub accepted : (port : HubPort) (address tier supply n m : ℕ) (addressed : Addressed) (result : Result Accepted Stop) {old mid new : World} {a b c d : Option (List ℕ)} → StepRun n old a mid b → Within port address old mid → HasTaken port address old mid addressed
+    → OnlySets address mid new → StepRun m mid c new d → IfOk result (λ device. IsWhole supply device) → IfOk result (IsListed addressed tier mid new) → IfOk result (IsAccepted port address tier supply old new)
 accepted port address tier supply n m addressed (Ok device) {old} {mid} {new} went within taken sets later whole is = record {
   served = is.served;
   takes = takes_then port address old mid new taken.takes sets.addresses;

@@ -15,17 +15,17 @@ use Rattle.usb_enum.specs.Text.{choice_of}
 use Rattle.usb_enum.proofs.Truths.{front_count, front_hub}
 use Rattle.usb_enum.proofs.VerdictRows.{GaveHead, GaveDevice, rows_after, row_too_deep}
 
-set_by : (stalled hub good : Bool) (chosen : ℕ) (cause : Cause)
+set_config_cause : (stalled hub good : Bool) (chosen : ℕ) (cause : Cause)
     → option_or (if stalled then Some (Stalled request.SetConfig) else None) (if hub then (if good then None else Some BadHub) else None) ≡ Some cause
     → (if stalled then Err (Stalled request.SetConfig) else if hub && not good then Err BadHub else Ok chosen) ≡ Err cause
-set_by true hub good chosen cause h = ap (λ c. Err c) (same_Some _ cause h)
-set_by false true true chosen cause h = absurd cc
-set_by false true false chosen cause h = ap (λ c. Err c) (same_Some _ cause h)
-set_by false false good chosen cause h = absurd cc
+set_config_cause true hub good chosen cause h = ap (λ c. Err c) (same_Some _ cause h)
+set_config_cause false true true chosen cause h = absurd cc
+set_config_cause false true false chosen cause h = ap (λ c. Err c) (same_Some _ cause h)
+set_config_cause false false good chosen cause h = absurd cc
 
 set_is : (spec : Spec) (texts : List (List ℕ)) (choice : Option ℕ) (cause : Cause) → chosen_fault (is_hub_device spec.descriptor) texts choice spec ≡ Some cause → set_verdict spec texts choice ≡ Err cause
 set_is spec texts None cause h = ap (λ c. Err c) (same_Some NoPower cause h)
-set_is spec texts (Some chosen) cause h = set_by spec.stalls.set_config (is_hub_device spec.descriptor) (is_good_hub spec (slice_index_or texts chosen [])) chosen cause h
+set_is spec texts (Some chosen) cause h = set_config_cause spec.stalls.set_config (is_hub_device spec.descriptor) (is_good_hub spec (slice_index_or texts chosen [])) chosen cause h
 
 read_is : (spec : Spec) (supply : ℕ) (first : Option Cause) (cause : Cause) → option_or first (chosen_fault (is_hub_device spec.descriptor) (texts_of spec) (choice_of supply (texts_of spec)) spec) ≡ Some cause
     → read_verdict spec supply first ≡ Err cause

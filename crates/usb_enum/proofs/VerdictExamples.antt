@@ -45,11 +45,11 @@ two_ports = record (function [] (device_bytes 9 0 1) (hub_bytes ∷ [])) { hub =
 abbrev no_item : Spec
 no_item = function [] (device_bytes 0 0 1) ((9 ∷ 2 ∷ 18 ∷ 0 ∷ 1 ∷ 1 ∷ 0 ∷ 128 ∷ 50 ∷ 0 ∷ 4 ∷ 0 ∷ 0 ∷ 0 ∷ 255 ∷ 0 ∷ 0 ∷ 0 ∷ []) ∷ [])
 
-abbrev twice : Spec
-twice = function [] (device_bytes 0 0 2) (config_bytes 1 50 ∷ config_bytes 1 50 ∷ [])
+abbrev twice_configured : Spec
+twice_configured = function [] (device_bytes 0 0 2) (config_bytes 1 50 ∷ config_bytes 1 50 ∷ [])
 
-abbrev cut : Spec
-cut = function [] (device_bytes 0 0 1) ((9 ∷ 2 ∷ 18 ∷ 0 ∷ 1 ∷ 1 ∷ 0 ∷ 128 ∷ 50 ∷ 9 ∷ []) ∷ [])
+abbrev cut_device : Spec
+cut_device = function [] (device_bytes 0 0 1) ((9 ∷ 2 ∷ 18 ∷ 0 ∷ 1 ∷ 1 ∷ 0 ∷ 128 ∷ 50 ∷ 9 ∷ []) ∷ [])
 
 abbrev missing : Spec
 missing = function [] (device_bytes 0 0 2) (config_bytes 1 50 ∷ [])
@@ -69,8 +69,8 @@ pub record Examples : Type 0 where
   pub stalled_config : verdict (record small { stalls = record no_stalls { config = true } }) 2 500 ≡ Err (Stalled request.Config)
   pub no_text : verdict missing 2 500 ≡ Err (Stalled request.Config)
   pub bad_item : verdict no_item 2 500 ≡ Err (BadConfiguration 0)
-  pub bad_length : verdict cut 2 500 ≡ Err (BadConfiguration 0)
-  pub bad_value : verdict twice 2 500 ≡ Err (BadConfiguration 1)
+  pub bad_length : verdict cut_device 2 500 ≡ Err (BadConfiguration 0)
+  pub bad_value : verdict twice_configured 2 500 ≡ Err (BadConfiguration 1)
   pub no_power : verdict large 3 100 ≡ Err NoPower
   pub stalled_set : verdict (record small { stalls = record no_stalls { set_config = true } }) 2 500 ≡ Err (Stalled request.SetConfig)
   pub bad_hub : verdict (record two_ports { hub = None }) 2 500 ≡ Err BadHub

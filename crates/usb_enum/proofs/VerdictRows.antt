@@ -52,10 +52,10 @@ unfolding first_fault
 first_none spec i h k = let e : i + 1 ≡ suc i = omega arith in rw e (ap (λ o. option_or o (config_fault spec i)) h ∙ k)
 
 -- the first bad one is the first of more
-pub first_is : (spec : Spec) (i n : ℕ) (cause : Cause) → i < n → first_fault spec i ≡ None → config_fault spec i ≡ Some cause → first_fault spec n ≡ Some cause
+pub first_fault-next : (spec : Spec) (i n : ℕ) (cause : Cause) → i < n → first_fault spec i ≡ None → config_fault spec i ≡ Some cause → first_fault spec n ≡ Some cause
 unfolding first_fault
-first_is spec i zero cause l h k = absurd (omega (arith, l))
-first_is spec i (suc n) cause l h k = pick (cases_order i n) (λ m. first_is spec i n cause m h k)
+first_fault-next spec i zero cause l h k = absurd (omega (arith, l))
+first_fault-next spec i (suc n) cause l h k = pick (cases_order i n) (λ m. first_fault-next spec i n cause m h k)
   where
     pick : (i ≡ n) ⊎ ((i < n) ⊎ (n < i)) → (i < n → first_fault spec n ≡ Some cause) → option_or (first_fault spec n) (config_fault spec n) ≡ Some cause
     pick (inl e) on = ap (λ j. option_or (first_fault spec j) (config_fault spec j)) (sym e) ∙ ap (λ o. option_or o (config_fault spec i)) h ∙ k

@@ -7,10 +7,10 @@ use Rattle.usb_descriptor.specs.Device.{device_head_of}
 use Rattle.usb_device.specs.Spec.{Spec}
 use Rattle.usb_world.specs.Addresses.{after_taking}
 use Rattle.usb_world.specs.World.{World}
-use Rattle.usb_bus.specs.Traces.{WentOn}
+use Rattle.usb_bus.specs.Traces.{StepRun}
 use Rattle.usb_transaction.specs.declared.target.Target.{Target}
-use Rattle.usb_address.specs.Claims.{Claims}
-use Rattle.usb_address.specs.Ownership.{Enumerating, TillFault}
+use Rattle.usb_address.specs.Claims.{AddressMap}
+use Rattle.usb_address.specs.Ownership.{Enumerating, WhileBusWorks}
 use Rattle.usb_hub.specs.declared.port.HubPort.{HubPort}
 use Rattle.usb_enum.specs.declared.addressed.Addressed.{Addressed}
 use Rattle.usb_enum.specs.declared.cause.Cause.{Cause}
@@ -22,14 +22,14 @@ use Rattle.usb_enum.specs.declared.stop.Stop.TheVariants.{Refused, Fault}
 use Rattle.usb_enum.specs.Addresses.{AtPort}
 use Rattle.usb_enum.specs.Verdicts.{verdict, gives_head, IsRight}
 use Rattle.usb_enum.specs.Device.{is_device}
-use Rattle.usb_enum.specs.FairEnumerations.{IsFairAt, PendsOr, StopsFairly}
+use Rattle.usb_enum.specs.FairEnumerations.{IsFairAt, PendingOr, StopsFairly}
 use Rattle.usb_enum.specs.Frames.{OnlySets}
-use Rattle.usb_enum.specs.LearnedFacts.{Explains}
+use Rattle.usb_enum.specs.LearnedFacts.{FailureReason}
 use Rattle.usb_enum.specs.PresentDevices.{AtPath, Awaits, HasHead, HasTaken}
 use Rattle.usb_enum.specs.Refusals.{Refuses, head_fault, early_fault, device_fault, addressed_fault, unaddressed_fault, cause_in, whole_fault, configured_fault}
-use Rattle.usb_enum.specs.Stop.{ToldOfDevice}
+use Rattle.usb_enum.specs.Stop.{CauseAllowedOfDevice}
 use Rattle.usb_enum.proofs.Courses.{regular_order, went_sound}
-use Rattle.usb_enum.proofs.Fairness.{fair_then, none_lost, pends_reached}
+use Rattle.usb_enum.proofs.Fairness.{fair_then, faults_for_told, pends_reached}
 use Rattle.usb_enum.proofs.Heads.{head_packet}
 use Rattle.usb_enum.proofs.Presence.{Granted}
 use Rattle.usb_enum.proofs.ReachedDevices.{reaches_set}
@@ -101,7 +101,7 @@ unaddressed_early spec cause e = ap (λ o. option_or o (Some NoAddress)) e
 pub none_free : (port : HubPort) (target : Target) (old new : World) → Awaits target port 0 old new → StopsFairly unaddressed_fault port 0 (Refused NoAddress) old new
 none_free port target old new awaits = record { why = why }
   where
-    why : (f : Claims) (p : List ℕ) → IsFairAt f port p 0 old new → TillFault (Enumerating f p 0) old → PendsOr (λ spec. unaddressed_fault spec ≡ Some NoAddress) p new
+    why : (f : AddressMap) (p : List ℕ) → IsFairAt f port p 0 old new → WhileBusWorks (Enumerating f p 0) old → PendingOr (λ spec. unaddressed_fault spec ≡ Some NoAddress) p new
     why f p fair held =
         pends_reached (λ spec. unaddressed_fault spec ≡ Some NoAddress) p new (awaits.reaches.reached f p fair.spare held fair.order fair.occupied fair.working)
         (λ s on there.
@@ -122,7 +122,7 @@ gave_head low max spec same head = record {
   head = ap (λ b. is_ok (device_head_of b (take 8 spec.descriptor))) same ∙ ap is_ok head.head;
 }
 
-module _ (port : HubPort) (address tier supply m n : ℕ) (device : Addressed) {old mid new : World} {a b c d : Option (List ℕ)} (first : WentOn m old a mid b) (second : WentOn n mid c new d) (at : AtPort port address old mid)
+module _ (port : HubPort) (address tier supply m n : ℕ) (device : Addressed) {old mid new : World} {a b c d : Option (List ℕ)} (first : StepRun m old a mid b) (second : StepRun n mid c new d) (at : AtPort port address old mid)
     (taken : HasTaken port address old mid device) (sets : OnlySets address mid new) (whole : is_device device.target.low device.bytes ≡ true) where
   abbrev wrong : Spec → Option Cause
   wrong = configured_fault tier supply device.bytes
@@ -134,7 +134,7 @@ module _ (port : HubPort) (address tier supply m n : ℕ) (device : Addressed) {
       let front = ap (λ x. is_device x (take 18 spec.descriptor)) g.speed ∙ ap (is_device device.target.low) (sym so.1.bytes) ∙ whole in
       ap cause_in (verdict_refused spec tier supply device.bytes cause (gave_head device.target.low device.target.max spec g.speed g.head) g.allowed front so.1.bytes fault)
 
-  configured_refused : (cause : Cause) → Explains (Refuses device.target wrong (Refused cause)) device.target mid new → (f : Claims) (p : List ℕ) → IsFairAt f port p address old new → PendsOr (λ spec. whole_fault tier supply spec ≡ Some cause) p new
+  configured_refused : (cause : Cause) → FailureReason (Refuses device.target wrong (Refused cause)) device.target mid new → (f : AddressMap) (p : List ℕ) → IsFairAt f port p address old new → PendingOr (λ spec. whole_fault tier supply spec ≡ Some cause) p new
   configured_refused cause explains f p fair =
       pends_reached (λ spec. whole_fault tier supply spec ≡ Some cause) p new
       ((reaches_set port address n second taken.takes sets taken.reaches).reached f p fair.spare fair.held fair.order fair.occupied fair.working)
@@ -155,8 +155,8 @@ module _ (port : HubPort) (address tier supply m n : ℕ) (device : Addressed) {
           let is = taken.found.found f p fair.spare fair.held (regular_order fair.order) s on there in
           record { low = is.low; address = is.address; so = record { granted = record { speed = is.low; head = is.head; allowed = is.allowed }; bytes = is.bytes } }
 
-  pub configured_stops : (stop : Stop) → ToldOfDevice tier stop new → Explains (Refuses device.target wrong stop) device.target mid new → StopsFairly (whole_fault tier supply) port address stop old new
-  configured_stops (Fault why) told explains = record { why = λ f p fair. none_lost p why new told }
+  pub configured_stops : (stop : Stop) → CauseAllowedOfDevice tier stop new → FailureReason (Refuses device.target wrong stop) device.target mid new → StopsFairly (whole_fault tier supply) port address stop old new
+  configured_stops (Fault why) told explains = record { why = λ f p fair. faults_for_told p why new told }
   configured_stops (Refused cause) told explains = record { why = λ f p fair held. configured_refused cause explains f p fair }
 
 pub matched : {A E : Type 0} (r : Result A E) (P : A → Type 0) (Q : E → Type 0) → IfOk r P → IfErr r Q → MatchResult r P Q

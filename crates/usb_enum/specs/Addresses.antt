@@ -3,8 +3,8 @@ use Rattle.std.specs.Prelude.{◌≡◌, ℕ, List, false, None, Some, Result, O
 use Rattle.usb_world.specs.Addresses.{after_taking}
 use Rattle.usb_world.specs.World.{World}
 use Rattle.usb_resources.specs.Pool.{Addresses, IsTaken}
-use Rattle.usb_address.specs.Claims.{Claims, Free, Unused}
-use Rattle.usb_address.specs.Ownership.{Owned, OwnedBut, Enumerating, TillFault}
+use Rattle.usb_address.specs.Claims.{AddressMap, Free, Unused}
+use Rattle.usb_address.specs.Ownership.{MapHolds, MapHoldsExcept, Enumerating, WhileBusWorks}
 use Rattle.usb_hub.specs.declared.port.HubPort.{HubPort}
 use Rattle.usb_hub.specs.Addresses.{IsAt}
 use Rattle.usb_enum.specs.declared.fault.EnumFault.{EnumFault}
@@ -14,7 +14,7 @@ use Rattle.usb_enum.specs.declared.finding.Finding.TheVariants.{Device, Refused}
 use Rattle.usb_enum.specs.Frames.{OnlyAt}
 
 -- a port of which nothing is claimed, and an address that no path claims
-pub record IsSpare (f : Claims) (port : HubPort) (p : List ℕ) (address : ℕ) : Type 0 where
+pub record IsSpare (f : AddressMap) (port : HubPort) (p : List ℕ) (address : ℕ) : Type 0 where
   pub at : IsAt f port p
   pub free : Free f p
   pub none : Unused f 0
@@ -22,15 +22,15 @@ pub record IsSpare (f : Claims) (port : HubPort) (p : List ℕ) (address : ℕ) 
 
 -- the device at the port, where one is reachable, has address 0 or the one that is set aside for it; every other has its own
 pub record Within (port : HubPort) (address : ℕ) (old new : World) : Type 0 where
-  pub stays : (f : Claims) (p : List ℕ) → IsSpare f port p address → TillFault (Enumerating f p address) old → TillFault (Enumerating f p address) new
+  pub stays : (f : AddressMap) (p : List ℕ) → IsSpare f port p address → WhileBusWorks (Enumerating f p address) old → WhileBusWorks (Enumerating f p address) new
 
 -- the device at the port, where one is reachable, took the address
 pub record TakesAddress (port : HubPort) (address : ℕ) (old new : World) : Type 0 where
-  pub took : (f : Claims) (p : List ℕ) → IsSpare f port p address → TillFault (Enumerating f p address) old → TillFault (Owned (after_taking f p address)) new
+  pub took : (f : AddressMap) (p : List ℕ) → IsSpare f port p address → WhileBusWorks (Enumerating f p address) old → WhileBusWorks (MapHolds (after_taking f p address)) new
 
 -- the calls were about the port alone, as long as the bus is at work
 pub record OnlyCalls (port : HubPort) (address : ℕ) (old new : World) : Type 0 where
-  pub at : (f : Claims) (p : List ℕ) → IsSpare f port p address → TillFault (Enumerating f p address) old → new.fault ≡ None → OnlyAt p old new
+  pub at : (f : AddressMap) (p : List ℕ) → IsSpare f port p address → WhileBusWorks (Enumerating f p address) old → new.fault ≡ None → OnlyAt p old new
 
 -- the device at the port is in the midst of its enumeration, and no other was changed
 pub record AtPort (port : HubPort) (address : ℕ) (old new : World) : Type 0 where
@@ -38,19 +38,19 @@ pub record AtPort (port : HubPort) (address : ℕ) (old new : World) : Type 0 wh
   pub only : OnlyCalls port address old new
 
 -- what is so at each end; of a parent that is lost nothing is known at the port and below it
-abbrev pub EndsOwned : Claims → List ℕ → Result Finding EnumFault → World → Type 0
-EndsOwned f p (Ok (Device device)) w = TillFault (Owned (after_taking f p device.address)) w
-EndsOwned f p (Ok (Refused cause)) w = TillFault (Owned f) w
-EndsOwned f p (Err ParentLost) w = TillFault (OwnedBut p f) w
+abbrev pub EndsOwned : AddressMap → List ℕ → Result Finding EnumFault → World → Type 0
+EndsOwned f p (Ok (Device device)) w = WhileBusWorks (MapHolds (after_taking f p device.address)) w
+EndsOwned f p (Ok (Refused cause)) w = WhileBusWorks (MapHolds f) w
+EndsOwned f p (Err ParentLost) w = WhileBusWorks (MapHoldsExcept p f) w
 EndsOwned f p (Err (Bus fault)) w = w.shared ≡ false
 EndsOwned f p (Err Memory) w = w.shared ≡ false
 
 -- where the device at the port, if one is reachable, has address 0 or the one that is set aside for it
 pub record EndsEnumeration (port : HubPort) (address : ℕ) (old : World) (result : Result Finding EnumFault) (new : World) : Type 0 where
-  pub ends : (f : Claims) (p : List ℕ) → IsSpare f port p address → TillFault (Enumerating f p address) old → EndsOwned f p result new
+  pub ends : (f : AddressMap) (p : List ℕ) → IsSpare f port p address → WhileBusWorks (Enumerating f p address) old → EndsOwned f p result new
 
 -- where nothing is claimed at the port, and only addresses that are taken are claimed
 pub record KeepsEnumerated (port : HubPort) (addresses : Addresses) (old : World) (result : Result Finding EnumFault) (new : World) : Type 0 where
-  pub ends : (f : Claims) (p : List ℕ) → IsAt f port p → Free f p → ((x : List ℕ) (a : ℕ) → f x ≡ Some a → IsTaken addresses a) → TillFault (Owned f) old → EndsOwned f p result new
-  pub only : (f : Claims) (p : List ℕ) → IsAt f port p → Free f p → ((x : List ℕ) (a : ℕ) → f x ≡ Some a → IsTaken addresses a) → TillFault (Owned f) old
+  pub ends : (f : AddressMap) (p : List ℕ) → IsAt f port p → Free f p → ((x : List ℕ) (a : ℕ) → f x ≡ Some a → IsTaken addresses a) → WhileBusWorks (MapHolds f) old → EndsOwned f p result new
+  pub only : (f : AddressMap) (p : List ℕ) → IsAt f port p → Free f p → ((x : List ℕ) (a : ℕ) → f x ≡ Some a → IsTaken addresses a) → WhileBusWorks (MapHolds f) old
       → new.fault ≡ None → OnlyAt p old new

@@ -7,7 +7,7 @@ use Rattle.usb_port.specs.Calls.{clear_call}
 use Rattle.usb_world.specs.World.{World}
 use Rattle.usb_pipe.specs.declared.fault.PipeFault.{PipeFault}
 use Rattle.usb_hub.specs.declared.port.HubPort.{HubPort}
-use Rattle.usb_hub.specs.Moments.{CallsPort, TellsPort}
+use Rattle.usb_hub.specs.Moments.{CommandsPort, ReadsPort}
 use Rattle.usb_hub.specs.Port.{PortRead}
 use Rattle.usb_enum.specs.declared.fault.EnumFault.{EnumFault}
 use Rattle.usb_enum.specs.Losses.{NoNewStretch}
@@ -17,14 +17,14 @@ use Rattle.usb_enum.specs.Stop.{at_port}
 pub record CalledAt (port : HubPort) (call : Option PortCall) (old : World) (result : Result (Unit {0}) EnumFault) (new : World) : Type 0 where
   pub outcome : Result (Unit {0}) PipeFault
   pub told : result ≡ at_port outcome
-  pub calls : CallsPort port call old outcome new
+  pub calls : CommandsPort port call old outcome new
   pub goes : new.fault ≡ None → NoNewStretch old new
 
 -- the same of its status
 pub record StatusAt (port : HubPort) (old : World) (result : Result PortStatus EnumFault) (new : World) : Type 0 where
   pub outcome : Result PortStatus PipeFault
   pub told : result ≡ at_port outcome
-  pub tells : TellsPort port old outcome new
+  pub tells : ReadsPort port old outcome new
   pub read : PortRead port old outcome new
   pub goes : new.fault ≡ None → NoNewStretch old new
 

@@ -5,15 +5,15 @@ use Rattle.usb_port.specs.Order.{parent_of}
 use Rattle.usb_device.specs.Spec.{Spec}
 use Rattle.usb_device.specs.Rows.{State}
 use Rattle.usb_device.specs.View.{state_there}
-use Rattle.usb_world.specs.Paths.{pend}
+use Rattle.usb_world.specs.Paths.{pending}
 use Rattle.usb_world.specs.World.{World}
 use Rattle.usb_transaction.specs.declared.target.Target.{Target}
 use Rattle.usb_transaction.specs.Failures.{NoThreeDamaged}
-use Rattle.usb_address.specs.Claims.{Claims}
-use Rattle.usb_address.specs.Ownership.{Enumerating, TillFault}
+use Rattle.usb_address.specs.Claims.{AddressMap}
+use Rattle.usb_address.specs.Ownership.{Enumerating, WhileBusWorks}
 use Rattle.usb_hub.specs.declared.port.HubPort.{HubPort}
 use Rattle.usb_hub.specs.declared.port.HubPort.TheVariants.{Root, External}
-use Rattle.usb_hub.specs.CallFailures.{Serves}
+use Rattle.usb_hub.specs.CallFailures.{HubServes}
 use Rattle.usb_enum.specs.declared.addressed.Addressed.{Addressed}
 use Rattle.usb_enum.specs.declared.cause.Cause.{Cause}
 use Rattle.usb_enum.specs.declared.fault.EnumFault.{EnumFault}
@@ -29,25 +29,25 @@ use Rattle.usb_enum.specs.PresentDevices.{IsInOrder, HasTaken}
 
 -- the hub that stands at a path serves the port; its endpoint 0 takes eight bytes at once
 pub record ServesAt (hub : Target) (number : ℕ) (q : List ℕ) (w : World) : Type 0 where
-  pub serves : Serves hub number w
+  pub serves : HubServes hub number w
   pub there : q ≡ path_to serves.spot
   pub wide : 8 ≤ hub.max
 
 -- a root port; or one of a hub that stands on its way and serves it, or at which a change of connection is pending
 abbrev pub HasServer : HubPort → List ℕ → World → Type 0
 HasServer (Root number) p w = ⊤
-HasServer (External hub number) p w = IsSomeAnd (parent_of p) (λ q. (pend w.roots q ≡ true) ⊎ ServesAt hub number q w)
+HasServer (External hub number) p w = IsSomeAnd (parent_of p) (λ q. (pending w.roots q ≡ true) ⊎ ServesAt hub number q w)
 
 -- a change of connection is pending at the hub of the port
 abbrev pub HubPends : List ℕ → World → Type 0
-HubPends p w = IsSomeAnd (parent_of p) (λ q. pend w.roots q ≡ true)
+HubPends p w = IsSomeAnd (parent_of p) (λ q. pending w.roots q ≡ true)
 
 -- What is fair
 
 -- the port is occupied and its hub answers, no three attempts running are damaged, no address is lost three times, and the bus is at work
-pub record IsFairAt (f : Claims) (port : HubPort) (p : List ℕ) (address : ℕ) (old new : World) : Type 0 where
+pub record IsFairAt (f : AddressMap) (port : HubPort) (p : List ℕ) (address : ℕ) (old new : World) : Type 0 where
   pub spare : IsSpare f port p address
-  pub held : TillFault (Enumerating f p address) old
+  pub held : WhileBusWorks (Enumerating f p address) old
   pub order : IsInOrder old
   pub occupied : IsOccupied old p
   pub server : HasServer port p old
@@ -58,8 +58,8 @@ pub record IsFairAt (f : Claims) (port : HubPort) (p : List ℕ) (address : ℕ)
 -- What ends an enumeration
 
 -- a change of connection is pending at a port, or this is so of the description of the device that stands there
-abbrev pub PendsOr : (Spec → Type 0) → List ℕ → World → Type 0
-PendsOr So p w = (pend w.roots p ≡ true) ⊎ ((s : State) → state_there w.roots p ≡ Some s → So s.spec)
+abbrev pub PendingOr : (Spec → Type 0) → List ℕ → World → Type 0
+PendingOr So p w = (pending w.roots p ≡ true) ⊎ ((s : State) → state_there w.roots p ≡ Some s → So s.spec)
 
 -- a hub is lost only where a change of connection is pending there
 abbrev pub FaultsFor : List ℕ → EnumFault → World → Type 0
@@ -68,16 +68,16 @@ FaultsFor p (faults.Bus why) w = ⊤
 FaultsFor p faults.Memory w = ⊤
 
 -- and a device that awaits its address is refused only for what is wrong with it, or where a change of connection is pending at its port
-abbrev pub StopsFor : (Spec → Option Cause) → Claims → List ℕ → World → Stop → World → Type 0
-StopsFor wrong f p old (Refused cause) new = TillFault (Enumerating f p 0) old → PendsOr (λ spec. wrong spec ≡ Some cause) p new
+abbrev pub StopsFor : (Spec → Option Cause) → AddressMap → List ℕ → World → Stop → World → Type 0
+StopsFor wrong f p old (Refused cause) new = WhileBusWorks (Enumerating f p 0) old → PendingOr (λ spec. wrong spec ≡ Some cause) p new
 StopsFor wrong f p old (Fault why) new = FaultsFor p why new
 
 -- so it is where all is fair
 pub record Faulted (port : HubPort) (address : ℕ) (fault : EnumFault) (old new : World) : Type 0 where
-  pub why : (f : Claims) (p : List ℕ) → IsFairAt f port p address old new → FaultsFor p fault new
+  pub why : (f : AddressMap) (p : List ℕ) → IsFairAt f port p address old new → FaultsFor p fault new
 
 pub record StopsFairly (wrong : Spec → Option Cause) (port : HubPort) (address : ℕ) (stop : Stop) (old new : World) : Type 0 where
-  pub why : (f : Claims) (p : List ℕ) → IsFairAt f port p address old new → StopsFor wrong f p old stop new
+  pub why : (f : AddressMap) (p : List ℕ) → IsFairAt f port p address old new → StopsFor wrong f p old stop new
 
 -- An address that was not taken
 
@@ -88,7 +88,7 @@ pub record Missed (n : ℕ) (old new : World) : Type 0 where
 
 -- where all is fair, a device that awaits its address awaits it still, and missed it so often; or a change of connection is pending
 pub record Misses (port : HubPort) (address n : ℕ) (old new : World) : Type 0 where
-  pub missed : (f : Claims) (p : List ℕ) → IsFairAt f port p address old new → TillFault (Enumerating f p 0) old → (pend new.roots p ≡ true) ⊎ (TillFault (Enumerating f p 0) new × Missed n old new)
+  pub missed : (f : AddressMap) (p : List ℕ) → IsFairAt f port p address old new → WhileBusWorks (Enumerating f p 0) old → (pending new.roots p ≡ true) ⊎ (WhileBusWorks (Enumerating f p 0) new × Missed n old new)
 
 -- a pass ends with the device that took the address, or it missed it
 abbrev pub PassEnds : HubPort → ℕ → World → World → Option Addressed → Type 0

@@ -2,18 +2,18 @@
 use Rattle.std.specs.Prelude.{◌≡◌, ◌⊎◌, ◌≤◌, ℕ, ◌+◌, ◌*◌, List, true, false, Option, None, Some, Result, Ok, Err, IfOk, MatchResult, length}
 use Rattle.usb_request.specs.Features.{PORT_ENABLE}
 use Rattle.usb_device.specs.View.{state_there}
-use Rattle.usb_world.specs.Paths.{pend}
+use Rattle.usb_world.specs.Paths.{pending}
 use Rattle.usb_world.specs.World.{World, root_port_at}
 use Rattle.usb_transaction.specs.Failures.{NoThreeDamaged}
 use Rattle.usb_hub.specs.declared.port.HubPort.{HubPort}
 use Rattle.usb_hub.specs.declared.port.HubPort.TheVariants.{Root, External}
 use Rattle.usb_hub.specs.Addresses.{IsAt}
-use Rattle.usb_hub.specs.Requests.{Ordered}
+use Rattle.usb_hub.specs.Requests.{Commanded}
 use Rattle.usb_hub.specs.Settings.{IsFresh}
 use Rattle.usb_request.specs.Requests.{clear_port_feature}
 use Rattle.usb_resources.specs.Pool.{Addresses, IsAddress, IsTaken, Takes, IsFull}
-use Rattle.usb_address.specs.Claims.{Claims, Free}
-use Rattle.usb_address.specs.Ownership.{Owned, Enumerating, TillFault}
+use Rattle.usb_address.specs.Claims.{AddressMap, Free}
+use Rattle.usb_address.specs.Ownership.{MapHolds, Enumerating, WhileBusWorks}
 use Rattle.usb_descriptor.specs.Config.{configuration_value}
 use Rattle.usb_descriptor.specs.Device.{configuration_count}
 use Rattle.usb_device.specs.Rows.{State}
@@ -55,7 +55,7 @@ pub record IsWhole (supply : ℕ) (device : Accepted) : Type 0 where
 
 -- where a path claims the address, and as long as the bus is at work, the ports of the hub that was found there are empty, or a change is pending
 pub record EmptiesPorts (address : ℕ) (told : Option HubFacts) (old new : World) : Type 0 where
-  pub empty : (f : Claims) (p : List ℕ) → f p ≡ Some address → TillFault (Owned f) old → IsInOrder old → new.fault ≡ None → HasEmptyPorts p told new
+  pub empty : (f : AddressMap) (p : List ℕ) → f p ≡ Some address → WhileBusWorks (MapHolds f) old → IsInOrder old → new.fault ≡ None → HasEmptyPorts p told new
 
 -- the device that has its address was read and configured
 pub record IsListed (addressed : Addressed) (tier : ℕ) (old new : World) (device : Accepted) : Type 0 where
@@ -78,13 +78,13 @@ pub record IsAccepted (port : HubPort) (given tier supply : ℕ) (old new : Worl
   pub takes : TakesAt port given old new
   pub own : Finds (IsOwn tier supply device) port given old new
   pub reaches : ReachesDevice port given old new
-  pub below : (f : Claims) (p : List ℕ) → IsSpare f port p given → TillFault (Enumerating f p given) old → IsInOrder old → new.fault ≡ None → HasEmptyPorts p device.hub new
+  pub below : (f : AddressMap) (p : List ℕ) → IsSpare f port p given → WhileBusWorks (Enumerating f p given) old → IsInOrder old → new.fault ≡ None → HasEmptyPorts p device.hub new
   pub strings : AsksStrings port old new device
 
 -- the last request to a hub was to clear PORT_ENABLE, and it was done
 pub record LastDisabled (hub : Target) (port : ℕ) (w : World) : Type 0 where
   pub before : World
-  pub ordered : Ordered hub (clear_port_feature PORT_ENABLE port) before (Ok tt) w
+  pub ordered : Commanded hub (clear_port_feature PORT_ENABLE port) before (Ok tt) w
 
 -- the port was told to pass nothing on
 abbrev pub IsDisabled : HubPort → World → Type 0
@@ -103,7 +103,7 @@ GivesUp port (stops.Fault fault) old result new = (result ≡ Err fault) × (new
 
 -- at an occupied port of which nothing is claimed, a refused device stands and the port is disabled, or a change of connection is pending
 pub record Disables (port : HubPort) (address : ℕ) (old : World) (result : Result Finding EnumFault) (new : World) : Type 0 where
-  pub there : (f : Claims) (p : List ℕ) → IsSpare f port p address → TillFault (Enumerating f p address) old → IsOccupied old p → (finding : Finding) → result ≡ Ok finding
+  pub there : (f : AddressMap) (p : List ℕ) → IsSpare f port p address → WhileBusWorks (Enumerating f p address) old → IsOccupied old p → (finding : Finding) → result ≡ Ok finding
       → IsKnownAs new p (Some finding)
 
 -- who holds which address at the end of an enumeration that is given up, and that its calls were about the port alone; that a refused device stands
@@ -142,26 +142,26 @@ TakesFor (Err fault) old new = new ≡ old
 
 -- where nothing is claimed at the port, and only addresses that are taken are claimed, the device that was found is the one at the port, where that
 -- is reachable
-pub record IsTruthful (port : HubPort) (addresses : Addresses) (tier supply : ℕ) (old : World) (result : Result Finding EnumFault) (new : World) : Type 0 where
-  pub truth : (f : Claims) (p : List ℕ) → IsAt f port p → Free f p → ((x : List ℕ) (a : ℕ) → f x ≡ Some a → IsTaken addresses a) → TillFault (Owned f) old → IsRegular old
+pub record FindingIsTrue (port : HubPort) (addresses : Addresses) (tier supply : ℕ) (old : World) (result : Result Finding EnumFault) (new : World) : Type 0 where
+  pub truth : (f : AddressMap) (p : List ℕ) → IsAt f port p → Free f p → ((x : List ℕ) (a : ℕ) → f x ≡ Some a → IsTaken addresses a) → WhileBusWorks (MapHolds f) old → IsRegular old
       → (device : Accepted) → result ≡ Ok (Device device) → AtPath (IsOwn tier supply device) p new
 
 -- an enumeration may begin at the port of a path: nothing is claimed there, only addresses that are taken are claimed, each reachable device
 -- holds what is claimed, and ports are in order
-pub record Begins (f : Claims) (port : HubPort) (p : List ℕ) (addresses : Addresses) (w : World) : Type 0 where
+pub record Begins (f : AddressMap) (port : HubPort) (p : List ℕ) (addresses : Addresses) (w : World) : Type 0 where
   pub at : IsAt f port p
   pub free : Free f p
   pub taken : (x : List ℕ) (a : ℕ) → f x ≡ Some a → IsTaken addresses a
-  pub owned : TillFault (Owned f) w
+  pub owned : WhileBusWorks (MapHolds f) w
   pub order : IsInOrder w
 
 -- as long as the bus is at work, what is found at an occupied port is there in the end
-pub record Places (port : HubPort) (addresses : Addresses) (old : World) (result : Result Finding EnumFault) (new : World) : Type 0 where
-  pub placed : (f : Claims) (p : List ℕ) → Begins f port p addresses old → IsOccupied old p → new.fault ≡ None → (finding : Finding) → result ≡ Ok finding → IsPlaced p finding new
+pub record FindingStands (port : HubPort) (addresses : Addresses) (old : World) (result : Result Finding EnumFault) (new : World) : Type 0 where
+  pub placed : (f : AddressMap) (p : List ℕ) → Begins f port p addresses old → IsOccupied old p → new.fault ≡ None → (finding : Finding) → result ≡ Ok finding → IsPlaced p finding new
 
 -- so the rows of the table are what decides: no three attempts running are damaged, no address is lost three times, the port is occupied, its hub
 -- answers, and the bus is at work
-pub record IsFair (f : Claims) (port : HubPort) (p : List ℕ) (addresses : Addresses) (old new : World) : Type 0 where
+pub record IsFair (f : AddressMap) (port : HubPort) (p : List ℕ) (addresses : Addresses) (old new : World) : Type 0 where
   pub begins : Begins f port p addresses old
   pub occupied : IsOccupied old p
   pub server : HasServer port p old
@@ -170,24 +170,24 @@ pub record IsFair (f : Claims) (port : HubPort) (p : List ℕ) (addresses : Addr
   pub working : new.fault ≡ None
 
 -- a refusal has its cause, or a change of connection is pending at the port; and a hub is lost only where one is pending there
-pub record Warrants (port : HubPort) (addresses : Addresses) (tier supply : ℕ) (old : World) (result : Result Finding EnumFault) (new : World) : Type 0 where
-  pub cause : (f : Claims) (p : List ℕ) → IsFair f port p addresses old new → (cause : Cause) (s : State) → result ≡ Ok (Refused cause) → state_there new.roots p ≡ Some s
-      → (pend new.roots p ≡ true) ⊎ IsRight (IsFull addresses) s.spec tier supply (Refused cause)
-  pub parent : (f : Claims) (p : List ℕ) → IsFair f port p addresses old new → result ≡ Err ParentLost → HubPends p new
+pub record JustifiesRefusal (port : HubPort) (addresses : Addresses) (tier supply : ℕ) (old : World) (result : Result Finding EnumFault) (new : World) : Type 0 where
+  pub cause : (f : AddressMap) (p : List ℕ) → IsFair f port p addresses old new → (cause : Cause) (s : State) → result ≡ Ok (Refused cause) → state_there new.roots p ≡ Some s
+      → (pending new.roots p ≡ true) ⊎ IsRight (IsFull addresses) s.spec tier supply (Refused cause)
+  pub parent : (f : AddressMap) (p : List ℕ) → IsFair f port p addresses old new → result ≡ Err ParentLost → HubPends p new
 
 -- where the plan plugs no device whose texts say more bytes, so few attempts are made, whatever the answer is
-pub record MakesFew (port : HubPort) (addresses : Addresses) (old new : World) : Type 0 where
-  pub few : (f : Claims) (p : List ℕ) → IsWide port → Begins f port p addresses old → (most : ℕ) → (old.fault ≡ None → HasPlanWithin most old)
+pub record FewAttempts (port : HubPort) (addresses : Addresses) (old new : World) : Type 0 where
+  pub few : (f : AddressMap) (p : List ℕ) → IsWide port → Begins f port p addresses old → (most : ℕ) → (old.fault ≡ None → HasPlanWithin most old)
       → new.attempts ≤ old.attempts + (250000 + 100 * most)
 
 -- who holds which address at each end, that what was found is so and there, why a device is refused, where all is fair and whatever is damaged, how
 -- few attempts that takes, how strings are asked for, and what is left at the port
 pub record Enumerates (port : HubPort) (before : Addresses) (tier supply : ℕ) (old : World) (result : Result Finding EnumFault) (new : World) : Type 0 where
   pub addresses : KeepsEnumerated port before old result new
-  pub own : IsTruthful port before tier supply old result new
-  pub places : Places port before old result new
-  pub warrants : Warrants port before tier supply old result new
+  pub own : FindingIsTrue port before tier supply old result new
+  pub places : FindingStands port before old result new
+  pub warrants : JustifiesRefusal port before tier supply old result new
   pub ended : EndsFor port before tier supply old result new
-  pub few : MakesFew port before old new
+  pub few : FewAttempts port before old new
   pub strings : (device : Accepted) → result ≡ Ok (Device device) → AsksStrings port old new device
   pub left : (finding : Finding) → result ≡ Ok finding → IsLeft port finding new

@@ -1,18 +1,18 @@
 -- What calls on devices and at ports leave of all other devices and ports.
-use Rattle.usb_device.specs.Tree.{Spot}
+use Rattle.usb_device.specs.Tree.{Location}
 use Rattle.std.specs.Prelude.{◌≡◌, ◌==◌, ℕ, List, false, None, Some}
 use Rattle.usb_device.specs.Rows.{State}
-use Rattle.usb_world.specs.Courses.{Spares}
+use Rattle.usb_world.specs.Courses.{KeepsPendingAt}
 use Rattle.usb_world.specs.Devices.{EachWas}
 use Rattle.usb_world.specs.Paths.{address_of, is_way}
-use Rattle.usb_world.specs.RestingPorts.{AsksNothingOf}
+use Rattle.usb_world.specs.RestingPorts.{LeavesPortAlone}
 use Rattle.usb_world.specs.Steps.{Course}
 use Rattle.usb_world.specs.World.{World}
-use Rattle.usb_address.specs.Claims.{Claims}
-use Rattle.usb_address.specs.Ownership.{Owned, KeepsAddresses}
+use Rattle.usb_address.specs.Claims.{AddressMap}
+use Rattle.usb_address.specs.Ownership.{MapHolds, KeepsAddresses}
 use Rattle.usb_backlog.specs.Marks.{KeepsAll, KeepsFound}
 use Rattle.usb_hub.specs.Addresses.{StaysAs, EachElsewhere, KeepsDevices}
-use Rattle.usb_hub.specs.Requests.{AllRest, RestBut}
+use Rattle.usb_hub.specs.Requests.{TouchesNoPort, TouchesPortsBelow}
 
 -- On a device
 
@@ -20,22 +20,22 @@ use Rattle.usb_hub.specs.Requests.{AllRest, RestBut}
 pub record OnlyAsks (old new : World) : Type 0 where
   pub addresses : KeepsAddresses old new
   pub devices : KeepsDevices old new
-  pub ports : new.fault ≡ None → AllRest old new
+  pub ports : new.fault ≡ None → TouchesNoPort old new
   pub backlog : new.fault ≡ None → KeepsAll old new
 
 -- no more is left to do than before, but by events, where the ports of the device whose path claims the address are marked
 abbrev pub FoundAt : ℕ → World → World → Type 0
-FoundAt address w v = (f : Claims) (q : List ℕ) → f q ≡ Some address → Owned f w → KeepsFound q w v
+FoundAt address w v = (f : AddressMap) (q : List ℕ) → f q ≡ Some address → MapHolds f w → KeepsFound q w v
 
 -- a hub at an address was told about its ports: nothing was asked of the ports that are not below it
 pub record OnlyTells (address : ℕ) (old new : World) : Type 0 where
   pub addresses : KeepsAddresses old new
   pub devices : KeepsDevices old new
-  pub ports : new.fault ≡ None → RestBut address old new
+  pub ports : new.fault ≡ None → TouchesPortsBelow address old new
   pub backlog : new.fault ≡ None → FoundAt address old new
 
 -- a device has the description and the address that it had, and elsewhere than at this address it stays as it was
-pub record StaysBut (address : ℕ) (x : Spot) (s v : State) : Type 0 where
+pub record StaysBut (address : ℕ) (x : Location) (s v : State) : Type 0 where
   pub spec : v.spec ≡ s.spec
   pub same : address_of v ≡ address_of s
   pub stays : (address_of s == address) ≡ false → StaysAs x s v
@@ -44,14 +44,14 @@ pub record StaysBut (address : ℕ) (x : Spot) (s v : State) : Type 0 where
 pub record OnlySets (address : ℕ) (old new : World) : Type 0 where
   pub addresses : KeepsAddresses old new
   pub devices : new.shared ≡ false → EachWas (StaysBut address) old new
-  pub ports : new.fault ≡ None → RestBut address old new
+  pub ports : new.fault ≡ None → TouchesPortsBelow address old new
   pub backlog : new.fault ≡ None → FoundAt address old new
 
 -- At a port
 
 -- nothing was asked of the ports that are not at a path nor below it, what is pending there stays, and devices elsewhere stay as they were
 pub record OnlyAt (p : List ℕ) (old new : World) : Type 0 where
-  pub others : (x : List ℕ) → is_way p x ≡ false → Course (AsksNothingOf x) old new
-  pub spares : Course (Spares p) old new
+  pub others : (x : List ℕ) → is_way p x ≡ false → Course (LeavesPortAlone x) old new
+  pub spares : Course (KeepsPendingAt p) old new
   pub devices : EachElsewhere p StaysAs old new
   pub backlog : KeepsFound p old new

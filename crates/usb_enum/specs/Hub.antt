@@ -8,25 +8,25 @@ use Rattle.usb_descriptor.specs.Hub.{hub_spelled, port_count}
 use Rattle.usb_resources.specs.Power.{supply_of}
 use Rattle.usb_request.specs.Requests.{get_hub_descriptor, get_status, set_port_feature}
 use Rattle.usb_hub.specs.declared.status.DeviceStatus.{DeviceStatus}
-use Rattle.usb_hub.specs.Requests.{AskedData, Told, Ordered, device_status}
+use Rattle.usb_hub.specs.Requests.{Queried, ReadAs, Commanded, device_status}
 use Rattle.usb_enum.specs.declared.hub.HubFacts.{HubFacts}
 
 -- its descriptor, which is good and says how many ports it has
 pub record CountTold (hub : Target) (old new : World) (count : ℕ) : Type 0 where
   pub bytes : Vec ℕ
-  pub asked : AskedData hub get_hub_descriptor old (Ok bytes) new
+  pub asked : Queried hub get_hub_descriptor old (Ok bytes) new
   pub good : hub_spelled bytes.items ≡ Ok bytes.items
   pub said : count ≡ port_count bytes.items
 
 -- its status, which says what its ports give
 pub record SupplyTold (hub : Target) (old new : World) (supply : ℕ) : Type 0 where
   pub status : DeviceStatus
-  pub told : Told device_status hub get_status old (Ok status) new
+  pub told : ReadAs device_status hub get_status old (Ok status) new
   pub said : supply ≡ supply_of false status.self_powered
 
 -- one of its ports was given power
 abbrev pub IsPowered : Target → ℕ → World → World → Type 0
-IsPowered hub port old new = Ordered hub (set_port_feature PORT_POWER port) old (Ok tt) new
+IsPowered hub port old new = Commanded hub (set_port_feature PORT_POWER port) old (Ok tt) new
 
 -- its ports were given power up to this number, one by one
 abbrev pub Powered : Target → ℕ → World → World → Type 0

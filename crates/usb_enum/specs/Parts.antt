@@ -3,7 +3,7 @@
 use Rattle.std.specs.Prelude.{ℕ, List, Option, Result, MatchResult, ⊤}
 use Rattle.usb_device.specs.Spec.{Spec}
 use Rattle.usb_world.specs.World.{World}
-use Rattle.usb_bus.specs.Traces.{WentOn}
+use Rattle.usb_bus.specs.Traces.{StepRun}
 use Rattle.usb_transaction.specs.declared.target.Target.{Target}
 use Rattle.usb_hub.specs.declared.port.HubPort.{HubPort}
 use Rattle.usb_enum.specs.declared.addressed.Addressed.{Addressed}
@@ -12,16 +12,16 @@ use Rattle.usb_enum.specs.declared.fault.EnumFault.{EnumFault}
 use Rattle.usb_enum.specs.declared.stop.Stop.{Stop}
 use Rattle.usb_enum.specs.FairEnumerations.{StopsFairly}
 use Rattle.usb_enum.specs.Frames.{OnlyAsks}
-use Rattle.usb_enum.specs.LearnedFacts.{Explains, ExplainsSet, Learns}
+use Rattle.usb_enum.specs.LearnedFacts.{FailureReason, ExplainsSet, DeviceFact}
 use Rattle.usb_enum.specs.PresentDevices.{HasTaken}
 use Rattle.usb_enum.specs.Readings.{AtMaximum}
-use Rattle.usb_enum.specs.Reasons.{DescriptorRead, FaultBy, StopTold, StopToldAt, StoppedWithout, StopsAtPort, StopsDevice, ToldAtStart, ToldOfHub}
+use Rattle.usb_enum.specs.Reasons.{DescriptorRead, FaultBy, CauseAllowed, CauseAllowedAt, StoppedWithout, StopsAtPort, StopsDevice, CauseAllowedAtStart, CauseAllowedOfHub}
 use Rattle.usb_enum.specs.Refusals.{IsRefusedFor, Refuses, RefusesDescriptor, RefusesNoPort, configured_fault, head_fault, hub_fault, start_fault, unaddressed_fault, whole_fault}
 
 -- at most so many attempts were made, and this was kept
-pub record Steps (Keeps : World → World → Type 0) (most : ℕ) (old : World)
+pub record KeepingSteps (Keeps : World → World → Type 0) (most : ℕ) (old : World)
     (before : Option (List ℕ)) (new : World) (now : Option (List ℕ)) : Type 0 where
-  pub went : WentOn most old before new now
+  pub went : StepRun most old before new now
   pub keeps : Keeps old new
 
 -- besides, this is so of what was given, or of why it stopped
@@ -29,7 +29,7 @@ pub record Ending {A E : Type 0} (Keeps : World → World → Type 0) (most : �
     (Gives : World → World → A → Type 0) (Stops : World → World → E → Type 0) (old : World)
     (before : Option (List ℕ)) (result : Result A E) (new : World)
     (now : Option (List ℕ)) : Type 0 where
-  pub steps : Steps Keeps most old before new now
+  pub steps : KeepingSteps Keeps most old before new now
   pub ends : MatchResult result (Gives old new) (Stops old new)
 
 -- a part of an enumeration over a bus
@@ -52,35 +52,35 @@ pub record Both {A : Type 0} (Told So : World → World → A → Type 0) (old n
 -- an answer: how it was asked for, and what is learned of the target's device
 abbrev pub Answered : {A : Type 0} → Target → (World → World → A → Type 0) → (A → Spec → Type 0)
     → World → World → A → Type 0
-Answered t Asked So = Both Asked (λ old new answer. Learns (AtMaximum t (So answer)) t old new)
+Answered t Asked So = Both Asked (λ old new answer. DeviceFact (AtMaximum t (So answer)) t old new)
 
 -- why a read stops: the last request and what was answered to it, and what explains it
 abbrev pub StopsRead : Target → (Spec → Option Cause) → World → World → Stop → Type 0
-StopsRead t wrong = Both (λ old new stop. StopTold t stop old new)
-    (λ old new stop. Explains (Refuses t wrong stop) t old new)
+StopsRead t wrong = Both (λ old new stop. CauseAllowed t stop old new)
+    (λ old new stop. FailureReason (Refuses t wrong stop) t old new)
 
 -- the same of what a hub is asked
 abbrev pub StopsHub : Target → World → World → Stop → Type 0
-StopsHub t = Both (λ old new stop. ToldOfHub t stop old new)
-    (λ old new stop. Explains (Refuses t hub_fault stop) t old new)
+StopsHub t = Both (λ old new stop. CauseAllowedOfHub t stop old new)
+    (λ old new stop. FailureReason (Refuses t hub_fault stop) t old new)
 
 -- why a hub that has this configuration text cannot be started
 abbrev pub StopsStart : Target → List ℕ → World → World → Stop → Type 0
-StopsStart t text = Both (λ old new stop. ToldAtStart t text stop old new)
+StopsStart t text = Both (λ old new stop. CauseAllowedAtStart t text stop old new)
     (λ old new stop. ExplainsSet (Refuses t (start_fault text) stop) t old new)
 
 -- why its first so many ports are not given power
 abbrev pub StopsPower : Target → ℕ → World → World → Stop → Type 0
-StopsPower t ports = Both (λ old new stop. ToldOfHub t stop old new)
+StopsPower t ports = Both (λ old new stop. CauseAllowedOfHub t stop old new)
     (λ old new stop. ExplainsSet (RefusesNoPort t ports stop) t old new)
 
 -- why the head of a device descriptor, or all of it, was not read
 abbrev pub StopsHead : Target → World → World → Stop → Type 0
-StopsHead t = Both (λ old new stop. StopTold t stop old new)
-    (λ old new stop. Explains (IsRefusedFor (head_fault t.low) stop) t old new)
+StopsHead t = Both (λ old new stop. CauseAllowed t stop old new)
+    (λ old new stop. FailureReason (IsRefusedFor (head_fault t.low) stop) t old new)
 
 abbrev pub StopsDescriptor : Target → World → World → Stop → Type 0
-StopsDescriptor t = Both (λ old new stop. StopTold t stop old new)
+StopsDescriptor t = Both (λ old new stop. CauseAllowed t stop old new)
     (λ old new stop. RefusesDescriptor t stop old new)
 
 -- the device that took the address was read at it
@@ -91,7 +91,7 @@ TakesAddressed port address =
 
 -- why there is no device with an address at a port: what was answered, and where all is fair
 abbrev pub StopsAt : HubPort → ℕ → (Spec → Option Cause) → World → World → Stop → Type 0
-StopsAt port address wrong = Both (λ old new stop. StopToldAt port address stop old new)
+StopsAt port address wrong = Both (λ old new stop. CauseAllowedAt port address stop old new)
     (λ old new stop. StopsFairly wrong port address stop old new)
 
 -- the same where no address is free
@@ -102,7 +102,7 @@ StopsWithout port = Both (λ old new stop. StoppedWithout port stop old new)
 -- why a device of this descriptor is not configured, in a tier and at a port of so many mA
 abbrev pub StopsConfiguring : Target → List ℕ → ℕ → ℕ → World → World → Stop → Type 0
 StopsConfiguring t bytes tier supply = Both (StopsDevice t bytes tier supply)
-    (λ old new stop. Explains (Refuses t (configured_fault tier supply bytes) stop) t old new)
+    (λ old new stop. FailureReason (Refuses t (configured_fault tier supply bytes) stop) t old new)
 
 -- why one at a port is not
 abbrev pub StopsExamining : HubPort → ℕ → ℕ → ℕ → World → World → Stop → Type 0

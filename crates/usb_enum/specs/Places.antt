@@ -2,7 +2,7 @@
 use Rattle.std.specs.Prelude.{◌≡◌, ◌⊎◌, ◌≤◌, ℕ, List, [], ◌∷◌, ◌++◌, Option, None, Some, IsSome, IfSome, true, false}
 use Rattle.usb_device.specs.Tree.{Ports, reach}
 use Rattle.usb_device.specs.View.{state_there, port_there}
-use Rattle.usb_world.specs.Paths.{live, pend}
+use Rattle.usb_world.specs.Paths.{has_power, pending}
 use Rattle.usb_world.specs.World.{World}
 use Rattle.usb_enum.specs.declared.finding.Accepted.{Accepted}
 use Rattle.usb_enum.specs.declared.finding.Finding.{Finding}
@@ -21,15 +21,15 @@ IsThere w path (Some (Refused cause)) = IsSome (state_there w.roots path) × IsD
 
 -- a change of connection is pending at a port, or it has power and what is listed is there
 abbrev pub IsKnownAs : World → List ℕ → Option Finding → Type 0
-IsKnownAs w path listed = (pend w.roots path ≡ true) ⊎ ((live w.roots path ≡ true) × IsThere w path listed)
+IsKnownAs w path listed = (pending w.roots path ≡ true) ⊎ ((has_power w.roots path ≡ true) × IsThere w path listed)
 
 -- a change of connection is pending at a port, or it has power and a device stands there
 abbrev pub IsOccupied : World → List ℕ → Type 0
-IsOccupied w path = (pend w.roots path ≡ true) ⊎ ((live w.roots path ≡ true) × IsSome (state_there w.roots path))
+IsOccupied w path = (pending w.roots path ≡ true) ⊎ ((has_power w.roots path ≡ true) × IsSome (state_there w.roots path))
 
 -- a change of connection is pending at a port, or it has power and the device there is reached
 abbrev pub IsReachedAt : World → List ℕ → Type 0
-IsReachedAt w path = (pend w.roots path ≡ true) ⊎ ((live w.roots path ≡ true) × (reach w.roots path ≡ true))
+IsReachedAt w path = (pending w.roots path ≡ true) ⊎ ((has_power w.roots path ≡ true) × (reach w.roots path ≡ true))
 
 -- of the ports of a hub nothing is listed yet
 abbrev pub HasEmptyPorts : List ℕ → Option HubFacts → World → Type 0

@@ -2,18 +2,18 @@
 use Rattle.std.specs.Prelude.{◌≡◌, ◌&&◌, ℕ, List, Bool, true, false, take, Option, None, Some, Ok, ⊤}
 use Rattle.usb_device.specs.Spec.{Spec}
 use Rattle.usb_device.specs.Rows.{State}
-use Rattle.usb_device.specs.Tree.{reach, Spot}
+use Rattle.usb_device.specs.Tree.{reach, Location}
 use Rattle.usb_device.specs.View.{state_there}
 use Rattle.usb_request.specs.Codes.{DEVICE_HEAD_LENGTH, DEVICE_LENGTH}
 use Rattle.usb_descriptor.specs.Device.{device_head_of, configuration_count}
 use Rattle.usb_world.specs.Devices.{EachWas}
 use Rattle.usb_world.specs.Paths.{address_of}
-use Rattle.usb_world.specs.Steps.{IsBetween}
+use Rattle.usb_world.specs.Steps.{WorldInvariant}
 use Rattle.usb_world.specs.World.{World}
 use Rattle.usb_transaction.specs.declared.target.Target.{Target}
 use Rattle.usb_transaction.specs.Leaves.{is_at}
-use Rattle.usb_address.specs.Claims.{Claims}
-use Rattle.usb_address.specs.Ownership.{Enumerating, TillFault}
+use Rattle.usb_address.specs.Claims.{AddressMap}
+use Rattle.usb_address.specs.Ownership.{Enumerating, WhileBusWorks}
 use Rattle.usb_hub.specs.declared.port.HubPort.{HubPort}
 use Rattle.usb_hub.specs.Addresses.{IsClaimed}
 use Rattle.usb_hub.specs.Settings.{IsFresh}
@@ -24,7 +24,7 @@ use Rattle.usb_enum.specs.Addresses.{IsSpare, TakesAddress}
 use Rattle.usb_enum.specs.Verdicts.{strings_by}
 use Rattle.usb_enum.specs.Device.{IsStarted, string_indexes, configuration_of, needs_pre}
 use Rattle.usb_enum.specs.Hub.{Started}
-use Rattle.usb_enum.specs.LearnedFacts.{Learns}
+use Rattle.usb_enum.specs.LearnedFacts.{DeviceFact}
 use Rattle.usb_enum.specs.Losses.{NoNewStretch}
 use Rattle.usb_enum.specs.Places.{IsOccupied, IsReachedAt}
 use Rattle.usb_enum.specs.Readings.{AtMaximum, HasConfigurations, IsGoodHub, Ruled}
@@ -35,7 +35,7 @@ use Rattle.usb_enum.specs.Readings.{AtMaximum, HasConfigurations, IsGoodHub, Rul
 pub record AnswersSo (So : Spec → Type 0) (t : Target) (old new : World) : Type 0 where
   pub who : IsClaimed t.addr old
   pub still : new.fault ≡ None
-  pub learns : Learns So t old new
+  pub learns : DeviceFact So t old new
 
 -- it answers with the head of a device descriptor at this speed, which has this maximum packet
 pub record HasHead (low : Bool) (max : ℕ) (spec : Spec) : Type 0 where
@@ -52,11 +52,11 @@ HasDescriptor bytes spec = bytes ≡ take DEVICE_LENGTH spec.descriptor
 
 -- between steps ports are sane and devices as the rules say, as long as the bus is at work
 abbrev pub IsRegular : World → Type 0
-IsRegular w = w.fault ≡ None → IsBetween w
+IsRegular w = w.fault ≡ None → WorldInvariant w
 
 -- no device remembers a packet, ports are sane, and devices are as the rules say
 abbrev pub IsOrderly : World → Type 0
-IsOrderly w = IsBetween w
+IsOrderly w = WorldInvariant w
 
 -- so it is as long as the bus is at work
 abbrev pub IsInOrder : World → Type 0
@@ -68,11 +68,11 @@ AtPath So p w = (s : State) → reach w.roots p ≡ true → state_there w.roots
 
 -- where nothing is claimed at the port, and the address is spare, the device at the port, where one is reachable, is so in the end
 pub record Finds (So : State → Type 0) (port : HubPort) (address : ℕ) (old new : World) : Type 0 where
-  pub found : (f : Claims) (p : List ℕ) → IsSpare f port p address → TillFault (Enumerating f p address) old → IsRegular old → AtPath So p new
+  pub found : (f : AddressMap) (p : List ℕ) → IsSpare f port p address → WhileBusWorks (Enumerating f p address) old → IsRegular old → AtPath So p new
 
 -- so it is where the port is occupied: as long as the bus is at work, the device there is reached in the end, or a change of connection is pending
 pub record ReachesDevice (port : HubPort) (address : ℕ) (old new : World) : Type 0 where
-  pub reached : (f : Claims) (p : List ℕ) → IsSpare f port p address → TillFault (Enumerating f p address) old → IsInOrder old → IsOccupied old p → new.fault ≡ None → IsReachedAt new p
+  pub reached : (f : AddressMap) (p : List ℕ) → IsSpare f port p address → WhileBusWorks (Enumerating f p address) old → IsInOrder old → IsOccupied old p → new.fault ≡ None → IsReachedAt new p
 
 -- it has this speed
 abbrev pub HasSpeed : Bool → State → Type 0
@@ -123,7 +123,7 @@ TellsPorts text None spec = ⊤
 -- what a device told of its ports, what was learned of it, and how they were given power
 pub record LearnsPorts (device : Addressed) (text : List ℕ) (old new : World) (told : Option HubFacts) : Type 0 where
   pub served : IsStarted device.target.addr told
-  pub learned : Learns (AtMaximum device.target (TellsPorts text told)) device.target old new
+  pub learned : DeviceFact (AtMaximum device.target (TellsPorts text told)) device.target old new
   pub started : (facts : HubFacts) → told ≡ Some facts → Started device.target old new facts
 
 -- what was read is the description's, by the bytes of its device descriptor
@@ -134,7 +134,7 @@ pub record HasReadings (bytes : List ℕ) (device : Accepted) (spec : Spec) : Ty
   pub strings : device.strings ≡ strings_by spec (string_indexes bytes)
 
 -- a device has the description and the address that it had; of the target's device this is so, it has this configuration, and its endpoints began again
-pub record LearnedSet (So : Spec → Type 0) (t : Target) (value : ℕ) (x : Spot) (s v : State) : Type 0 where
+pub record LearnedSet (So : Spec → Type 0) (t : Target) (value : ℕ) (x : Location) (s v : State) : Type 0 where
   pub spec : v.spec ≡ s.spec
   pub address : address_of v ≡ address_of s
   pub so : is_at s t ≡ true → So s.spec × (v.registers.configuration ≡ value) × IsFresh v

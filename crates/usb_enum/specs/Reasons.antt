@@ -33,7 +33,7 @@ use Rattle.usb_enum.specs.declared.stop.Stop.{Stop}
 use Rattle.usb_enum.specs.declared.stop.Stop.TheVariants.{Refused, Fault}
 use Rattle.usb_enum.specs.Device.{LAST_TIER, is_device, is_hub_device, needs_pre}
 use Rattle.usb_enum.specs.LastRequests.{Leads}
-use Rattle.usb_enum.specs.Stop.{FaultTold, StopToldIn, ToldOfDevice, fault_at_port}
+use Rattle.usb_enum.specs.Stop.{FaultAllowed, CauseAllowedIn, CauseAllowedOfDevice, fault_at_port}
 use Rattle.usb_enum.specs.Text.{any_has_value, choice_of, config_text_of}
 
 -- The last request to a device
@@ -113,9 +113,9 @@ Because t old new cause.Lost = ⊥
 Because t old new cause.NoAddress = ⊥
 
 -- so it is at a stop
-abbrev pub StopTold : Target → Stop → World → World → Type 0
-StopTold t (Refused why) old new = Because t old new why
-StopTold t (Fault why) old new = FaultTold why new
+abbrev pub CauseAllowed : Target → Stop → World → World → Type 0
+CauseAllowed t (Refused why) old new = Because t old new why
+CauseAllowed t (Fault why) old new = FaultAllowed why new
 
 -- Why a hub is bad
 
@@ -127,16 +127,16 @@ pub data HubFails (t : Target) (old new : World) : Type 0 where
   no_power : (port : ℕ) → EndsFailing t (λ setup. setup ≡ set_port_feature PORT_POWER port) pipe.Stalled old new → HubFails t old new
 
 -- so it is of a hub that is asked, or one that is started with a configuration text, which may have no endpoint for its changes
-abbrev pub ToldOfHub : Target → Stop → World → World → Type 0
-ToldOfHub t (Refused why) old new = (why ≡ cause.BadHub × HubFails t old new) ⊎ Because t old new why
-ToldOfHub t (Fault why) old new = FaultTold why new
+abbrev pub CauseAllowedOfHub : Target → Stop → World → World → Type 0
+CauseAllowedOfHub t (Refused why) old new = (why ≡ cause.BadHub × HubFails t old new) ⊎ Because t old new why
+CauseAllowedOfHub t (Fault why) old new = FaultAllowed why new
 
 abbrev pub CannotStart : Target → List ℕ → World → World → Type 0
 CannotStart t text old new = (status_endpoint_of text ≡ None × new ≡ old) ⊎ HubFails t old new
 
-abbrev pub ToldAtStart : Target → List ℕ → Stop → World → World → Type 0
-ToldAtStart t text (Refused why) old new = (why ≡ cause.BadHub × CannotStart t text old new) ⊎ Because t old new why
-ToldAtStart t text (Fault why) old new = FaultTold why new
+abbrev pub CauseAllowedAtStart : Target → List ℕ → Stop → World → World → Type 0
+CauseAllowedAtStart t text (Refused why) old new = (why ≡ cause.BadHub × CannotStart t text old new) ⊎ Because t old new why
+CauseAllowedAtStart t text (Fault why) old new = FaultAllowed why new
 
 -- Why a device of this device descriptor is refused
 
@@ -167,10 +167,10 @@ pub data RefusedAs (t : Target) (bytes : List ℕ) (tier supply : ℕ) (old new 
 -- so it is at a stop, which fits the tier
 abbrev pub StoppedAs : Target → List ℕ → ℕ → ℕ → Stop → World → World → Type 0
 StoppedAs t bytes tier supply (Refused why) old new = RefusedAs t bytes tier supply old new why
-StoppedAs t bytes tier supply (Fault why) old new = FaultTold why new
+StoppedAs t bytes tier supply (Fault why) old new = FaultAllowed why new
 
 pub record StopsDevice (t : Target) (bytes : List ℕ) (tier supply : ℕ) (old new : World) (stop : Stop) : Type 0 where
-  pub fits : ToldOfDevice tier stop new
+  pub fits : CauseAllowedOfDevice tier stop new
   pub because : StoppedAs t bytes tier supply stop old new
 
 -- At a port
@@ -207,9 +207,9 @@ pub data RefusedEarly (port : HubPort) (address : ℕ) (old new : World) : Cause
   answered : {why : Cause} (t : Target) → IsSpokenTo port address t → Because t old new why → RefusedEarly port address old new why
   not_enabled : NotEnabled port old new → RefusedEarly port address old new cause.Lost
 
-abbrev pub StopToldAt : HubPort → ℕ → Stop → World → World → Type 0
-StopToldAt port address (Refused why) old new = RefusedEarly port address old new why
-StopToldAt port address (Fault why) old new = FaultBy port why old new
+abbrev pub CauseAllowedAt : HubPort → ℕ → Stop → World → World → Type 0
+CauseAllowedAt port address (Refused why) old new = RefusedEarly port address old new why
+CauseAllowedAt port address (Fault why) old new = FaultBy port why old new
 
 -- a pass ended with the device descriptor, or with no answer
 pub record NoAnswerTold (port : HubPort) (address : ℕ) (old new : World) : Type 0 where
@@ -235,12 +235,12 @@ StoppedFor port address tier supply (Refused why) old new = RefusedFor port addr
 StoppedFor port address tier supply (Fault why) old new = FaultBy port why old new
 
 pub record StopsAtPort (port : HubPort) (address tier supply : ℕ) (old new : World) (stop : Stop) : Type 0 where
-  pub fits : StopToldIn port tier stop new
+  pub fits : CauseAllowedIn port tier stop new
   pub because : StoppedFor port address tier supply stop old new
 
 -- where no address was free
 abbrev pub StoppedWithout : HubPort → Stop → World → World → Type 0
-StoppedWithout port stop old new = (stop ≡ Refused cause.NoAddress) ⊎ StopToldAt port 0 stop old new
+StoppedWithout port stop old new = (stop ≡ Refused cause.NoAddress) ⊎ CauseAllowedAt port 0 stop old new
 
 -- Of a whole enumeration
 

@@ -16,7 +16,7 @@ use Rattle.usb_enum.specs.declared.stop.Stop.{Stop}
 use Rattle.usb_enum.specs.declared.stop.Stop.TheVariants.{Refused, Fault}
 use Rattle.usb_enum.specs.Verdicts.{gives_hub, is_good_hub, texts_below, first_fault, verdict}
 use Rattle.usb_enum.specs.Device.{is_device, is_hub_device, LAST_TIER}
-use Rattle.usb_enum.specs.LearnedFacts.{Explains}
+use Rattle.usb_enum.specs.LearnedFacts.{FailureReason}
 use Rattle.usb_enum.specs.Losses.{NoNewStretch}
 use Rattle.usb_enum.specs.PresentDevices.{AnswersSo, HasDescriptor, HasHead}
 use Rattle.usb_enum.specs.Readings.{AtMaximum}
@@ -120,7 +120,7 @@ pub record FindsHead (t : Target) (old new : World) (max : ℕ) : Type 0 where
 
 -- none was answered, as it is by each responsive device
 pub record NoDescriptor (t : Target) (old new : World) : Type 0 where
-  pub why : Explains (λ spec. IsResponsive t spec → ⊥) t old new
+  pub why : FailureReason (λ spec. IsResponsive t spec → ⊥) t old new
   pub goes : new.fault ≡ None → NoNewStretch old new
 
 -- its bytes, or none
@@ -130,7 +130,7 @@ FindsDescriptor t old new None = NoDescriptor t old new
 
 -- whoever is refused for it answered, and it is bad or not given
 pub record RefusesDescriptor (t : Target) (stop : Stop) (old new : World) : Type 0 where
-  pub why : Explains (Refuses t (device_fault t.low) stop) t old new
+  pub why : FailureReason (Refuses t (device_fault t.low) stop) t old new
   pub who : (cause : Cause) → stop ≡ Refused cause → IsClaimed t.addr old
 
 -- Of the ports of a hub

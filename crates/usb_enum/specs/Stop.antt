@@ -45,16 +45,16 @@ CanFail (Root number) = ⊥
 CanFail (External hub port) = ⊤
 
 -- the bus tells its fault, and a parent is lost where it can fail
-abbrev pub FaultAt : HubPort → EnumFault → World → Type 0
-FaultAt port fault.ParentLost w = CanFail port
-FaultAt port (fault.Bus f) w = Failed f w
-FaultAt port fault.Memory w = ⊤
+abbrev pub FaultAllowedAt : HubPort → EnumFault → World → Type 0
+FaultAllowedAt port fault.ParentLost w = CanFail port
+FaultAllowedAt port (fault.Bus f) w = Failed f w
+FaultAllowedAt port fault.Memory w = ⊤
 
 -- the same where no port is asked
-abbrev pub FaultTold : EnumFault → World → Type 0
-FaultTold fault.ParentLost w = ⊥
-FaultTold (fault.Bus f) w = Failed f w
-FaultTold fault.Memory w = ⊤
+abbrev pub FaultAllowed : EnumFault → World → Type 0
+FaultAllowed fault.ParentLost w = ⊥
+FaultAllowed (fault.Bus f) w = Failed f w
+FaultAllowed fault.Memory w = ⊤
 
 -- a hub is too deep in the last tier, and bad in those above alone; there was an address
 abbrev pub FitsTier : ℕ → Cause → Type 0
@@ -105,17 +105,17 @@ FitsStop tier (Fault f) = ⊤
 -- a stop that is no refusal is told by the bus
 abbrev pub StopFaults : Stop → World → Type 0
 StopFaults (Refused why) w = ⊤
-StopFaults (Fault f) w = FaultTold f w
+StopFaults (Fault f) w = FaultAllowed f w
 
-abbrev pub ToldOfDevice : ℕ → Stop → World → Type 0
-ToldOfDevice tier (Refused cause) w = FitsTier tier cause
-ToldOfDevice tier (Fault f) w = FaultTold f w
+abbrev pub CauseAllowedOfDevice : ℕ → Stop → World → Type 0
+CauseAllowedOfDevice tier (Refused cause) w = FitsTier tier cause
+CauseAllowedOfDevice tier (Fault f) w = FaultAllowed f w
 
-abbrev pub StopToldIn : HubPort → ℕ → Stop → World → Type 0
-StopToldIn port tier (Refused cause) w = FitsTier tier cause
-StopToldIn port tier (Fault f) w = FaultAt port f w
+abbrev pub CauseAllowedIn : HubPort → ℕ → Stop → World → Type 0
+CauseAllowedIn port tier (Refused cause) w = FitsTier tier cause
+CauseAllowedIn port tier (Fault f) w = FaultAllowedAt port f w
 
 -- where no address was free
-abbrev pub StopToldWithout : HubPort → Stop → World → Type 0
-StopToldWithout port (Refused why) w = (why ≡ cause.NoAddress) ⊎ IsPlain why
-StopToldWithout port (Fault f) w = FaultAt port f w
+abbrev pub CauseAllowedWithout : HubPort → Stop → World → Type 0
+CauseAllowedWithout port (Refused why) w = (why ≡ cause.NoAddress) ⊎ IsPlain why
+CauseAllowedWithout port (Fault f) w = FaultAllowedAt port f w

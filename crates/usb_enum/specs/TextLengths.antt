@@ -4,7 +4,7 @@ use Rattle.usb_device.specs.Spec.{Spec}
 use Rattle.usb_device.specs.Rows.{State}
 use Rattle.usb_device.specs.SaidLengths.{said_lengths}
 use Rattle.usb_device.specs.Transfer.{max_packet}
-use Rattle.usb_device.specs.Tree.{Spot, reach_on, state_on}
+use Rattle.usb_device.specs.Tree.{Location, reach_on, state_on}
 use Rattle.usb_world.specs.declared.event.Action.{Action}
 use Rattle.usb_world.specs.declared.event.Action.TheVariants.{Change, Ask}
 use Rattle.usb_world.specs.declared.event.Change.TheVariants.{Plug, Unplug}
@@ -15,13 +15,13 @@ use Rattle.usb_world.specs.World.{World}
 use Rattle.usb_transaction.specs.declared.target.Target.{Target}
 use Rattle.usb_transaction.specs.Answerer.{HadOne}
 use Rattle.usb_transaction.specs.Leaves.{is_at}
-use Rattle.usb_address.specs.Claims.{Claims}
-use Rattle.usb_address.specs.Ownership.{Enumerating, TillFault}
+use Rattle.usb_address.specs.Claims.{AddressMap}
+use Rattle.usb_address.specs.Ownership.{Enumerating, WhileBusWorks}
 use Rattle.usb_hub.specs.declared.port.HubPort.{HubPort}
 use Rattle.usb_enum.specs.declared.stop.Stop.{Stop}
 use Rattle.usb_enum.specs.Addresses.{IsSpare}
 use Rattle.usb_enum.specs.Bounds.{text_bound, examined_by}
-use Rattle.usb_enum.specs.LearnedFacts.{Learns}
+use Rattle.usb_enum.specs.LearnedFacts.{DeviceFact}
 use Rattle.usb_enum.specs.PresentDevices.{IsRegular}
 use Rattle.usb_enum.specs.Readings.{AtMaximum, HasTotal}
 
@@ -57,11 +57,11 @@ pub record HasPlanWithin (most : ℕ) (w : World) : Type 0 where
 
 -- each reachable device that has it is so
 abbrev pub EachAt : (Spec → Type 0) → Target → World → Type 0
-EachAt So t w = (x : Spot) (s : State) → reach_on w.roots x ≡ true → state_on w.roots x ≡ Some s → is_at s t ≡ true → So s.spec
+EachAt So t w = (x : Location) (s : State) → reach_on w.roots x ≡ true → state_on w.roots x ≡ Some s → is_at s t ≡ true → So s.spec
 
 -- some reachable device has it, and is so
 pub record SomeAt (So : Spec → Type 0) (t : Target) (w : World) : Type 0 where
-  pub spot : Spot
+  pub spot : Location
   pub state : State
   pub on : reach_on w.roots spot ≡ true
   pub stands : state_on w.roots spot ≡ Some state
@@ -79,7 +79,7 @@ pub record ReadsText (t : Target) (index : ℕ) (old : World) (result : Result (
   pub total : ℕ
   pub count : new.attempts ≤ old.attempts + (text_bound + 100 * total)
   pub said : (total ≡ 0) ⊎ (new.shared ≡ false → SomeAt (AtMaximum t (HasTotal index total)) t old)
-  pub read : OnOk result (Learns (AtMaximum t (HasTotal index total)) t old new × IsAnswered t new)
+  pub read : OnOk result (DeviceFact (AtMaximum t (HasTotal index total)) t old new × IsAnswered t new)
 
 -- where no address was ever held twice, and the texts of whoever has the target's address say so little, so few attempts were made
 pub record FewFor (bound : ℕ → ℕ) (t : Target) (old new : World) : Type 0 where
@@ -87,5 +87,5 @@ pub record FewFor (bound : ℕ → ℕ) (t : Target) (old new : World) : Type 0 
 
 -- where nothing is claimed at the port, and the address is spare, so few attempts were made, by what the plan's devices say
 pub record FewFrom (port : HubPort) (address : ℕ) (old new : World) : Type 0 where
-  pub few : (f : Claims) (p : List ℕ) → IsSpare f port p address → TillFault (Enumerating f p address) old → IsRegular old
+  pub few : (f : AddressMap) (p : List ℕ) → IsSpare f port p address → WhileBusWorks (Enumerating f p address) old → IsRegular old
       → (most : ℕ) → (old.fault ≡ None → HasPlanWithin most old) → new.attempts ≤ old.attempts + examined_by port most

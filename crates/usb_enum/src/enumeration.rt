@@ -1,15 +1,15 @@
 //! The whole enumeration.
 ghost use Rattle.std.specs.Prelude.{◌≡◌, IfOk, IfErr, MatchResult, true};
-ghost use Rattle.usb_bus.specs.Traces.{Went};
+ghost use Rattle.usb_bus.specs.Traces.{Steps};
 ghost use Rattle.usb_hub.specs.Port.{IsAsked, order_bound};
 ghost use Rattle.usb_enum.specs.Addresses.{AtPort};
 ghost use Rattle.usb_enum.specs.Bounds.{unaddressed_bound, examination_bound, enumeration_bound, configured_bound, configured_by, hub_bound};
 ghost use Rattle.usb_enum.specs.Device.{HasFacts, fits_tier, is_hub_device};
 ghost use Rattle.usb_enum.specs.Findings.{Enumerates, GivenUp, HandsOn, IsAccepted, IsFound, IsListed, IsWhole, TakesFor};
 ghost use Rattle.usb_enum.specs.Frames.{OnlySets, OnlyTells};
-ghost use Rattle.usb_enum.specs.Parts.{Part, Steps, StopsConfiguring, StopsExamining, StopsStart, StopsWithout};
+ghost use Rattle.usb_enum.specs.Parts.{Part, KeepingSteps, StopsConfiguring, StopsExamining, StopsStart, StopsWithout};
 ghost use Rattle.usb_enum.specs.PresentDevices.{LearnsPorts};
-ghost use Rattle.usb_enum.specs.Stop.{FaultAt, FitsStop, IsHubStop, IsStopWithout};
+ghost use Rattle.usb_enum.specs.Stop.{FaultAllowedAt, FitsStop, IsHubStop, IsStopWithout};
 ghost use Rattle.usb_enum.specs.TextLengths.{FewFor, FewFrom};
 
 use crate::addressed::Addressed;
@@ -53,10 +53,10 @@ pub fn enumerate<B: Bus>(
     supply: u16,
 ) -> Result<Finding, EnumFault>
     requires port { IsAsked B.modelled (B.world bus.old) port }
-    ensures went { B.modelled ≡ true
-        → Went B.world B.trace (enumeration_bound port) bus.old bus.new }
+    ensures steps { B.modelled ≡ true
+        → Steps B.world B.trace (enumeration_bound port) bus.old bus.new }
     ensures told { B.modelled ≡ true
-        → IfErr result (λ fault. FaultAt port fault (B.world bus.new)) }
+        → IfErr result (λ fault. FaultAllowedAt port fault (B.world bus.new)) }
     ensures pool { TakesFor result pool.old pool.new }
     ensures found { IfOk result (IsFound pool.old tier supply) }
     ensures ends { B.modelled ≡ true
@@ -80,7 +80,7 @@ pub fn enumerate<B: Bus>(
 fn without_address<B: Bus>(alloc: Global, bus: &mut B, port: HubPort) -> Stop
     requires { IsAsked B.modelled (B.world bus.old) port }
     ensures without { IsStopWithout result }
-    ensures steps { B.modelled ≡ true → Steps (AtPort port 0) (unaddressed_bound port)
+    ensures steps { B.modelled ≡ true → KeepingSteps (AtPort port 0) (unaddressed_bound port)
         (B.world bus.old) (B.trace bus.old) (B.world bus.new) (B.trace bus.new) }
     ensures stops { B.modelled ≡ true
         → StopsWithout port (B.world bus.old) (B.world bus.new) result }
@@ -95,7 +95,7 @@ fn without_address<B: Bus>(alloc: Global, bus: &mut B, port: HubPort) -> Stop
 fn give_up<B: Bus>(bus: &mut B, port: HubPort, stop: Stop) -> Result<Finding, EnumFault>
     requires { IsAsked B.modelled (B.world bus.old) port }
     ensures hands { HandsOn stop result }
-    ensures went { B.modelled ≡ true → Went B.world B.trace (order_bound port) bus.old bus.new }
+    ensures steps { B.modelled ≡ true → Steps B.world B.trace (order_bound port) bus.old bus.new }
     ensures left { B.modelled ≡ true
         → GivenUp port stop (B.world bus.old) result (B.world bus.new) }
 {

@@ -5,7 +5,7 @@ ghost use Rattle.usb_port.specs.Path.{IsPortNumber};
 ghost use Rattle.usb_transaction.specs.Transactions.{IsTarget};
 ghost use Rattle.usb_pipe.specs.Control.{write_bound};
 ghost use Rattle.usb_enum.specs.Bounds.{read_bound, hub_bound};
-ghost use Rattle.usb_enum.specs.LearnedFacts.{Learns};
+ghost use Rattle.usb_enum.specs.LearnedFacts.{DeviceFact};
 ghost use Rattle.usb_enum.specs.Parts.{Answered, Both, Part, Read, StopsHub, StopsPower, StopsStart};
 ghost use Rattle.usb_enum.specs.Readings.{Ruled, HasPorts, HasSupply, IsGoodHub};
 ghost use Rattle.usb_enum.specs.Device.{CanServe};
@@ -77,7 +77,7 @@ fn port_supply<B: Bus>(alloc: Global, bus: &mut B, target: Target) -> Result<u16
     requires max { 8 ≤ target.max }
     ensures said { MatchResult result (λ supply. (supply ≡ 500) ⊎ (supply ≡ 100)) IsHubStop }
     ensures read { B.modelled ≡ true → Read B.world B.trace (read_bound 2)
-        (Both (SupplyTold target) (λ old new supply. Learns (HasSupply supply) target old new))
+        (Both (SupplyTold target) (λ old new supply. DeviceFact (HasSupply supply) target old new))
         (StopsHub target) bus.old result bus.new }
 {
     let status = answered_or(Cause::BadHub, get_status(alloc, bus, target))?;

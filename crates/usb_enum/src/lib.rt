@@ -17,7 +17,7 @@
 //!   what it gives or why it stops (`Part`, and `Read` of one that reads a device, `specs/Parts.antt`).
 //! - Each call that reads says of the device that answered what its description has: the head of its device descriptor,
 //!   all of it, the total length and the text of each configuration, that no configuration before is bad, each string
-//!   or that there is none, the ports and the supply of a hub (`Learns`, `usb_enum/specs/LearnedFacts.antt`,
+//!   or that there is none, the ports and the supply of a hub (`DeviceFact`, `usb_enum/specs/LearnedFacts.antt`,
 //!   `Readings.antt`): where no address was ever held twice, of each device that is reachable after the call, whatever
 //!   was damaged. Each device keeps its description, its address and its configuration.
 //! - Of the device at the port, where one is reachable there in the end: after the reset it has the speed that was
@@ -28,7 +28,7 @@
 //!   every course of a plan keeps), the device at the port, where it is reachable in the end, is as it is listed:
 //!   `verdict` of its description, at this tier and supply, is the configuration that was chosen, its speed,
 //!   descriptor, configurations, strings and hub facts are the description's, and it holds the address and the
-//!   configuration that are listed (`IsTruthful`, `usb_enum/specs/Findings.antt`). No premise on damage, plugs or
+//!   configuration that are listed (`FindingIsTrue`, `usb_enum/specs/Findings.antt`). No premise on damage, plugs or
 //!   losses. Its endpoints but for 0 begin again.
 //! - What it asks is asked of this port alone, and of those below it: nothing is asked of any other port, a change of
 //!   connection that is pending at the port stays so, and each device elsewhere stays as it was (`OnlyAt`,
@@ -36,11 +36,11 @@
 //! - At an *occupied* port (a change of connection is pending there, or it is powered on its whole way and a device
 //!   stands there) of a world whose ports are sane, what is found is there in the end, as long as the bus is at work:
 //!   an accepted device is reached, a refused one stands behind a disabled port, the ports of an accepted hub are
-//!   powered and nothing is known at them, or a change is pending (`Places`, `specs/Findings.antt`, `Places.antt`).
+//!   powered and nothing is known at them, or a change is pending (`FindingStands`, `specs/Findings.antt`, `Places.antt`).
 //! - Where no three attempts running are damaged, no address is lost three times, and the port's hub serves it or a
 //!   change is pending there (`IsFair`): a refusal has its cause, the first of the twelve rows that holds, or there is
-//!   no address left; and the parent is lost only where a change is pending there (`Warrants`). Each read says so of
-//!   what it refuses for (`Explains`, `specs/LearnedFacts.antt`, `Refusals.antt`), each pass of the address that was
+//!   no address left; and the parent is lost only where a change is pending there (`JustifiesRefusal`). Each read says so of
+//!   what it refuses for (`FailureReason`, `specs/LearnedFacts.antt`, `Refusals.antt`), each pass of the address that was
 //!   missed (`Misses`, `specs/FairEnumerations.antt`).
 //! - The strings of an accepted device are the last that it was asked for: string 0 in language 0, and each string that
 //!   its descriptor names in the first language that string 0 lists (`AsksStrings`, `specs/StringRequests.antt`).
@@ -52,7 +52,7 @@
 //!   the answer is, also where the bus gives up: where no device that the plan plugs has configuration texts whose
 //!   heads say more than `most` bytes together, each reachable device holds the address that its path claims, nothing
 //!   is claimed at the port, only addresses that are taken are claimed, and its hub's maximum packet is 8 or more
-//!   (`MakesFew`, `specs/Findings.antt`; `specs/TextLengths.antt`).
+//!   (`FewAttempts`, `specs/Findings.antt`; `specs/TextLengths.antt`).
 #![tactic(auto)]
 
 mod addressed;

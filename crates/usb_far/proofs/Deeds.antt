@@ -21,14 +21,14 @@ use Rattle.usb_wire.specs.declared.question.Question.TheVariants.{Hello}
 use Rattle.usb_far.specs.declared.fault.FarFault.TheVariants.{LongSend}
 use Rattle.usb_far.specs.FarEnd.{Far, IsDone, Played, SendsTooMuch, attempt_done, call_done, came_in, done, due_answer, hello_done, is_poll, outcome_answer, wait_done}
 
-pub attempt_made : (a : Attempt) (old new : Played) (o : Outcome) (answer : Answer) (poll came : Bool) (before now : ℕ)
+pub played_attempt : (a : Attempt) (old new : Played) (o : Outcome) (answer : Answer) (poll came : Bool) (before now : ℕ)
     → Attempts a old.far.world old.trace.bytes (Ok o) new.far.world new.trace.bytes
     → answer ≡ outcome_answer o → poll ≡ is_poll a.kind o
     → before ≡ old.far.world.taken → now ≡ new.far.world.taken → came ≡ came_in poll old.far.came before now
     → new.far ≡ record old.far { world = new.far.world; came = came }
     → IsDone (attempt_done a old.far) old answer new
 unfolding attempt_done
-attempt_made a old new o answer poll came before now made told polled then later is far =
+played_attempt a old new o answer poll came before now made told polled then later is far =
     let f = old.far in
     let world : new.far.world ≡ after (attempt a) f.world = made.exact in
     let heard : o ≡ outcome_in a f.world = made.outcome in
@@ -60,16 +60,16 @@ event_due : (f : Far) → f.came ≡ false
 unfolding wait_done
 event_due f came = rw came refl
 
-still_sound : (w v : World) (due : Option (Option Ask)) → EventEnds w (Ok due) v → v.fault ≡ None
-still_sound w v None ends = ap (λ u. u.fault) ends.same ∙ ends.sound
-still_sound w v (Some due) ends = ends.still
+event_ends-no_fault : (w v : World) (due : Option (Option Ask)) → EventEnds w (Ok due) v → v.fault ≡ None
+event_ends-no_fault w v None ends = ap (λ u. u.fault) ends.same ∙ ends.sound
+event_ends-no_fault w v (Some due) ends = ends.still
 
 pub event_wanted : (old new : Played) (due : Option (Option Ask)) (answer : Answer) → old.far.came ≡ false
     → TakesEvent old.far.world old.trace.bytes (Ok due) new.far.world new.trace.bytes
     → due_answer due ≡ Some answer → new.far ≡ record old.far { world = new.far.world } → IsDone (wait_done old.far) old answer new
 event_wanted old new due answer came takes told far = subst (λ d. IsDone d old answer new) (sym (event_due old.far came)) (record {
   answered = sym (ap due_answer takes.asked) ∙ told;
-  made = λ _. sym (ap (λ v. v.fault) takes.exact) ∙ still_sound old.far.world new.far.world due takes.took.ends;
+  made = λ _. sym (ap (λ v. v.fault) takes.exact) ∙ event_ends-no_fault old.far.world new.far.world due takes.took.ends;
   far = far ∙ ap₂ (λ v b. record old.far { world = v; came = b }) takes.exact came;
   traced = subst (λ v. Appends old.trace.bytes new.trace.bytes (lines_between old.far.world v)) takes.exact takes.text;
 })
@@ -80,7 +80,7 @@ pub too_much_wanted : (old new : Played) (due : Option (Option Ask)) → old.far
 too_much_wanted old new due came takes told far =
     let is = event_due old.far came in record {
       is = refl;
-      made = λ _. ap (λ d. d.world.fault) is ∙ sym (ap (λ v. v.fault) takes.exact) ∙ still_sound old.far.world new.far.world due takes.took.ends;
+      made = λ _. ap (λ d. d.world.fault) is ∙ sym (ap (λ v. v.fault) takes.exact) ∙ event_ends-no_fault old.far.world new.far.world due takes.took.ends;
       none = ap (λ d. d.answer) is ∙ sym (ap due_answer takes.asked) ∙ told;
       far = far ∙ ap (λ v. record old.far { world = v }) (takes.exact ∙ sym (ap (λ d. d.world) is));
       traced = subst (λ t. Appends old.trace.bytes new.trace.bytes t) (sym (ap (λ d. d.traced) is))

@@ -201,8 +201,8 @@ long_front played before mid behind writer front rest more full one last read en
   writer = refl;
 }
 
-goes_on : (phase : Phase) (front rest : List ℕ) (more : ℕ) → length front ≡ 1024 → is_told phase front ≡ true → MayGoOn phase ((front ++ more ∷ []) ++ rest)
-goes_on phase front rest more full told other =
+may_go_on_longer : (phase : Phase) (front rest : List ℕ) (more : ℕ) → length front ≡ 1024 → is_told phase front ≡ true → MayGoOn phase ((front ++ more ∷ []) ++ rest)
+may_go_on_longer phase front rest more full told other =
     absurd (false≢true (sym other ∙ ap (is_told phase) (first_of_long front rest more full) ∙ told))
 
 pub not_skipped : (played : Played) (before mid behind writer : Pipe) (front : List ℕ) (more : ℕ) (e : LineFault) (f : FarFault) → f ≡ reading_fault e
@@ -213,12 +213,12 @@ pub not_skipped : (played : Played) (before mid behind writer : Pipe) (front : L
 not_skipped played before mid behind writer front more Read f is full one read on told rest failed still =
     subst (CauseOf (in_scene played before writer) (in_scene played behind writer)) (sym is)
     (CauseOf.unread ((front ++ more ∷ []) ++ rest.bytes) (long_front played before mid behind writer front rest.bytes more full one rest.unbroken read rest.read)
-    (goes_on played.far.phase front rest.bytes more full told) (failed refl))
+    (may_go_on_longer played.far.phase front rest.bytes more full told) (failed refl))
 not_skipped played before mid behind writer front more Cut f is full one read on told rest failed still =
     subst (CauseOf (in_scene played before writer) (in_scene played behind writer)) (sym is)
     (CauseOf.cut_off ((front ++ more ∷ []) ++ rest.bytes) (λ none. not_nil (front ++ more ∷ []) rest.bytes (omega (arith, length-append front (more ∷ []))) none)
     (long_front played before mid behind writer front rest.bytes more full one rest.unbroken read rest.read)
-    (goes_on played.far.phase front rest.bytes more full told) (still (λ (same : Cut ≡ Read). cc) ∙ on)
+    (may_go_on_longer played.far.phase front rest.bytes more full told) (still (λ (same : Cut ≡ Read). cc) ∙ on)
     (elim rest.ended [
       | inl ended ↦ inl ended
       | inr many ↦ inr (omega (arith, many, length-append (front ++ more ∷ []) rest.bytes, length-append front (more ∷ [])))
@@ -226,8 +226,8 @@ not_skipped played before mid behind writer front more Cut f is full one read on
 
 -- ---- line after line
 
-pub begun : (s : Scene) → ServedSome s 0 s
-begun s = record {
+pub served_none : (s : Scene) → ServedSome s 0 s
+served_none s = record {
   passed = passed [] [] [];
   replies = AllReplied.none;
   passes = record {

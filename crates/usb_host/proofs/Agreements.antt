@@ -10,7 +10,7 @@ use Rattle.std.specs.declared.cmp.Ordering.TheVariants.{Less, Equal, Greater}
 use Rattle.std.proofs.lemmas.Map.Entries.{lookup-filter-keys}
 use Rattle.usb_port.specs.Order.{path_cmp, is_below, parent_of, port_on_hub}
 use Rattle.usb_port.specs.Path.{IsPath}
-use Rattle.usb_port.proofs.Interface.{below, rejoined}
+use Rattle.usb_port.proofs.Interface.{is_below-extension, rejoined}
 use Rattle.usb_enum.specs.declared.finding.Finding.{Finding}
 use Rattle.usb_table.specs.Entries.{Entries, has_at, is_at_or_below, without}
 use Rattle.usb_table.specs.declared.known.KnownPort.{KnownPort}
@@ -22,7 +22,7 @@ use Rattle.usb_host.specs.Agreement.{Nested}
 -- what goes on from a path's hub goes on from the path too
 under : (q hub path rest : List ℕ) → parent_of q ≡ Some hub → hub ≡ path ++ rest → is_below q path ≡ true
 under q hub path rest is on =
-    (below q path).1 (
+    (is_below-extension q path).1 (
       rest ++ port_on_hub q ∷ [],
       rejoined q hub is ∙ ap (λ l. l ++ port_on_hub q ∷ []) on ∙ append_assoc path rest (port_on_hub q ∷ []),
       omega (arith, length-append rest (port_on_hub q ∷ [])),
@@ -33,7 +33,7 @@ hub_away_by q hub path is away true on same is_on =
     let goes_on = under q hub path [] is (same_text hub path (sym same) ∙ sym (append-nil path)) in
     absurd (cc (goes_on, (neither (pointwise nat_eq q path) (is_below q path) away).1))
 hub_away_by q hub path is away false true same is_on =
-    let rest = (below hub path).0 is_on in
+    let rest = (is_below-extension hub path).0 is_on in
     let goes_on = under q hub path rest.0 is rest.1 in
     absurd (cc (goes_on, (neither (pointwise nat_eq q path) (is_below q path) away).1))
 hub_away_by q hub path is away false false same is_on = refl
@@ -63,13 +63,13 @@ nested_kept path es q f n false is found =
     let there = sym (lookup-without q path true es (ap not is)) ∙ found in
     rw (known_away q path es is) (n.each q f there)
 
-path_kept : (path : List ℕ) (es : Entries) (q : List ℕ) (f : Finding) → Nested es → (b : Bool) → is_at_or_below q path ≡ b → lookup (is_at (path_cmp q)) (without path es) ≡ Some f → IsPath q
-path_kept path es q f n true is found = absurd (cc (lookup-without q path false es (ap not is), found))
-path_kept path es q f n false is found = n.path q f (sym (lookup-without q path true es (ap not is)) ∙ found)
+nested_path-without : (path : List ℕ) (es : Entries) (q : List ℕ) (f : Finding) → Nested es → (b : Bool) → is_at_or_below q path ≡ b → lookup (is_at (path_cmp q)) (without path es) ≡ Some f → IsPath q
+nested_path-without path es q f n true is found = absurd (cc (lookup-without q path false es (ap not is), found))
+nested_path-without path es q f n false is found = n.path q f (sym (lookup-without q path true es (ap not is)) ∙ found)
 
 pub nested_without : (path : List ℕ) (es : Entries) → Nested es → Nested (without path es)
 nested_without path es n = record {
-  path = λ q f found. path_kept path es q f n (is_at_or_below q path) refl found;
+  path = λ q f found. nested_path-without path es q f n (is_at_or_below q path) refl found;
   each = λ q f found. nested_kept path es q f n (is_at_or_below q path) refl found;
 }
 
@@ -100,11 +100,11 @@ found_away q path f (e ∷ es) away found =
     found_away_by q path f e es (neither (is_at_or_below e.0 path) (has_at path es) away).0
     (found_away q path f es (neither (is_at_or_below e.0 path) (has_at path es) away).1) (is_at (path_cmp q) e.0) refl found
 
-apart_by : (hub path : List ℕ) → is_at_or_below hub path ≡ false → (b : Bool) → is_at (path_cmp hub) path ≡ b → b ≡ false
-apart_by hub path away true tie =
+is_at-outside : (hub path : List ℕ) → is_at_or_below hub path ≡ false → (b : Bool) → is_at (path_cmp hub) path ≡ b → b ≡ false
+is_at-outside hub path away true tie =
     let same : pointwise nat_eq hub path ≡ true = texts_ties hub path ∙ tie in
     absurd (cc (same, (neither (pointwise nat_eq hub path) (is_below hub path) away).0))
-apart_by hub path away false tie = refl
+is_at-outside hub path away false tie = refl
 
 -- a port of a hub that stands elsewhere is known as before
 known_entered_by : (q path : List ℕ) (f : Finding) (es : Entries) → ((hub : List ℕ) → parent_of q ≡ Some hub → is_at (path_cmp hub) path ≡ false) → (hub : Option (List ℕ)) → parent_of q ≡ hub
@@ -131,7 +131,7 @@ entered_step path f es q g away known n true tie found =
 entered_step path f es q g away known n false tie found =
     let there = sym (lookup-insert_entry_elsewhere q path f es tie) ∙ found in
     let apart = found_away q path g es away there in
-    rw (known_entered q path f es (λ hub is. apart_by hub path (hub_away q hub path is apart) (is_at (path_cmp hub) path) refl)) (n.each q g there)
+    rw (known_entered q path f es (λ hub is. is_at-outside hub path (hub_away q hub path is apart) (is_at (path_cmp hub) path) refl)) (n.each q g there)
 
 path_entered : (path : List ℕ) (f : Finding) (es : Entries) (q : List ℕ) (g : Finding) → IsPath path → Nested es → (b : Bool) → is_at (path_cmp q) path ≡ b → lookup (is_at (path_cmp q)) (insert_entry path_cmp es path f) ≡ Some g → IsPath q
 path_entered path f es q g is n true tie found = subst IsPath (sym (path_tied q path tie)) is

@@ -10,7 +10,7 @@ use Rattle.usb_device.specs.Rows.{State}
 use Rattle.usb_device.specs.Tree.{Ports, Place, empty, full, port_of, called, place}
 use Rattle.usb_device.specs.View.{port_there}
 use Rattle.usb_world.specs.PlanCourses.{AtPorts}
-use Rattle.usb_world.specs.SanePorts.{IsSane, IsSanePlace}
+use Rattle.usb_world.specs.SanePorts.{Consistent, ConsistentPlace}
 use Rattle.usb_world.specs.Steps.{after}
 use Rattle.usb_world.specs.World.{World}
 use Rattle.usb_world.proofs.Interface.{both, course_then, stands}
@@ -19,7 +19,7 @@ use Rattle.usb_backlog.specs.Marks.{KeepsAll, KeepsBy, KeepsCall, KeepsFound, on
 use Rattle.usb_backlog.specs.PortSettings.{gives_power}
 use Rattle.usb_backlog.specs.Units.{KeepsPlain, PaysBare, PaysLook, PaysStray}
 use Rattle.usb_backlog.proofs.Interface.{ClearedAt, all_then, bare_pays, cleared_at, few-changed, few-none, few-only, found_all, found_pays, found_then, tidied_pays}
-use Rattle.usb_hub.specs.Moments.{PortDone, PortTold}
+use Rattle.usb_hub.specs.Moments.{PortCallDone, PortStatusAt}
 use Rattle.usb_hub.proofs.Interface.{port_of_place, sane_there, state_of_place}
 use Rattle.usb_enum.specs.PresentDevices.{IsOrderly}
 use Rattle.usb_enum.proofs.Interface.{orderly_on}
@@ -41,7 +41,7 @@ shows_connection None b e = absurd (cc e)
 shows_connection (Some (empty x)) b e = ap (λ (y : PortState). y.connection_changed) (sym (same_Some _ b e))
 shows_connection (Some (full x s a)) b e = ap (λ (y : PortState). y.connection_changed) (sym (same_Some _ b e))
 
-pub reset_done : (p : List ℕ) (old mid new : World) → KeepsAll old mid → PortDone p ClearResetChange mid new → ResetCleared p old new
+pub reset_done : (p : List ℕ) (old mid new : World) → KeepsAll old mid → PortCallDone p ClearResetChange mid new → ResetCleared p old new
 reset_done p old mid new first d = record {
   mid = after d.last d.before;
   acted = all_then first (call_all p ClearResetChange (λ g. absurd (cc g)) (λ g. absurd (cc g)) d.acted);
@@ -49,7 +49,7 @@ reset_done p old mid new first d = record {
   rested = d.rested;
 }
 
-pub connection_done : (p : List ℕ) (status : PortStatus) (old w v new : World) → PortDone p ClearConnectionChange old w → PortTold p status w v → KeepsAll v new → ChangeCleared p status old new
+pub connection_done : (p : List ℕ) (status : PortStatus) (old w v new : World) → PortCallDone p ClearConnectionChange old w → PortStatusAt p status w v → KeepsAll v new → ChangeCleared p status old new
 connection_done p status old w v new d t rest = record {
   mid = mid;
   acted = call_all p ClearConnectionChange (λ g. absurd (cc g)) (λ g. absurd (cc g)) d.acted;
@@ -67,10 +67,10 @@ connection_done p status old w v new d t rest = record {
     orderly_mid : IsOrderly old → IsOrderly mid
     orderly_mid was = orderly_on was (course_then d.last d.repeats d.acts)
 
-    sane_mid : IsOrderly old → IsSane mid.roots
+    sane_mid : IsOrderly old → Consistent mid.roots
     sane_mid was = (orderly_mid was).sane
 
-    sane_now : IsOrderly old → IsSane t.now.roots
+    sane_now : IsOrderly old → Consistent t.now.roots
     sane_now was = (orderly_on (orderly_on (orderly_mid was) (d.since p)) (t.before p)).sane
 
     attached : status.connected ≡ true → is_attached t.port.attached ≡ true
@@ -78,9 +78,9 @@ connection_done p status old w v new d t rest = record {
 
 -- What that pays
 
-pub place_of : (o : Option Place) (b : PortState) → option_map port_of o ≡ Some b → (q : Place) × (o ≡ Some q) × (port_of q ≡ b)
-place_of None b e = absurd (cc e)
-place_of (Some q) b e = (q, refl, same_Some (port_of q) b e)
+pub port_of-place : (o : Option Place) (b : PortState) → option_map port_of o ≡ Some b → (q : Place) × (o ≡ Some q) × (port_of q ≡ b)
+port_of-place None b e = absurd (cc e)
+port_of-place (Some q) b e = (q, refl, same_Some (port_of q) b e)
 
 pub full_of : (o : Option Place) → is_some (stands o) ≡ true → (b : PortState) × (s : State) × (a : Ports) × (o ≡ Some (full b s a))
 full_of None e = absurd (cc e)
@@ -88,21 +88,21 @@ full_of (Some (empty b)) e = absurd (cc e)
 full_of (Some (full b s a)) e = (b, s, a, refl)
 
 -- the place at which a status was told
-told_place : (p : List ℕ) (status : PortStatus) (old new : World) (t : PortTold p status old new) → (q : Place) × (place t.now.roots p ≡ Some q) × (port_of q ≡ t.port)
-told_place p status old new t = place_of (place t.now.roots p) t.port (sym (port_of_place t.now.roots p) ∙ t.stood)
+told_place : (p : List ℕ) (status : PortStatus) (old new : World) (t : PortStatusAt p status old new) → (q : Place) × (place t.now.roots p ≡ Some q) × (port_of q ≡ t.port)
+told_place p status old new t = port_of-place (place t.now.roots p) t.port (sym (port_of_place t.now.roots p) ∙ t.stood)
 
 -- no port tells of a change of its enable
-pub steady_place : (q : Place) → IsSanePlace q → (port_of q).enable_changed ≡ false
-unfolding IsSanePlace
+pub steady_place : (q : Place) → ConsistentPlace q → (port_of q).enable_changed ≡ false
+unfolding ConsistentPlace
 steady_place (empty b) h = h.0.steady
 steady_place (full b s a) h = h.0.steady
 
-pub told_steady : (p : List ℕ) (status : PortStatus) (old new : World) → PortTold p status old new → IsOrderly old → status.enable_changed ≡ false
+pub told_steady : (p : List ℕ) (status : PortStatus) (old new : World) → PortStatusAt p status old new → IsOrderly old → status.enable_changed ≡ false
 told_steady p status old new t was =
     let q : _ = told_place p status old new t in
     ap (λ (s : PortStatus). s.enable_changed) t.is ∙ ap (λ (b : PortState). b.enable_changed) (sym q.2) ∙ steady_place q.0 (sane_there t.now.roots p q.0 (orderly_on was (t.before p)).sane q.1)
 
-module _ (j : ℕ) (e : List ℕ) (status : PortStatus) (old mid : World) (ports : AtPorts old.left) (t : PortTold (suc j ∷ e) status old mid) where
+module _ (j : ℕ) (e : List ℕ) (status : PortStatus) (old mid : World) (ports : AtPorts old.left) (t : PortStatusAt (suc j ∷ e) status old mid) where
   abbrev p : List ℕ
   p = suc j ∷ e
 
@@ -158,29 +158,29 @@ module _ (j : ℕ) (e : List ℕ) (status : PortStatus) (old mid : World) (ports
 
 -- the same of a port by its path, which one that told has
 
-no_port : (p : List ℕ) (w : World) (b : PortState) {A : Type 0} → ((j : ℕ) (e : List ℕ) → p ≡ suc j ∷ e → A) → port_there w.roots p ≡ Some b → A
-no_port [] w b f there = absurd (cc there)
-no_port (zero ∷ e) w b f there = absurd (cc there)
-no_port (suc j ∷ e) w b f there = f j e refl
+port_there-not_empty : (p : List ℕ) (w : World) (b : PortState) {A : Type 0} → ((j : ℕ) (e : List ℕ) → p ≡ suc j ∷ e → A) → port_there w.roots p ≡ Some b → A
+port_there-not_empty [] w b f there = absurd (cc there)
+port_there-not_empty (zero ∷ e) w b f there = absurd (cc there)
+port_there-not_empty (suc j ∷ e) w b f there = f j e refl
 
-pub told_resets : (p : List ℕ) (status : PortStatus) (old mid new : World) → AtPorts old.left → PortTold p status old mid → status.reset_changed ≡ true → ResetCleared p mid new → PaysStray old new
+pub told_resets : (p : List ℕ) (status : PortStatus) (old mid new : World) → AtPorts old.left → PortStatusAt p status old mid → status.reset_changed ≡ true → ResetCleared p mid new → PaysStray old new
 told_resets p status old mid new ports t told x =
-    no_port p t.now t.port
-    (λ j e is. reset_pays j e status old mid ports (subst (λ q. PortTold q status old mid) is t) told new (subst (λ q. ResetCleared q mid new) is x)) t.stood
+    port_there-not_empty p t.now t.port
+    (λ j e is. reset_pays j e status old mid ports (subst (λ q. PortStatusAt q status old mid) is t) told new (subst (λ q. ResetCleared q mid new) is x)) t.stood
 
-pub told_looks : (p : List ℕ) (status : PortStatus) (old mid : World) → AtPorts old.left → PortTold p status old mid → status.connection_changed ≡ true → (second : PortStatus) (left : World) → ChangeCleared p second mid left → IsOrderly mid
+pub told_looks : (p : List ℕ) (status : PortStatus) (old mid : World) → AtPorts old.left → PortStatusAt p status old mid → status.connection_changed ≡ true → (second : PortStatus) (left : World) → ChangeCleared p second mid left → IsOrderly mid
     → second.connected ≡ true → (new : World) → KeepsFound p left new → PaysLook old new
 told_looks p status old mid ports t told second left x order on new found =
-    no_port p t.now t.port
-    (λ j e is. look_pays j e status old mid ports (subst (λ q. PortTold q status old mid) is t) told second left (subst (λ q. ChangeCleared q second mid left) is x) order on new (subst (λ q. KeepsFound q left new) is found)) t.stood
+    port_there-not_empty p t.now t.port
+    (λ j e is. look_pays j e status old mid ports (subst (λ q. PortStatusAt q status old mid) is t) told second left (subst (λ q. ChangeCleared q second mid left) is x) order on new (subst (λ q. KeepsFound q left new) is found)) t.stood
 
-pub told_bares : (p : List ℕ) (status : PortStatus) (old mid : World) → AtPorts old.left → PortTold p status old mid → status.connection_changed ≡ true → (second : PortStatus) (left : World) → ChangeCleared p second mid left → IsOrderly mid → PaysBare old left
-told_bares p status old mid ports t told second left x order =
-    no_port p t.now t.port
-    (λ j e is. none_pays j e status old mid ports (subst (λ q. PortTold q status old mid) is t) told second left (subst (λ q. ChangeCleared q second mid left) is x) order) t.stood
+pub told_pays_bare : (p : List ℕ) (status : PortStatus) (old mid : World) → AtPorts old.left → PortStatusAt p status old mid → status.connection_changed ≡ true → (second : PortStatus) (left : World) → ChangeCleared p second mid left → IsOrderly mid → PaysBare old left
+told_pays_bare p status old mid ports t told second left x order =
+    port_there-not_empty p t.now t.port
+    (λ j e is. none_pays j e status old mid ports (subst (λ q. PortStatusAt q status old mid) is t) told second left (subst (λ q. ChangeCleared q second mid left) is x) order) t.stood
 
 -- a status was told, and no more is left to do since
-pub told_keeps : (p : List ℕ) (status : PortStatus) (old mid new : World) → AtPorts old.left → PortTold p status old mid → KeepsAll mid new → KeepsPlain old new
+pub told_keeps : (p : List ℕ) (status : PortStatus) (old mid new : World) → AtPorts old.left → PortStatusAt p status old mid → KeepsAll mid new → KeepsPlain old new
 told_keeps p status old mid new ports t x =
     let all : KeepsBy unmarked unmarked unmarked old new = (all_then (all_then t.untold t.rested) x).all ports unmarked unmarked unmarked few-none in
     record { looks = all.looks; strays = all.strays }

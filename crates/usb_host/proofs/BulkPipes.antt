@@ -12,7 +12,7 @@ use Rattle.usb_world.specs.Paths.{address_of, is_way}
 use Rattle.usb_world.specs.Steps.{AnyStep, Course, after, event, here}
 use Rattle.usb_world.specs.World.{World}
 use Rattle.usb_world.proofs.Interface.{course_joined, decided, each_wider, way_itself}
-use Rattle.usb_address.specs.Ownership.{Owned}
+use Rattle.usb_address.specs.Ownership.{MapHolds}
 use Rattle.usb_pipe.specs.declared.fault.PipeFault.{PipeFault}
 use Rattle.usb_hub.specs.Addresses.{StaysAs, EachElsewhere, KeepsDevices}
 use Rattle.usb_enum.specs.declared.cause.Cause.{Cause}
@@ -34,9 +34,9 @@ use Rattle.usb_table.specs.Table.{Table, GoesThrough, entered, pipes_at}
 use Rattle.usb_table.specs.Transfers.{PipesPolled}
 use Rattle.usb_table.proofs.Interface.{path_tied, pipes_at-entered, pipes_at-entered_elsewhere, spares-same, spares-stage, spares-then}
 use Rattle.usb_host.specs.BulkPipes.{SameBulk, EndpointsStayed, EndpointsBegan, StayedAt, RenewedAt, KeepsBulk}
-use Rattle.usb_host.specs.Hosting.{Hosting}
+use Rattle.usb_host.specs.HostState.{HostState}
 use Rattle.usb_host.specs.Ownership.{claims}
-use Rattle.usb_host.specs.Progress.{HostWent, Rests}
+use Rattle.usb_host.specs.Progress.{HostSteps, OnlyBusSteps}
 use Rattle.usb_host.specs.Transfers.{table_in}
 use Rattle.usb_host.proofs.Agreements.{lookup-insert_entry_elsewhere}
 use Rattle.usb_host.proofs.EntryClaims.{lookup-insert_entry_here}
@@ -83,10 +83,10 @@ stayed_elsewhere first path w v each away x s is on stands =
 -- Where nothing is found anew
 
 -- each accepted device has what it had
-pub record AllStay (old new : Hosting) : Type 0 where
+pub record AllStay (old new : HostState) : Type 0 where
   pub each : (path : List ℕ) (device : Accepted) → accepted_device_at path new.entries ≡ Some device → StayedAt path device old new
 
-pub stay_joined : (a b c : Hosting) → AllStay a b → AllStay b c → AllStay a c
+pub stay_joined : (a b c : HostState) → AllStay a b → AllStay b c → AllStay a c
 stay_joined a b c x y = record {
   each = λ path device at.
       let late : StayedAt path device b c = y.each path device at in
@@ -98,11 +98,11 @@ stay_joined a b c x y = record {
       };
 }
 
-pub bulk_stays : (a b : Hosting) → AllStay a b → KeepsBulk a b
+pub bulk_stays : (a b : HostState) → AllStay a b → KeepsBulk a b
 bulk_stays a b x = record { each = λ path device at. inl (x.each path device at) }
 
 -- entries and bulk pipes are as they were
-stay_same : (a b : Hosting) → b.entries ≡ a.entries → ((path : List ℕ) → SameBulk (pipes_at path (table_in a)) (pipes_at path (table_in b))) → EachWas SparesBulk a.world b.world → AllStay a b
+stay_same : (a b : HostState) → b.entries ≡ a.entries → ((path : List ℕ) → SameBulk (pipes_at path (table_in a)) (pipes_at path (table_in b))) → EachWas SparesBulk a.world b.world → AllStay a b
 stay_same a b same pipes each = record {
   each = λ path device at. record {
     listed = ap (λ (es : Entries). accepted_device_at path es) (sym same) ∙ at;
@@ -115,13 +115,13 @@ stays_each : (w v : World) → EachWas StaysAs w v → EachWas SparesBulk w v
 stays_each w v each = each_wider StaysAs SparesBulk (λ j s v x. spares-stage j s v x) w v each
 
 -- only the world goes on, and devices stay as they were
-pub stay_rests : (a b : Hosting) → Rests a b → KeepsDevices a.world b.world → b.world.shared ≡ false → AllStay a b
+pub stay_rests : (a b : HostState) → OnlyBusSteps a b → KeepsDevices a.world b.world → b.world.shared ≡ false → AllStay a b
 stay_rests a b r devices single =
-    stay_same a b (ap (λ (h : Hosting). h.entries) r)
-    (λ path. same_bulk (pipes_at path (table_in a)) (pipes_at path (table_in b)) (ap (λ (h : Hosting). pipes_at path (table_in h)) r)) (stays_each a.world b.world (devices.stays single))
+    stay_same a b (ap (λ (h : HostState). h.entries) r)
+    (λ path. same_bulk (pipes_at path (table_in a)) (pipes_at path (table_in b)) (ap (λ (h : HostState). pipes_at path (table_in h)) r)) (stays_each a.world b.world (devices.stays single))
 
 -- the hub at a path is polled
-pub stay_polled : (hub : List ℕ) (a b : Hosting) (result : Result (Option (ArrayVec ℕ)) PipeFault) → GoesThrough hub (table_in a) (table_in b) → PipesPolled (pipes_at hub (table_in a)) a.world result (pipes_at hub (table_in b)) b.world
+pub stay_polled : (hub : List ℕ) (a b : HostState) (result : Result (Option (ArrayVec ℕ)) PipeFault) → GoesThrough hub (table_in a) (table_in b) → PipesPolled (pipes_at hub (table_in a)) a.world result (pipes_at hub (table_in b)) b.world
     → EachWas SparesBulk a.world b.world → AllStay a b
 stay_polled hub a b result goes polled each = stay_same a b goes.entries (λ path. pick path (is_at (path_cmp hub) path) refl) each
   where
@@ -130,7 +130,7 @@ stay_polled hub a b result goes polled each = stay_same a b goes.entries (λ pat
     pick path false apart = same_bulk (pipes_at path (table_in a)) (pipes_at path (table_in b)) (goes.others path apart)
 
 -- an event comes
-pub stay_event : (a b : Hosting) → b.entries ≡ a.entries → b.pipes ≡ a.pipes → b.world ≡ after event a.world → AllStay a b
+pub stay_event : (a b : HostState) → b.entries ≡ a.entries → b.pipes ≡ a.pipes → b.world ≡ after event a.world → AllStay a b
 stay_event a b same pipes_same is =
     let table : table_in b ≡ table_in a = ap (λ es. record { entries = es; pipes = b.pipes }) same ∙ ap (λ ps. record { entries = a.entries; pipes = ps }) pipes_same in
     stay_same a b same (λ path. same_bulk (pipes_at path (table_in a)) (pipes_at path (table_in b)) (ap (pipes_at path) table))
@@ -144,7 +144,7 @@ listed_away first path es device gone at = pick (decided (is_way first path))
     pick (inl way) = absurd (cc (ap accepted_device_of (finding-none first path es gone way), at))
     pick (inr away) = away
 
-pub stay_forgotten : (first : List ℕ) (a b : Hosting) → b.world ≡ a.world → b.entries ≡ without first a.entries → has_at first b.entries ≡ false → ((x : List ℕ) → is_way first x ≡ false → pipes_at x (table_in b) ≡ pipes_at x (table_in a)) → AllStay a b
+pub stay_forgotten : (first : List ℕ) (a b : HostState) → b.world ≡ a.world → b.entries ≡ without first a.entries → has_at first b.entries ≡ false → ((x : List ℕ) → is_way first x ≡ false → pipes_at x (table_in b) ≡ pipes_at x (table_in a)) → AllStay a b
 stay_forgotten first a b same rest gone pipes = record {
   each = λ path device at.
       let away : is_way first path ≡ false = listed_away first path b.entries device gone at in
@@ -156,7 +156,7 @@ stay_forgotten first a b same rest gone pipes = record {
 }
 
 -- nothing is entered at a path of which nothing was listed
-pub stay_unfound : (first : List ℕ) (a b : Hosting) → b.entries ≡ a.entries → b.pipes ≡ a.pipes → has_at first a.entries ≡ false → EachElsewhere first StaysAs a.world b.world → AllStay a b
+pub stay_unfound : (first : List ℕ) (a b : HostState) → b.entries ≡ a.entries → b.pipes ≡ a.pipes → has_at first a.entries ≡ false → EachElsewhere first StaysAs a.world b.world → AllStay a b
 stay_unfound first a b same pipes_same gone each = record {
   each = λ path device at.
       let listed : accepted_device_at path a.entries ≡ Some device = ap (λ (es : Entries). accepted_device_at path es) (sym same) ∙ at in
@@ -171,7 +171,7 @@ stay_unfound first a b same pipes_same gone each = record {
 -- What is entered
 
 -- at another path
-beside : (first path : List ℕ) (f : Finding) (a b : Hosting) (device : Accepted) → table_in b ≡ entered first f (table_in a) → is_at (path_cmp path) first ≡ false → accepted_device_at path b.entries ≡ Some device
+beside : (first path : List ℕ) (f : Finding) (a b : HostState) (device : Accepted) → table_in b ≡ entered first f (table_in a) → is_at (path_cmp path) first ≡ false → accepted_device_at path b.entries ≡ Some device
     → (accepted_device_at path a.entries ≡ Some device → EndpointsStayed path a.world b.world) → StayedAt path device a b
 beside first path f a b device table apart at endpoints =
     let listed : accepted_device_at path a.entries ≡ Some device =
@@ -183,18 +183,18 @@ beside first path f a b device table apart at endpoints =
     }
 
 -- the accepted device of a finding is what was found
-pub device_found : (f : Finding) (device : Accepted) → accepted_device_of (Some f) ≡ Some device → f ≡ Device device
-device_found (Device d) device e = ap Device (cc e)
-device_found (Refused cause) device e = absurd (cc e)
+pub accepted_device_of-some : (f : Finding) (device : Accepted) → accepted_device_of (Some f) ≡ Some device → f ≡ Device device
+accepted_device_of-some (Device d) device e = ap Device (cc e)
+accepted_device_of-some (Refused cause) device e = absurd (cc e)
 
 -- at the path itself
-entered_there : (first path : List ℕ) (f : Finding) (a b : Hosting) (device : Accepted) → table_in b ≡ entered first f (table_in a) → path ≡ first → accepted_device_at path b.entries ≡ Some device → f ≡ Device device
+entered_there : (first path : List ℕ) (f : Finding) (a b : HostState) (device : Accepted) → table_in b ≡ entered first f (table_in a) → path ≡ first → accepted_device_at path b.entries ≡ Some device → f ≡ Device device
 entered_there first path f a b device table is at =
     let there : accepted_device_at first b.entries ≡ Some device = subst (λ (p : List ℕ). accepted_device_at p b.entries ≡ Some device) is at in
-    device_found f device (sym (ap (λ (t : Table). accepted_device_at first t.entries) table ∙ ap accepted_device_of (lookup-insert_entry_here first f a.entries)) ∙ there)
+    accepted_device_of-some f device (sym (ap (λ (t : Table). accepted_device_at first t.entries) table ∙ ap accepted_device_of (lookup-insert_entry_here first f a.entries)) ∙ there)
 
 -- a device that is refused has no pipes
-pub stay_refused : (first : List ℕ) (cause : Cause) (a b : Hosting) → table_in b ≡ entered first (Refused cause) (table_in a) → b.world ≡ a.world → AllStay a b
+pub stay_refused : (first : List ℕ) (cause : Cause) (a b : HostState) → table_in b ≡ entered first (Refused cause) (table_in a) → b.world ≡ a.world → AllStay a b
 stay_refused first cause a b table same = record { each = λ path device at. pick path device at (is_at (path_cmp path) first) refl }
   where
     pick : (path : List ℕ) (device : Accepted) → accepted_device_at path b.entries ≡ Some device → (tied : Bool) → is_at (path_cmp path) first ≡ tied → StayedAt path device a b
@@ -202,7 +202,7 @@ stay_refused first cause a b table same = record { each = λ path device at. pic
     pick path device at false apart = beside first path (Refused cause) a b device table apart at (λ listed. stayed_none path a.world b.world same)
 
 -- whoever is reached holds the address of its entry
-unreached : (w : World) (path : List ℕ) (es : Entries) → Owned (claims es) w → finding_at path es ≡ None → reach w.roots path ≡ false
+unreached : (w : World) (path : List ℕ) (es : Entries) → MapHolds (claims es) w → finding_at path es ≡ None → reach w.roots path ≡ false
 unreached w path es held none = pick (reach w.roots path) refl
   where
     pick : (on : Bool) → reach w.roots path ≡ on → on ≡ false
@@ -213,8 +213,8 @@ unreached w path es held none = pick (reach w.roots path) refl
     pick false on = refl
 
 -- a device that is found where none was listed was not reached before
-module _ (first : List ℕ) (f : Finding) (a b : Hosting) (table : table_in b ≡ entered first f (table_in a)) (gone : has_at first a.entries ≡ false) (each : EachElsewhere first StaysAs a.world b.world) where
-  pub bulk_entered : Course AnyStep a.world b.world → Owned (claims a.entries) a.world → ((device : Accepted) → f ≡ Device device → EndpointsBegan first b.world) → KeepsBulk a b
+module _ (first : List ℕ) (f : Finding) (a b : HostState) (table : table_in b ≡ entered first f (table_in a)) (gone : has_at first a.entries ≡ false) (each : EachElsewhere first StaysAs a.world b.world) where
+  pub bulk_entered : Course AnyStep a.world b.world → MapHolds (claims a.entries) a.world → ((device : Accepted) → f ≡ Device device → EndpointsBegan first b.world) → KeepsBulk a b
   bulk_entered course held began = record { each = λ path device at. pick path device at (is_at (path_cmp path) first) refl }
     where
       found : (device : Accepted) → f ≡ Device device → RenewedAt first device a b
@@ -236,10 +236,10 @@ module _ (first : List ℕ) (f : Finding) (a b : Hosting) (table : table_in b �
 
 -- One part after another
 
-pub bulk_none : (h : Hosting) → KeepsBulk h h
+pub bulk_none : (h : HostState) → KeepsBulk h h
 bulk_none h = record { each = λ path device at. inl (record { listed = at; pipes = record { out = refl; into = refl }; endpoints = stayed_none path h.world h.world refl }) }
 
-module _ (a b c : Hosting) (first : Course AnyStep a.world b.world) (second : Course AnyStep b.world c.world) where
+module _ (a b c : HostState) (first : Course AnyStep a.world b.world) (second : Course AnyStep b.world c.world) where
   stayed_then : (path : List ℕ) (device : Accepted) → StayedAt path device a b ⊎ RenewedAt path device a b → StayedAt path device b c → StayedAt path device a c ⊎ RenewedAt path device a c
   stayed_then path device (inl x) y = inl (record {
     listed = x.listed;
@@ -263,11 +263,11 @@ module _ (a b c : Hosting) (first : Course AnyStep a.world b.world) (second : Co
   bulk_joins x y = record { each = λ path device at. part_then x path device (y.each path device at) }
 
 -- as long as the bus is at work
-pub bulk_then : (m n : ℕ) (a b c : Hosting) → HostWent m a b → HostWent n b c → c.world.fault ≡ None → KeepsBulk a b → KeepsBulk b c → KeepsBulk a c
+pub bulk_then : (m n : ℕ) (a b c : HostState) → HostSteps m a b → HostSteps n b c → c.world.fault ≡ None → KeepsBulk a b → KeepsBulk b c → KeepsBulk a c
 bulk_then m n a b c first second still = bulk_joins a b c (went_course m a.world b.world first (went_sound n b.world c.world second still)) (went_course n b.world c.world second still)
 
 -- only the host's own stop is new
-pub bulk_stopped : (a b : Hosting) (stopped : Bool) → KeepsBulk a b → KeepsBulk a (record b { stopped = stopped })
+pub bulk_stopped : (a b : HostState) (stopped : Bool) → KeepsBulk a b → KeepsBulk a (record b { stopped = stopped })
 bulk_stopped a b stopped x = record { each = λ path device at. pick path device (x.each path device at) }
   where
     pick : (path : List ℕ) (device : Accepted) → StayedAt path device a b ⊎ RenewedAt path device a b → StayedAt path device a (record b { stopped = stopped }) ⊎ RenewedAt path device a (record b { stopped = stopped })

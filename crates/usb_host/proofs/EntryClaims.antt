@@ -11,7 +11,7 @@ use Rattle.usb_world.specs.Addresses.{after_taking}
 use Rattle.usb_world.specs.Courses.{Injective}
 use Rattle.usb_world.specs.Paths.{is_way, same_path}
 use Rattle.usb_world.proofs.Interface.{at_or_below_way, same_is, self_path, way_itself}
-use Rattle.usb_address.specs.Claims.{Free, claims_apart}
+use Rattle.usb_address.specs.Claims.{Free, map_without}
 use Rattle.usb_enum.specs.declared.cause.Cause.{Cause}
 use Rattle.usb_enum.specs.declared.finding.Accepted.{Accepted}
 use Rattle.usb_enum.specs.declared.finding.Finding.{Finding}
@@ -49,36 +49,36 @@ claims_taken es addresses h p a at =
 
 -- Entries are forgotten
 
-cleared_by : (path : List ℕ) (es : Entries) (x : List ℕ) (b : Bool) → is_way path x ≡ b → claims (without path es) x ≡ (if b then None else claims es x)
-cleared_by path es x true way = ap address_in (lookup-without x path false es (ap not (at_or_below_way x path ∙ way)))
-cleared_by path es x false way = ap address_in (lookup-without x path true es (ap not (at_or_below_way x path ∙ way)))
+claims-without_by : (path : List ℕ) (es : Entries) (x : List ℕ) (b : Bool) → is_way path x ≡ b → claims (without path es) x ≡ (if b then None else claims es x)
+claims-without_by path es x true way = ap address_in (lookup-without x path false es (ap not (at_or_below_way x path ∙ way)))
+claims-without_by path es x false way = ap address_in (lookup-without x path true es (ap not (at_or_below_way x path ∙ way)))
 
-pub claims-without : (path : List ℕ) (es : Entries) (x : List ℕ) → claims (without path es) x ≡ claims_apart (claims es) path x
-claims-without path es x = cleared_by path es x (is_way path x) refl
+pub claims-without : (path : List ℕ) (es : Entries) (x : List ℕ) → claims (without path es) x ≡ map_without (claims es) path x
+claims-without path es x = claims-without_by path es x (is_way path x) refl
 
 -- Where nothing was found nothing is claimed
 
-none_by : (path x : List ℕ) (e : List ℕ × Finding) (es : Entries) → (is_at_or_below e.0 path || has_at path es) ≡ false → is_at_or_below x path ≡ true → (has_at path es ≡ false → lookup (is_at (path_cmp x)) es ≡ None)
+lookup-none_below : (path x : List ℕ) (e : List ℕ × Finding) (es : Entries) → (is_at_or_below e.0 path || has_at path es) ≡ false → is_at_or_below x path ≡ true → (has_at path es ≡ false → lookup (is_at (path_cmp x)) es ≡ None)
     → (b : Bool) → is_at (path_cmp x) e.0 ≡ b → cond b (Some e.1) (lookup (is_at (path_cmp x)) es) ≡ None
-none_by path x e es away below more true tie =
+lookup-none_below path x e es away below more true tie =
     let there : is_at_or_below e.0 path ≡ true = subst (λ (r : List ℕ). is_at_or_below r path ≡ true) (path_tied x e.0 tie) below in
     absurd (cc (there, first_false (is_at_or_below e.0 path) (has_at path es) away))
   where
     first_false : (a b : Bool) → (a || b) ≡ false → a ≡ false
     first_false true b h = absurd cc
     first_false false b h = refl
-none_by path x e es away below more false tie = more (second_false (is_at_or_below e.0 path) (has_at path es) away)
+lookup-none_below path x e es away below more false tie = more (second_false (is_at_or_below e.0 path) (has_at path es) away)
   where
     second_false : (a b : Bool) → (a || b) ≡ false → b ≡ false
     second_false true b h = absurd cc
     second_false false b h = h
 
-pub none_there : (path x : List ℕ) (es : Entries) → has_at path es ≡ false → is_at_or_below x path ≡ true → lookup (is_at (path_cmp x)) es ≡ None
-none_there path x [] away below = refl
-none_there path x (e ∷ es) away below = none_by path x e es away below (λ rest. none_there path x es rest below) (is_at (path_cmp x) e.0) refl
+pub lookup-none_there : (path x : List ℕ) (es : Entries) → has_at path es ≡ false → is_at_or_below x path ≡ true → lookup (is_at (path_cmp x)) es ≡ None
+lookup-none_there path x [] away below = refl
+lookup-none_there path x (e ∷ es) away below = lookup-none_below path x e es away below (λ rest. lookup-none_there path x es rest below) (is_at (path_cmp x) e.0) refl
 
 pub claims_free : (path : List ℕ) (es : Entries) → has_at path es ≡ false → Free (claims es) path
-claims_free path es away x way = ap address_in (none_there path x es away (at_or_below_way x path ∙ way))
+claims_free path es away x way = ap address_in (lookup-none_there path x es away (at_or_below_way x path ∙ way))
 
 -- An entry comes
 
@@ -92,24 +92,24 @@ pub lookup-insert_entry_here : (path : List ℕ) (f : Finding) (es : Entries) �
 lookup-insert_entry_here path f [] = rw (path_itself path) refl
 lookup-insert_entry_here path f (e ∷ es) = here_step path f e es (lookup-insert_entry_here path f es) (path_cmp path e.0) refl
 
-apart_by : (path x : List ℕ) → same_path path x ≡ false → (b : Bool) → is_at (path_cmp x) path ≡ b → b ≡ false
-apart_by path x other true tie =
+is_at-same_path : (path x : List ℕ) → same_path path x ≡ false → (b : Bool) → is_at (path_cmp x) path ≡ b → b ≡ false
+is_at-same_path path x other true tie =
     let same : same_path path x ≡ true = subst (λ (r : List ℕ). same_path r x ≡ true) (path_tied x path tie) (self_path x) in
     absurd (cc (same, other))
-apart_by path x other false tie = refl
+is_at-same_path path x other false tie = refl
 
 entered_by : (path : List ℕ) (f : Finding) (es : Entries) (x : List ℕ) (b : Bool) → same_path path x ≡ b → claims (insert_entry path_cmp es path f) x ≡ (if b then address_found f else claims es x)
 entered_by path f es x true same = subst (λ (r : List ℕ). claims (insert_entry path_cmp es path f) r ≡ address_found f) (sym (same_is path x same)) (ap address_in (lookup-insert_entry_here path f es))
-entered_by path f es x false other = ap address_in (lookup-insert_entry_elsewhere x path f es (apart_by path x other (is_at (path_cmp x) path) refl))
+entered_by path f es x false other = ap address_in (lookup-insert_entry_elsewhere x path f es (is_at-same_path path x other (is_at (path_cmp x) path) refl))
 
 pub claims-device : (path : List ℕ) (device : Accepted) (es : Entries) (x : List ℕ) → claims (insert_entry path_cmp es path (Device device)) x ≡ after_taking (claims es) path device.address x
 claims-device path device es x = entered_by path (Device device) es x (same_path path x) refl
 
-refused_by : (path : List ℕ) (cause : Cause) (es : Entries) (x : List ℕ) → has_at path es ≡ false → (b : Bool) → same_path path x ≡ b → claims (insert_entry path_cmp es path (Refused cause)) x ≡ claims es x
-refused_by path cause es x away true same =
+claims-refused_by : (path : List ℕ) (cause : Cause) (es : Entries) (x : List ℕ) → has_at path es ≡ false → (b : Bool) → same_path path x ≡ b → claims (insert_entry path_cmp es path (Refused cause)) x ≡ claims es x
+claims-refused_by path cause es x away true same =
     let none : claims es path ≡ None = claims_free path es away path (way_itself path) in
     entered_by path (Refused cause) es x true same ∙ sym (ap (claims es) (same_is path x same) ∙ none)
-refused_by path cause es x away false other = entered_by path (Refused cause) es x false other
+claims-refused_by path cause es x away false other = entered_by path (Refused cause) es x false other
 
 pub claims-refused : (path : List ℕ) (cause : Cause) (es : Entries) → has_at path es ≡ false → (x : List ℕ) → claims (insert_entry path_cmp es path (Refused cause)) x ≡ claims es x
-claims-refused path cause es away x = refused_by path cause es x away (same_path path x) refl
+claims-refused path cause es away x = claims-refused_by path cause es x away (same_path path x) refl

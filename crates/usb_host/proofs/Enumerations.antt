@@ -6,16 +6,16 @@ use Rattle.usb_hub.specs.declared.port.HubPort.TheVariants.{Root, External}
 use Rattle.usb_enum.specs.Bounds.{IsWide, enumeration_bound, widest_enumeration, read_bound}
 use Rattle.usb_enum.proofs.Interface.{enumeration_most, status_most}
 use Rattle.usb_table.specs.KnownPorts.{IsAskable}
-use Rattle.usb_host.specs.Hosting.{Hosting}
-use Rattle.usb_host.specs.Progress.{HostWent, HostGoes}
-use Rattle.usb_host.proofs.Joins.{goes_by}
+use Rattle.usb_host.specs.HostState.{HostState}
+use Rattle.usb_host.specs.Progress.{HostSteps, HostRuns}
+use Rattle.usb_host.proofs.StepSums.{goes_by}
 
 pub askable_wide : (port : HubPort) → IsAskable port → IsWide port
 askable_wide (Root number) h = tt
 askable_wide (External hub port) h = h.wide
 
-pub enumerated : (port : HubPort) (a b : Hosting) → IsAskable port → HostWent (enumeration_bound port) a b → b.stopped ≡ a.stopped → HostGoes widest_enumeration a b
-enumerated port a b askable w e = goes_by (enumeration_bound port) widest_enumeration a b w (enumeration_most port (askable_wide port askable)) e
+pub enumeration_goes : (port : HubPort) (a b : HostState) → IsAskable port → HostSteps (enumeration_bound port) a b → b.stopped ≡ a.stopped → HostRuns widest_enumeration a b
+enumeration_goes port a b askable w e = goes_by (enumeration_bound port) widest_enumeration a b w (enumeration_most port (askable_wide port askable)) e
 
-pub asked : (port : HubPort) (a b : Hosting) → IsAskable port → HostWent (status_bound port) a b → b.stopped ≡ a.stopped → HostGoes (read_bound 4) a b
-asked port a b askable w e = goes_by (status_bound port) (read_bound 4) a b w (status_most port (askable_wide port askable)) e
+pub status_read_goes : (port : HubPort) (a b : HostState) → IsAskable port → HostSteps (status_bound port) a b → b.stopped ≡ a.stopped → HostRuns (read_bound 4) a b
+status_read_goes port a b askable w e = goes_by (status_bound port) (read_bound 4) a b w (status_most port (askable_wide port askable)) e

@@ -1,15 +1,15 @@
 -- Where damage is fair up to the end of a call, it is so up to each part of the call, and from there on.
 use Rattle.std.proofs.Common.{List, Option, ℕ}
 use Rattle.usb_world.specs.World.{World}
-use Rattle.usb_bus.specs.Traces.{WentOn}
+use Rattle.usb_bus.specs.Traces.{StepRun}
 use Rattle.usb_enum.proofs.Interface.{few_before, went_course, went_sound, went_three}
 use Rattle.usb_host.specs.Soundness.{IsFairTo}
 
 module _ (n : ℕ) (old mid new : World) {t s : Option (List ℕ)} where
   -- up to a part
-  pub fair_before : WentOn n mid t new s → IsFairTo old new → IsFairTo old mid
+  pub fair_before : StepRun n mid t new s → IsFairTo old new → IsFairTo old mid
   fair_before went f = record { still = went_sound n mid new went f.still; few = f.few; kept = few_before (went_course n mid new went f.still) f.kept }
 
   -- from there on
-  pub fair_after : WentOn n old t mid s → IsFairTo old new → IsFairTo mid new
+  pub fair_after : StepRun n old t mid s → IsFairTo old new → IsFairTo mid new
   fair_after went f = record { still = f.still; few = went_three n old mid went f.few; kept = f.kept }

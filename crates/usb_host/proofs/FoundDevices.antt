@@ -19,7 +19,7 @@ use Rattle.usb_enum.specs.Verdicts.{IsFindingOf}
 use Rattle.usb_enum.specs.Findings.{Begins, Enumerates, IsOwn}
 use Rattle.usb_enum.specs.Frames.{OnlyAt}
 use Rattle.usb_enum.specs.Places.{IsPlaced}
-use Rattle.usb_enum.specs.Stop.{FaultAt}
+use Rattle.usb_enum.specs.Stop.{FaultAllowedAt}
 use Rattle.usb_enum.proofs.Interface.{regular_order, went_course, went_in_order, went_sound}
 use Rattle.usb_table.specs.declared.known.KnownPort.{KnownPort}
 use Rattle.usb_table.specs.Entries.{Entries, has_at}
@@ -27,31 +27,31 @@ use Rattle.usb_table.specs.Findings.{accepted_device_of}
 use Rattle.usb_table.specs.KnownPorts.{known_port}
 use Rattle.usb_table.specs.Listing.{hub_facts_in, tier_of}
 use Rattle.usb_host.specs.Accounts.{Accounts}
-use Rattle.usb_host.specs.PortHandling.{IsOpen, PortSound}
-use Rattle.usb_host.specs.Hosting.{Hosting}
+use Rattle.usb_host.specs.PortHandling.{IsOpen, InvariantAfterPort}
+use Rattle.usb_host.specs.HostState.{HostState}
 use Rattle.usb_host.specs.Ownership.{claims, KeepsPort}
 use Rattle.usb_host.specs.Ports.{StandsAt}
-use Rattle.usb_host.specs.Progress.{HostWent}
-use Rattle.usb_host.specs.Soundness.{Known, KnownBut, Truthful, TruthfulBut, IsToldAt, known_supply}
+use Rattle.usb_host.specs.Progress.{HostSteps}
+use Rattle.usb_host.specs.Soundness.{PortsListed, KnownBut, DevicesAccurate, TruthfulBut, IsAccurateAt, known_supply}
 use Rattle.usb_host.specs.BulkPipes.{KeepsBulk}
-use Rattle.usb_host.proofs.BulkPipes.{bulk_entered, bulk_stays, device_found, stay_unfound}
+use Rattle.usb_host.proofs.BulkPipes.{bulk_entered, bulk_stays, accepted_device_of-some, stay_unfound}
 use Rattle.usb_host.proofs.Agreements.{known_entered, shorter_apart}
 use Rattle.usb_host.proofs.EntryClaims.{claims_free, claims_taken, lookup-insert_entry_here}
-use Rattle.usb_world.specs.Steps.{IsBetween}
-use Rattle.usb_table.specs.Levels.{AllLevel, LevelAt}
+use Rattle.usb_world.specs.Steps.{WorldInvariant}
+use Rattle.usb_table.specs.Levels.{AllInSync, InSyncAt}
 use Rattle.usb_table.specs.Table.{Table, entered}
 use Rattle.usb_host.specs.Transfers.{table_in}
 use Rattle.usb_host.proofs.LevelPipes.{level_found, level_gone, level_but}
 use Rattle.usb_host.proofs.Places.{finding-none, known_found, truthful_found}
 use Rattle.usb_host.proofs.RestedWorlds.{elsewhere_still, lost_sound}
-use Rattle.usb_host.proofs.Stations.{stands_at}
+use Rattle.usb_host.proofs.PortLocations.{stands_at-claim}
 use Rattle.usb_host.proofs.KnowledgeKept.{known_but_each, truthful_but_stays}
 
 -- nothing is known of what is not listed
-truthful_gone : (path : List ℕ) (w : World) (es : Entries) → has_at path es ≡ false → TruthfulBut path w es → Truthful w es
+truthful_gone : (path : List ℕ) (w : World) (es : Entries) → has_at path es ≡ false → TruthfulBut path w es → DevicesAccurate w es
 truthful_gone path w es gone told x = pick (decided (is_way path x))
   where
-    pick : (is_way path x ≡ true) ⊎ (is_way path x ≡ false) → IsToldAt w es x
+    pick : (is_way path x ≡ true) ⊎ (is_way path x ≡ false) → IsAccurateAt w es x
     pick (inl way) = λ device s at on stands. absurd (cc (ap accepted_device_of (finding-none path x es gone way), at))
     pick (inr away) = told x away
 
@@ -68,12 +68,12 @@ hub_device (Device device) n h = pick device.hub refl h
     pick None e h = absurd h
     pick (Some facts) e h = (device, facts, refl, e, h.0, h.1)
 
-module _ (n : ℕ) (path : List ℕ) (port : KnownPort) (pool : Addresses) (a b : Hosting) (s : StandsAt path port a) (gone : has_at path a.entries ≡ false) (accounts : Accounts a.entries pool) (went : HostWent n a b) (o : IsOpen path a) where
+module _ (n : ℕ) (path : List ℕ) (port : KnownPort) (pool : Addresses) (a b : HostState) (s : StandsAt path port a) (gone : has_at path a.entries ≡ false) (accounts : Accounts a.entries pool) (went : HostSteps n a b) (o : IsOpen path a) where
   taken_by : (x : List ℕ) (address : ℕ) → claims a.entries x ≡ Some address → IsTaken pool address
   taken_by = claims_taken a.entries pool accounts
 
   pub begins : Begins (claims a.entries) port.port path pool a.world
-  begins = record { at = stands_at path port a s; free = claims_free path a.entries gone; taken = taken_by; owned = o.owned; order = o.but.order }
+  begins = record { at = stands_at-claim path port a s; free = claims_free path a.entries gone; taken = taken_by; owned = o.owned; order = o.but.order }
 
   pub found_only : (result : Result Finding EnumFault) → Enumerates port.port pool (tier_of path) port.supply a.world result b.world → b.world.fault ≡ None → OnlyAt path a.world b.world
   found_only result e still = e.addresses.only (claims a.entries) path begins.at begins.free begins.taken begins.owned still
@@ -93,27 +93,27 @@ module _ (n : ℕ) (path : List ℕ) (port : KnownPort) (pool : Addresses) (a b 
     placed : b.world.fault ≡ None → IsPlaced path f b.world
     placed still = e.places.placed (claims a.entries) path begins (o.there (went_sound n a.world b.world went still)) still f refl
 
-    entered_known : b.world.fault ≡ None → Known b.world b.entries
+    entered_known : b.world.fault ≡ None → PortsListed b.world b.entries
     entered_known still =
         let here = placed still in
-        subst (Known b.world) (sym is)
+        subst (PortsListed b.world) (sym is)
         (known_found path f a.entries s.is.0 gone b.world (only_known a.entries refl still (found_only (Ok f) e still)) here.there
         (λ number has. let d : _ = hub_device f number has in here.below d.0 d.2 d.1 number d.3 d.4 d.5))
 
-    told_here : b.world.fault ≡ None → IsToldAt b.world (insert_entry path_cmp a.entries path f) path
+    told_here : b.world.fault ≡ None → IsAccurateAt b.world (insert_entry path_cmp a.entries path f) path
     told_here still device t at on stands =
-        let found : f ≡ Device device = device_found f device (sym (ap accepted_device_of (lookup-insert_entry_here path f a.entries)) ∙ at) in
+        let found : f ≡ Device device = accepted_device_of-some f device (sym (ap accepted_device_of (lookup-insert_entry_here path f a.entries)) ∙ at) in
         let own : IsOwn (tier_of path) port.supply device t = e.own.truth (claims a.entries) path begins.at begins.free begins.taken begins.owned (regular_order begins.order) device (ap Ok found) t on stands in
         record { found = subst (λ m. IsFindingOf t.spec (tier_of path) m (Device device)) (sym (supply_found path port f a.entries s.known)) own.0; set = own.1 }
 
-    entered_truthful : b.world.fault ≡ None → Truthful b.world b.entries
+    entered_truthful : b.world.fault ≡ None → DevicesAccurate b.world b.entries
     entered_truthful still =
-        subst (Truthful b.world) (sym is)
+        subst (DevicesAccurate b.world) (sym is)
         (truthful_found path f a.entries s.is.0 gone b.world (truthful_gone path b.world a.entries gone (only_truthful a.entries refl still (found_only (Ok f) e still))) (told_here still))
 
-    entered_level : b.world.fault ≡ None → AllLevel (table_in b) b.world
+    entered_level : b.world.fault ≡ None → AllInSync (table_in b) b.world
     entered_level still =
-        let order : IsBetween b.world = (went_in_order n a.world b.world went o.but.order still) in
+        let order : WorldInvariant b.world = (went_in_order n a.world b.world went o.but.order still) in
         level_found path f (tier_of path) port.supply (table_in a) (table_in b) b.world table order.sane
         (λ device t found on stands. e.own.truth (claims a.entries) path begins.at begins.free begins.taken begins.owned (regular_order begins.order) device (ap Ok found) t on stands)
         (level_gone path (table_in a) b.world gone (level_but path (table_in a) a.world b.world (found_only (Ok f) e still).devices (o.but.level (went_sound n a.world b.world went still))))
@@ -127,7 +127,7 @@ module _ (n : ℕ) (path : List ℕ) (port : KnownPort) (pool : Addresses) (a b 
         e.own.truth (claims a.entries) path begins.at begins.free begins.taken begins.owned (regular_order begins.order) device (ap Ok found) t (ap (reach b.world.roots) is ∙ on) (ap (state_there b.world.roots) is ∙ stands) in
         (own.2.out, own.2.into))
 
-    pub entered_sound : KeepsPort path a (Ok tt) b → PortSound path (Ok tt) b
+    pub entered_sound : KeepsPort path a (Ok tt) b → InvariantAfterPort path (Ok tt) b
     entered_sound k = record {
       owned = k.ends o.owned;
       rooted = k.rooted o.but.rooted;
@@ -141,7 +141,7 @@ module _ (n : ℕ) (path : List ℕ) (port : KnownPort) (pool : Addresses) (a b 
   unfound_bulk fault e same pipes_same still = bulk_stays a b (stay_unfound path a b same pipes_same gone (found_only (Err fault) e still).devices)
 
   -- nothing is entered: the hub is lost
-  pub unfound_sound : (fault : EnumFault) → Enumerates port.port pool (tier_of path) port.supply a.world (Err fault) b.world → b.entries ≡ a.entries → b.pipes ≡ a.pipes → b.addresses ≡ a.addresses → FaultAt port.port fault b.world → KeepsPort path a (Err fault) b → PortSound path (Err fault) b
+  pub unfound_sound : (fault : EnumFault) → Enumerates port.port pool (tier_of path) port.supply a.world (Err fault) b.world → b.entries ≡ a.entries → b.pipes ≡ a.pipes → b.addresses ≡ a.addresses → FaultAllowedAt port.port fault b.world → KeepsPort path a (Err fault) b → InvariantAfterPort path (Err fault) b
   unfound_sound ParentLost e same pipes_same pool_same told k =
       lost_sound path port a b ParentLost s told (subst IsSome (sym (ap (known_port path) same ∙ s.known)) refl) (rw (same, pool_same) s.agrees)
       (λ goes. record {
@@ -152,7 +152,7 @@ module _ (n : ℕ) (path : List ℕ) (port : KnownPort) (pool : Addresses) (a b 
         truthful = λ still. only_truthful b.entries same still (found_only (Err ParentLost) e still);
         level = λ still.
             let table : table_in b ≡ table_in a = ap (λ es. record { entries = es; pipes = b.pipes }) same ∙ ap (λ ps. record { entries = a.entries; pipes = ps }) pipes_same in
-            subst (λ (t : Table). (y : List ℕ) → is_way path y ≡ false → LevelAt y t b.world) (sym table)
+            subst (λ (t : Table). (y : List ℕ) → is_way path y ≡ false → InSyncAt y t b.world) (sym table)
             (level_but path (table_in a) a.world b.world (found_only (Err ParentLost) e still).devices (o.but.level (went_sound n a.world b.world went still)));
       })
   unfound_sound (Bus fault) e same pipes_same pool_same told k = tt

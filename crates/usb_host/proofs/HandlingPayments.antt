@@ -11,7 +11,7 @@ use Rattle.usb_world.proofs.Interface.{way_shorter}
 use Rattle.usb_backlog.specs.Marks.{KeepsAll, KeepsBy, unmarked}
 use Rattle.usb_backlog.specs.Units.{KeepsPlain, PaysBare, PaysLook}
 use Rattle.usb_backlog.proofs.Interface.{few-none}
-use Rattle.usb_enum.specs.Stop.{FaultAt}
+use Rattle.usb_enum.specs.Stop.{FaultAllowedAt}
 use Rattle.usb_enum.specs.declared.fault.EnumFault.{EnumFault}
 use Rattle.usb_enum.specs.declared.fault.EnumFault.TheVariants.{ParentLost, Bus, Memory}
 use Rattle.usb_enum.proofs.Interface.{went_sound}
@@ -24,19 +24,19 @@ use Rattle.usb_enum.specs.declared.finding.Finding.{Finding}
 use Rattle.usb_host.specs.Backlog.{FindsNone, ServePaid, hubs, found, bare, tidied, calm}
 use Rattle.usb_host.specs.Bounds.{deciding_bound, drop_bound, handling_bound, serving_bound}
 use Rattle.usb_host.specs.Budget.{NumberPaid, Pays, PaysPart, PortPaid, Weights, WorksOn, handling_most, hub_weight, paid, idle}
-use Rattle.usb_host.specs.Hosting.{Hosting}
+use Rattle.usb_host.specs.HostState.{HostState}
 use Rattle.usb_host.specs.PortHandling.{ServesSound}
 use Rattle.usb_host.specs.Ports.{EndsAs, StandsAt}
-use Rattle.usb_host.specs.Progress.{HostWent}
+use Rattle.usb_host.specs.Progress.{HostSteps}
 use Rattle.usb_host.specs.Service.{FinishesAt, HandlesBelow, HandlesNumber, HandlesPort, HasHub, ServedAt, ServesPort, StaysOrForgets, port_known, port_unknown}
 use Rattle.usb_host.specs.declared.fault.HostFault.{HostFault}
 use Rattle.usb_host.specs.declared.host.Round.{Round}
 use Rattle.usb_host.specs.declared.host.Round.TheVariants.{Worked, Quiet}
-use Rattle.usb_host.proofs.Climbs.{parent_length}
-use Rattle.usb_host.proofs.Parts.{part-fails, part-none, part-wider}
-use Rattle.usb_host.proofs.Payments.{few_stop, looks_pay, on_err, part_failed, plain_costs, plain_pays, plan_within, ports_after, ports_left}
+use Rattle.usb_host.proofs.ParentPaths.{parent_length}
+use Rattle.usb_host.proofs.RoundParts.{part-fails, part-none, part-wider}
+use Rattle.usb_host.proofs.Payments.{few_stop, looks_pay, is_err-if_ok, pays_part_failed, plain_costs, plain_pays, works_on-plan, ports_after, works_on-ports}
 use Rattle.usb_host.proofs.Places.{finding-kept}
-use Rattle.usb_host.proofs.Stations.{lost_above}
+use Rattle.usb_host.proofs.PortLocations.{lost_above}
 
 -- The hub of a port
 
@@ -48,10 +48,10 @@ has_by path es port (Some hub) known some =
     port_found-some (finding_at hub es) (is_below_hub hub) (port_on_hub path) port known in
     ap is_some (ap hub_facts_in x.stands ∙ x.told)
 
-kept_by : (path : List ℕ) (es : Entries) (above : Option (List ℕ)) → parent_of path ≡ above → IsSomeAnd above (λ hub. IsSome (hub_facts_at hub es))
+hub_facts-without : (path : List ℕ) (es : Entries) (above : Option (List ℕ)) → parent_of path ≡ above → IsSomeAnd above (λ hub. IsSome (hub_facts_at hub es))
     → IsSomeAnd above (λ hub. IsSome (hub_facts_at hub (without path es)))
-kept_by path es None is h = h
-kept_by path es (Some hub) is h =
+hub_facts-without path es None is h = h
+hub_facts-without path es (Some hub) is h =
     let shorter : length path ≡ length hub + 1 = (parent_length path hub is).0 in
     let away : is_way path hub ≡ false = way_shorter path hub (omega (arith, shorter)) in
     subst (λ (o : Option Finding). IsSome (hub_facts_in o)) (sym (finding-kept path hub es away)) h
@@ -59,11 +59,11 @@ kept_by path es (Some hub) is h =
 -- it is listed yet where the port was forgotten
 has_hub : (path : List ℕ) (old new : Entries) → StaysOrForgets path old new → HasHub path old → HasHub path new
 has_hub path old new (inl same) h = subst (HasHub path) (sym same) h
-has_hub path old new (inr gone) h = subst (HasHub path) (sym gone) (kept_by path old (parent_of path) refl h)
+has_hub path old new (inr gone) h = subst (HasHub path) (sym gone) (hub_facts-without path old (parent_of path) refl h)
 
 -- A port was served
 
-bare_pays : (c : Weights) (a b : Hosting) → FindsNone deciding_bound a b → PaysBare a.world b.world → Pays c (c.polls + 12768) a b
+bare_pays : (c : Weights) (a b : HostState) → FindsNone deciding_bound a b → PaysBare a.world b.world → Pays c (c.polls + 12768) a b
 bare_pays c a b f x = elim x.paid [
   | inl look ↦ plain_pays c 7200 (c.polls + 12768) 1 0 0 0 a b (omega (arith, f.went.spends.most)) look (omega (arith, x.strays)) (omega (arith, f.hubs)) (omega (arith, f.went.spends.onward)) (omega arith)
   | inr more ↦ elim more [
@@ -72,7 +72,7 @@ bare_pays c a b f x = elim x.paid [
   ]
 ]
 
-module _ (c : Weights) (path : List ℕ) (a b : Hosting) (few : b.world.attempts ≤ a.world.attempts + (257200 + 100 * c.most))
+module _ (c : Weights) (path : List ℕ) (a b : HostState) (few : b.world.attempts ≤ a.world.attempts + (257200 + 100 * c.most))
     (on : a.world.taken ≤ b.world.taken) (more : hubs b.entries ≤ hubs a.entries + 1) where
   pub port_paid : ServePaid path a b → PortPaid c path a b
   port_paid (found x) = let y = mul-le-mul_left (hub_weight c) more in paid (looks_pay c (257200 + 100 * c.most) (c.polls + 12768) a b few x.looks x.strays on (omega (arith, y)))
@@ -91,7 +91,7 @@ module _ (c : Weights) (path : List ℕ) (a b : Hosting) (few : b.world.attempts
   few_found (inl (calm status mid told off steady x f)) = inr (x, omega (arith, f.went.spends.most), f.hubs)
   few_found (inr x) = inr (x.0, omega (arith, x.1.went.spends.most), x.1.hubs)
 
-  pub lost_paid : (d : Hosting) → ServePaid path a b ⊎ (KeepsPlain a.world b.world × FindsNone deciding_bound a b) → AtPorts b.world.left
+  pub lost_paid : (d : HostState) → ServePaid path a b ⊎ (KeepsPlain a.world b.world × FindsNone deciding_bound a b) → AtPorts b.world.left
       → KeepsAll b.world d.world → d.world.attempts ≤ b.world.attempts + 11200 → hubs d.entries + 1 ≤ hubs b.entries → Pays c (c.polls + 12768) a d
   lost_paid d served ports keeps dropped fewer = elim (few_found served) [
     | inl x ↦ looks_pay c (268400 + 100 * c.most) (c.polls + 12768) a d (omega (arith, few, dropped)) (omega (arith, x.looks, all.looks, all.onward)) (omega (arith, x.strays, all.strays)) (omega (arith, on, all.onward))
@@ -107,28 +107,28 @@ module _ (c : Weights) (path : List ℕ) (a b : Hosting) (few : b.world.attempts
 
 -- A port was handled
 
-module _ (path : List ℕ) (port : KnownPort) (a b d : Hosting) (s : StandsAt path port a) (first : HostWent serving_bound a b)
-    (second : HostWent drop_bound b d) where
+module _ (path : List ℕ) (port : KnownPort) (a b d : HostState) (s : StandsAt path port a) (first : HostSteps serving_bound a b)
+    (second : HostSteps drop_bound b d) where
   few_served : (c : Weights) (plan : PlanData) (served : Result (Unit {0}) EnumFault) → ServesPort path port a served b → WorksOn c plan a
       → b.world.attempts ≤ a.world.attempts + (257200 + 100 * c.most)
-  few_served c plan served x w = omega (arith, x.pays.few w.sound c.most (λ still. plan_within c plan a w))
+  few_served c plan served x w = omega (arith, x.pays.few w.sound c.most (λ still. works_on-plan c plan a w))
 
   module _ (c : Weights) (plan : PlanData) (w : WorksOn c plan a) (still : d.world.fault ≡ None) where
     here : b.world.fault ≡ None
     here = went_sound drop_bound b.world d.world second still
 
     done_pays : (served : Result (Unit {0}) EnumFault) (result : Result (Unit {0}) HostFault) → EndsAs served result
-        → IfErr served (λ fault. FaultAt port.port fault b.world) → ServesSound path a served b → ServesPort path port a served b
+        → IfErr served (λ fault. FaultAllowedAt port.port fault b.world) → ServesSound path a served b → ServesPort path port a served b
         → FinishesAt path served b result d → AtPorts b.world.left
         → IfOk result (λ done. PortPaid c path a d)
     done_pays (Ok done) (Ok x) ends told sound serves finishes ports =
         subst (PortPaid c path a) (sym finishes.left)
-        (port_paid c path a b (few_served c plan (Ok done) serves w) first.spends.onward serves.hubs (serves.pays.pays w.sound (ports_left c plan a w) here))
+        (port_paid c path a b (few_served c plan (Ok done) serves w) first.spends.onward serves.hubs (serves.pays.pays w.sound (works_on-ports c plan a w) here))
     done_pays (Err ParentLost) (Ok x) ends told sound serves finishes ports =
         let has : HasHub path a.entries =
         has_by path a.entries port (parent_of path) s.known (lost_above path a.entries port b.world told (parent_of path) refl s.known) in
         paid
-        (lost_paid c path a b (few_served c plan (Err ParentLost) serves w) first.spends.onward serves.hubs d (serves.pays.pays w.sound (ports_left c plan a w) here) ports
+        (lost_paid c path a b (few_served c plan (Err ParentLost) serves w) first.spends.onward serves.hubs d (serves.pays.pays w.sound (works_on-ports c plan a w) here) ports
         (finishes.drops.backlog (sound.sound w.sound) still) (omega (arith, second.spends.most))
         (finishes.fewer refl (has_hub path a.entries b.entries (serves.served w.sound) has)))
     done_pays (Err (Bus fault)) (Ok x) ends told sound serves finishes ports = absurd (cc ends)
@@ -137,7 +137,7 @@ module _ (path : List ℕ) (port : KnownPort) (a b d : Hosting) (s : StandsAt pa
     done_pays (Err fault) (Err other) ends told sound serves finishes ports = tt
 
   pub handling_pays : (served : Result (Unit {0}) EnumFault) (result : Result (Unit {0}) HostFault) → EndsAs served result
-      → IfErr served (λ fault. FaultAt port.port fault b.world) → ServesSound path a served b → ServesPort path port a served b
+      → IfErr served (λ fault. FaultAllowedAt port.port fault b.world) → ServesSound path a served b → ServesPort path port a served b
       → FinishesAt path served b result d
       → PaysPart handling_most (λ c done. PortPaid c path) a result d
   handling_pays served result ends told sound serves finishes = record {
@@ -147,7 +147,7 @@ module _ (path : List ℕ) (port : KnownPort) (a b d : Hosting) (s : StandsAt pa
 
 -- A port of a hub
 
-pub number_handled : (hub : List ℕ) (number : ℕ) (p : List ℕ) (due : Type 0) (a b : Hosting)
+pub number_handled : (hub : List ℕ) (number : ℕ) (p : List ℕ) (due : Type 0) (a b : HostState)
     → p ≡ hub ++ number ∷ [] → due → HandlesPort p due a (Ok tt) b
     → HandlesNumber hub number a (Ok Worked) b
 number_handled hub number p due a b is on x = record {
@@ -163,18 +163,18 @@ number_handled hub number p due a b is on x = record {
   };
 }
 
-pub number_stops : (hub : List ℕ) (number : ℕ) (p : List ℕ) (due : Type 0) (a b : Hosting)
+pub number_stops : (hub : List ℕ) (number : ℕ) (p : List ℕ) (due : Type 0) (a b : HostState)
     (fault : HostFault) (other : Result Round HostFault) → IsErr other
     → HandlesPort p due a (Err fault) b → HandlesNumber hub number a other b
 number_stops hub number p due a b fault other e x = record {
   part = part-fails handling_bound handling_bound a b fault other x.part e (omega arith);
-  handled = on_err other (λ round. HandlesBelow hub number round a b) e;
-  pays = part_failed other (Err fault) handling_most (λ (c : Weights). NumberPaid c hub number) _ a
+  handled = is_err-if_ok other (λ round. HandlesBelow hub number round a b) e;
+  pays = pays_part_failed other (Err fault) handling_most (λ (c : Weights). NumberPaid c hub number) _ a
       b e x.pays;
 }
 
 -- none is known there
-pub number_unknown : (hub : List ℕ) (number : ℕ) (h : Hosting)
+pub number_unknown : (hub : List ℕ) (number : ℕ) (h : HostState)
     → (IsPath (hub ++ number ∷ []) → known_port (hub ++ number ∷ []) h.entries ≡ None)
     → HandlesNumber hub number h (Ok Quiet) h
 number_unknown hub number h unknown = record {
@@ -188,7 +188,7 @@ number_unknown hub number h unknown = record {
 
 -- A hub was dropped
 
-pub hubs_dropped : (result : Result (Unit {0}) HostFault) (hub : List ℕ) (a b : Hosting)
+pub hubs_dropped : (result : Result (Unit {0}) HostFault) (hub : List ℕ) (a b : HostState)
     → OnOk result (IsSome (hub_facts_at hub a.entries) → hubs b.entries + 1 ≤ hubs a.entries) → IsSome (hub_facts_at hub a.entries)
     → OnOk result (hubs b.entries + 1 ≤ hubs a.entries)
 hubs_dropped (Ok done) hub a b fewer some = fewer some

@@ -14,7 +14,7 @@ use Rattle.usb_world.specs.declared.event.Event.{Event}
 use Rattle.usb_world.specs.PlanData.{PlanData}
 use Rattle.usb_world.specs.World.{World}
 use Rattle.usb_world.proofs.Interface.{course_joined}
-use Rattle.usb_bus.specs.Traces.{WentOn}
+use Rattle.usb_bus.specs.Traces.{StepRun}
 use Rattle.usb_backlog.specs.Marks.{KeepsAll, KeepsBy, unmarked}
 use Rattle.usb_backlog.proofs.Interface.{few-none}
 use Rattle.usb_pipe.specs.declared.fault.PipeFault.{PipeFault}
@@ -31,21 +31,21 @@ use Rattle.usb_host.specs.Agreement.{Agrees}
 use Rattle.usb_host.specs.Backlog.{hubs}
 use Rattle.usb_host.specs.Bounds.{drop_bound}
 use Rattle.usb_host.specs.Budget.{Costs, HubPaid, Pays, PaysPart, RoundPaid, ShowsTold, StopsWithin, ToldPaid, Weights, WorksOn, debt, event_weight, hubs_most, poll_most, told_most}
-use Rattle.usb_host.specs.Hosting.{Hosting}
+use Rattle.usb_host.specs.HostState.{HostState}
 use Rattle.usb_host.specs.Plugs.{PlugsAt, WasPlugged}
-use Rattle.usb_host.specs.Progress.{HostWent, either}
+use Rattle.usb_host.specs.Progress.{HostSteps, either}
 use Rattle.usb_host.specs.Service.{first_byte}
-use Rattle.usb_host.specs.Soundness.{DropsSound, IsDroppable, IsSound, PartStays, StaysSound}
+use Rattle.usb_host.specs.Soundness.{DropsSound, IsDroppable, HostInvariant, PartStays, KeepsInvariant}
 use Rattle.usb_host.specs.Transfers.{table_in}
 use Rattle.usb_host.specs.declared.fault.HostFault.{HostFault}
 use Rattle.usb_host.specs.declared.host.Round.{Round}
 use Rattle.usb_host.specs.declared.host.Round.TheVariants.{Worked, Quiet}
 use Rattle.usb_host.proofs.HubServices.{hub_tells}
-use Rattle.usb_host.proofs.Parts.{hub_listed}
-use Rattle.usb_host.proofs.Payments.{costs_more, costs_none, costs_pays, few_stop, on_err, pays_costs, plain_costs, plain_pays, ports_after, ports_left, stops_after, works_on}
+use Rattle.usb_host.proofs.RoundParts.{hub_listed}
+use Rattle.usb_host.proofs.Payments.{costs_more, costs_none, costs_pays, few_stop, is_err-if_ok, pays_costs, plain_costs, plain_pays, ports_after, works_on-ports, stops_after, works_on}
 use Rattle.usb_host.proofs.Polls.{hub_there}
 use Rattle.usb_host.proofs.ToldBits.{poll_shows}
-use Rattle.usb_host.proofs.Plugs.{any_cases, any_none, plugged_there}
+use Rattle.usb_host.proofs.Plugs.{any_cases, any_none, there_was_plugged}
 use Rattle.usb_host.proofs.Ranks.{rank_after, rank_rises}
 use Rattle.usb_host.proofs.SettledListings.{reached_there}
 use Rattle.usb_host.proofs.Soundness.{but_kept, occupied_kept, sound_kept}
@@ -57,10 +57,10 @@ some_facts (Some facts) some = (facts, refl)
 -- A poll
 
 -- it adds nothing but events
-module _ (c : Weights) (plan : PlanData) (a b : Hosting) (same : b.entries ≡ a.entries) (went : HostWent 768 a b) (w : WorksOn c plan a)
+module _ (c : Weights) (plan : PlanData) (a b : HostState) (same : b.entries ≡ a.entries) (went : HostSteps 768 a b) (w : WorksOn c plan a)
     (keeps : KeepsAll a.world b.world) where
   all : KeepsBy unmarked unmarked unmarked a.world b.world
-  all = keeps.all (ports_left c plan a w) unmarked unmarked unmarked few-none
+  all = keeps.all (works_on-ports c plan a w) unmarked unmarked unmarked few-none
 
   no_more : hubs b.entries ≡ hubs a.entries
   no_more = ap hubs same
@@ -75,28 +75,28 @@ module _ (c : Weights) (plan : PlanData) (a b : Hosting) (same : b.entries ≡ a
       (omega (arith, no_more)) came (omega arith)
 
   -- the hub did not answer, and was dropped
-  pub drop_paid : (d : Hosting) → HostWent drop_bound b d → b.world.fault ≡ None → KeepsAll b.world d.world → hubs d.entries + 1 ≤ hubs b.entries
+  pub drop_paid : (d : HostState) → HostSteps drop_bound b d → b.world.fault ≡ None → KeepsAll b.world d.world → hubs d.entries + 1 ≤ hubs b.entries
       → Pays c c.polls a d
   drop_paid d second still drops fewer =
       let then : KeepsBy unmarked unmarked unmarked b.world d.world = drops.all (ports_after 768 c plan a b went w still) unmarked unmarked unmarked few-none in
       plain_pays c 11968 c.polls 0 0 1 0 a d (omega (arith, went.spends.most, second.spends.most)) (omega (arith, all.looks, then.looks))
       (omega (arith, all.strays, then.strays)) (omega (arith, no_more, fewer)) (omega (arith, all.onward, then.onward)) (omega arith)
 
-drop_stop : (c : Weights) {w : World} {t : Option (List ℕ)} (a d : Hosting) → WentOn 768 a.world a.trace w t → WentOn drop_bound w t d.world d.trace
+drop_stop : (c : Weights) {w : World} {t : Option (List ℕ)} (a d : HostState) → StepRun 768 a.world a.trace w t → StepRun drop_bound w t d.world d.trace
     → StopsWithin c (poll_most c) a d
 drop_stop c a d first second =
     few_stop c (poll_most c) a d (omega (arith, first.spends.most, second.spends.most)) (omega (arith, first.spends.onward, second.spends.onward))
 
 -- and could not be dropped
-pub drop_fails : (hub : List ℕ) {w : World} {t : Option (List ℕ)} (a d : Hosting) → WentOn 768 a.world a.trace w t → WentOn drop_bound w t d.world d.trace
+pub drop_paid_fails : (hub : List ℕ) {w : World} {t : Option (List ℕ)} (a d : HostState) → StepRun 768 a.world a.trace w t → StepRun drop_bound w t d.world d.trace
     → (other : Result Round HostFault) → IsErr other → PaysPart poll_most (HubPaid hub) a other d
-drop_fails hub a d first second other e = record {
+drop_paid_fails hub a d first second other e = record {
   stops = λ c plan w. drop_stop c a d first second;
-  pays = λ c plan w still. on_err other (λ y. HubPaid hub c y a d) e;
+  pays = λ c plan w still. is_err-if_ok other (λ y. HubPaid hub c y a d) e;
 }
 
-module _ (hub : List ℕ) (a b : Hosting) (agrees : Agrees a.entries a.addresses) (same : b.entries ≡ a.entries) (pool : b.addresses ≡ a.addresses)
-    (went : HostWent 768 a b) where
+module _ (hub : List ℕ) (a b : HostState) (agrees : Agrees a.entries a.addresses) (same : b.entries ≡ a.entries) (pool : b.addresses ≡ a.addresses)
+    (went : HostSteps 768 a b) where
   agrees_on : Agrees b.entries b.addresses
   agrees_on = subst (λ (es : Entries). Agrees es b.addresses) (sym same) (subst (Agrees a.entries) (sym pool) agrees)
 
@@ -105,7 +105,7 @@ module _ (hub : List ℕ) (a b : Hosting) (agrees : Agrees a.entries a.addresses
 
   -- it has nothing to tell
   pub poll_none : (got : Option (ArrayVec ℕ)) → KeepsPolled hub (table_in a) a.world (Ok got) (table_in b) b.world
-      → (IsSound a → b.world.fault ≡ None → HubTold hub a.world (Ok got) b.world) → PaysPart poll_most (HubPaid hub) a (Ok Quiet) b
+      → (HostInvariant a → b.world.fault ≡ None → HubTold hub a.world (Ok got) b.world) → PaysPart poll_most (HubPaid hub) a (Ok Quiet) b
   poll_none got keeps tells = record {
     stops = λ c plan w. poll_stop c (poll_most c) (omega arith);
     pays = λ c plan w still.
@@ -114,9 +114,9 @@ module _ (hub : List ℕ) (a b : Hosting) (agrees : Agrees a.entries a.addresses
   }
 
   -- it told of changes
-  module _ (d : Hosting) (n : ℕ) (second : HostWent n b d) (bits : ℕ) (answer : Result (Option (ArrayVec ℕ)) PipeFault) (ok : IsOk answer)
+  module _ (d : HostState) (n : ℕ) (second : HostSteps n b d) (bits : ℕ) (answer : Result (Option (ArrayVec ℕ)) PipeFault) (ok : IsOk answer)
       (keeps : KeepsPolled hub (table_in a) a.world answer (table_in b) b.world) where
-    sound : StaysSound a b
+    sound : KeepsInvariant a b
     sound = sound_kept 768 hub (IsOk answer) a b agrees same went keeps.levels (λ still. ok)
 
     works : (c : Weights) (plan : PlanData) → WorksOn c plan a → b.world.fault ≡ None → WorksOn c plan b
@@ -130,7 +130,7 @@ module _ (hub : List ℕ) (a b : Hosting) (agrees : Agrees a.entries a.addresses
 
     pub told_fails : (result : Result (Unit {0}) HostFault) → PaysPart told_most (λ c done. ToldPaid hub bits c) b result d → (other : Result Round HostFault)
         → IsErr other → PaysPart poll_most (HubPaid hub) a other d
-    told_fails result x other e = record { stops = told_stop result x; pays = λ c plan w still. on_err other (λ y. HubPaid hub c y a d) e }
+    told_fails result x other e = record { stops = told_stop result x; pays = λ c plan w still. is_err-if_ok other (λ y. HubPaid hub c y a d) e }
 
     told_paid : (c : Weights) (plan : PlanData) → WorksOn c plan a → b.world.fault ≡ None → ToldPaid hub bits c b d
         → ShowsTold hub bits b ⊎ (a.world.taken + 1 ≤ b.world.taken) → Pays c c.polls a d
@@ -140,7 +140,7 @@ module _ (hub : List ℕ) (a b : Hosting) (agrees : Agrees a.entries a.addresses
         pays_costs c a b d (c.polls + 16768) 16000 c.polls (poll_paid c plan a b same went w (keeps.levels.worlds.backlog still) came) x.costs (omega arith)
 
     pub told_pays : (done : Unit {0}) → PaysPart told_most (λ c done. ToldPaid hub bits c) b (Ok done) d
-        → (IsSound a → IsSound b → b.world.fault ≡ None → ShowsTold hub bits b ⊎ (a.world.taken + 1 ≤ b.world.taken))
+        → (HostInvariant a → HostInvariant b → b.world.fault ≡ None → ShowsTold hub bits b ⊎ (a.world.taken + 1 ≤ b.world.taken))
         → PaysPart poll_most (HubPaid hub) a (Ok Worked) d
     told_pays done x shows = record {
       stops = told_stop (Ok done) x;
@@ -150,9 +150,9 @@ module _ (hub : List ℕ) (a b : Hosting) (agrees : Agrees a.entries a.addresses
     }
 
   -- it did not answer
-  module _ (d : Hosting) (second : HostWent drop_bound b d) (answer : Result (Option (ArrayVec ℕ)) PipeFault)
+  module _ (d : HostState) (second : HostSteps drop_bound b d) (answer : Result (Option (ArrayVec ℕ)) PipeFault)
       (keeps : KeepsPolled hub (table_in a) a.world answer (table_in b) b.world) where
-    may_drop : IsSome (hub_facts_at hub a.entries) → IsSound a → IsDroppable hub b
+    may_drop : IsSome (hub_facts_at hub a.entries) → HostInvariant a → IsDroppable hub b
     may_drop listed s =
         let there : IsSome (finding_at hub b.entries) =
         subst (λ (es : Entries). IsSome (finding_at hub es)) (sym same) (hub_listed (finding_at hub a.entries) listed) in
@@ -176,15 +176,15 @@ module _ (hub : List ℕ) (a b : Hosting) (agrees : Agrees a.entries a.addresses
   pub poll_fails : (other : Result Round HostFault) → IsErr other → PaysPart poll_most (HubPaid hub) a other b
   poll_fails other e = record {
     stops = λ c plan w. poll_stop c (poll_most c) (omega arith);
-    pays = λ c plan w still. on_err other (λ y. HubPaid hub c y a b) e;
+    pays = λ c plan w still. is_err-if_ok other (λ y. HubPaid hub c y a b) e;
   }
 
 -- the ports of which it told show their changes, or an event came
-module _ (hub : List ℕ) (a b : Hosting) (agrees : Agrees a.entries a.addresses) (same : b.entries ≡ a.entries) (pool : b.addresses ≡ a.addresses)
-    (stopped : b.stopped ≡ a.stopped) (went : HostWent 768 a b) (listed : IsSome (hub_facts_at hub a.entries)) (got : Option (ArrayVec ℕ))
+module _ (hub : List ℕ) (a b : HostState) (agrees : Agrees a.entries a.addresses) (same : b.entries ≡ a.entries) (pool : b.addresses ≡ a.addresses)
+    (stopped : b.stopped ≡ a.stopped) (went : HostSteps 768 a b) (listed : IsSome (hub_facts_at hub a.entries)) (got : Option (ArrayVec ℕ))
     (polled : PipesPolled (pipes_at hub (table_in a)) a.world (Ok got) (pipes_at hub (table_in b)) b.world)
     (keeps : KeepsPolled hub (table_in a) a.world (Ok got) (table_in b) b.world) where
-  pub tells_shows : (packet : ArrayVec ℕ) (byte : ℕ) → got ≡ Some packet → byte ≡ first_byte packet.items → IsSound a → IsSound b → b.world.fault ≡ None
+  pub tells_shows : (packet : ArrayVec ℕ) (byte : ℕ) → got ≡ Some packet → byte ≡ first_byte packet.items → HostInvariant a → HostInvariant b → b.world.fault ≡ None
       → ShowsTold hub byte b ⊎ (a.world.taken + 1 ≤ b.world.taken)
   tells_shows packet byte is read s t still =
       let tells : HubTold hub a.world (Ok got) b.world = hub_tells hub a b same pool stopped went listed got polled keeps s still in
@@ -271,9 +271,9 @@ plugged_more events m n r s le on =
       count_less (λ (e : Event). plugs_below r e.action) (λ (e : Event). plugs_below s e.action) (λ e. below_later r s e.action on) (take n events),
     )
 
-plugged_next : (events : List Event) (m n r s : ℕ) (path : List ℕ) → m ≤ n → r ≤ rank_of path → rank_of path < s → WasPlugged events n path
+plugged_below-more : (events : List Event) (m n r s : ℕ) (path : List ℕ) → m ≤ n → r ≤ rank_of path → rank_of path < s → WasPlugged events n path
     → plugged_below events m r + 1 ≤ plugged_below events n s
-plugged_next events m n r s path le least less was =
+plugged_below-more events m n r s path le least less was =
     let fewer =
     count_fewer (λ (e : Event). plugs_below r e.action) (λ (e : Event). plugs_below s e.action) (λ e. below_later r s e.action (omega (arith, least, less))) (take n events)
     (any_wider (λ (e : Event). PlugsAt path e.action) (λ (e : Event). (plugs_below r e.action ≡ false) × (plugs_below s e.action ≡ true)) (λ e. below_new r s path e.action least less) (take n events) was) in
@@ -289,49 +289,49 @@ rank_before last path before is after = omega (arith, rank_rises last path befor
 -- Hubs that were polled
 
 -- so many polls found nothing; all else is paid, and the polls of a round where one found something
-abbrev pub PollsPaid : Weights → ℕ → Round → Hosting → Hosting → Type 0
+abbrev pub PollsPaid : Weights → ℕ → Round → HostState → HostState → Type 0
 PollsPaid c polls Worked a b = b.world.attempts + debt c b + c.polls + event_weight c * a.world.taken ≤ a.world.attempts + debt c a + event_weight c * b.world.taken + 768 * polls
 PollsPaid c polls Quiet a b = Costs c (768 * polls) a b
 
-pub record HubsPaid (c : Weights) (events : List Event) (last : Option (List ℕ)) (round : Round) (a b : Hosting) : Type 0 where
+pub record HubsPaid (c : Weights) (events : List Event) (last : Option (List ℕ)) (round : Round) (a b : HostState) : Type 0 where
   pub polls : ℕ
   pub few : polls ≤ plugged_below events b.world.taken (rank_after last)
   pub paid : PollsPaid c polls round a b
 
-pub record HubsSoFar (last : Option (List ℕ)) (round : Round) (a b : Hosting) : Type 0 where
+pub record HubsSoFar (last : Option (List ℕ)) (round : Round) (a b : HostState) : Type 0 where
   pub stops : (c : Weights) (plan : PlanData) → WorksOn c plan a → StopsWithin c (hubs_most c) a b
   pub pays : (c : Weights) (plan : PlanData) → WorksOn c plan a → b.world.fault ≡ None → HubsPaid c plan.events last round a b
 
-pub hubs_none : (h : Hosting) → HubsSoFar None Quiet h h
+pub hubs_none : (h : HostState) → HubsSoFar None Quiet h h
 hubs_none h = record {
   stops = λ c plan w. few_stop c (hubs_most c) h h (omega arith) (omega arith);
   pays = λ c plan w still. record { polls = 0; few = omega arith; paid = costs_none c 0 h };
 }
 
 -- no more polls than events
-few_polls : (c : Weights) (plan : PlanData) (last : Option (List ℕ)) (round : Round) (a b : Hosting) → WorksOn c plan a
+few_polls : (c : Weights) (plan : PlanData) (last : Option (List ℕ)) (round : Round) (a b : HostState) → WorksOn c plan a
     → (x : HubsPaid c plan.events last round a b) → 768 * x.polls ≤ c.polls
 few_polls c plan last round a b w x = omega (arith, x.few, plugged_most plan.events b.world.taken (rank_after last), w.polls)
 
-done_by : (c : Weights) (polls : ℕ) (round : Round) (a b : Hosting) → 768 * polls ≤ c.polls → PollsPaid c polls round a b → RoundPaid c round a b
+done_by : (c : Weights) (polls : ℕ) (round : Round) (a b : HostState) → 768 * polls ≤ c.polls → PollsPaid c polls round a b → RoundPaid c round a b
 done_by c polls Worked a b few x = omega (arith, x, few)
 done_by c polls Quiet a b few x = costs_more c a b (768 * polls) c.polls x few
 
-cost_by : (c : Weights) (polls : ℕ) (round : Round) (a b : Hosting) → 768 * polls ≤ c.polls → PollsPaid c polls round a b → Costs c c.polls a b
+cost_by : (c : Weights) (polls : ℕ) (round : Round) (a b : HostState) → 768 * polls ≤ c.polls → PollsPaid c polls round a b → Costs c c.polls a b
 cost_by c polls Worked a b few x = omega (arith, x, few)
 cost_by c polls Quiet a b few x = costs_more c a b (768 * polls) c.polls x few
 
-quiet_next : (c : Weights) (polls : ℕ) (round : Round) (a b d : Hosting) → PollsPaid c polls round a b → Costs c 768 b d
+quiet_next : (c : Weights) (polls : ℕ) (round : Round) (a b d : HostState) → PollsPaid c polls round a b → Costs c 768 b d
     → PollsPaid c (polls + 1) (either round Quiet) a d
 quiet_next c polls Worked a b d x y = omega (arith, x, y)
 quiet_next c polls Quiet a b d x y = omega (arith, x, y)
 
-worked_next : (c : Weights) (polls : ℕ) (round : Round) (a b d : Hosting) → PollsPaid c polls round a b → Pays c c.polls b d
+worked_next : (c : Weights) (polls : ℕ) (round : Round) (a b d : HostState) → PollsPaid c polls round a b → Pays c c.polls b d
     → PollsPaid c polls (either round Worked) a d
 worked_next c polls Worked a b d x y = omega (arith, x, y)
 worked_next c polls Quiet a b d x y = omega (arith, x, y)
 
-module _ (m n : ℕ) (last : Option (List ℕ)) (hub : List ℕ) (round : Round) (a b d : Hosting) (first : HostWent m a b) (second : HostWent n b d)
+module _ (m n : ℕ) (last : Option (List ℕ)) (hub : List ℕ) (round : Round) (a b d : HostState) (first : HostSteps m a b) (second : HostSteps n b d)
     (sound : PartStays a b) (before : HubsSoFar last round a b) where
   working : (c : Weights) (plan : PlanData) → WorksOn c plan a → b.world.fault ≡ None → WorksOn c plan b
   working c plan w still = works_on m c plan a b first w (sound.sound.sound w.sound) still
@@ -344,8 +344,8 @@ module _ (m n : ℕ) (last : Option (List ℕ)) (hub : List ℕ) (round : Round)
       (λ still. x.stops c plan (working c plan w still)) (omega arith)
 
   pub hubs_failed : {A : Type 0} (result : Result Round HostFault) → PaysPart poll_most (HubPaid hub) b result d
-      → (other : Result A HostFault) (Done : Weights → A → Hosting → Hosting → Type 0) → IsErr other → PaysPart hubs_most Done a other d
-  hubs_failed result x other Done e = record { stops = hubs_stop result x; pays = λ c plan w still. on_err other (λ y. Done c y a d) e }
+      → (other : Result A HostFault) (Done : Weights → A → HostState → HostState → Type 0) → IsErr other → PaysPart hubs_most Done a other d
+  hubs_failed result x other Done e = record { stops = hubs_stop result x; pays = λ c plan w still. is_err-if_ok other (λ y. Done c y a d) e }
 
   pub hubs_next : (one : Round) → rank_after last ≤ rank_of hub → PaysPart poll_most (HubPaid hub) b (Ok one) d → HubsSoFar (Some hub) (either round one) a d
   hubs_next one rises x = record {
@@ -364,15 +364,15 @@ module _ (m n : ℕ) (last : Option (List ℕ)) (hub : List ℕ) (round : Round)
       }
       polled c plan w still Quiet y z =
           let was : WasPlugged plan.events d.world.taken hub =
-          plugged_there plan w.is w.paths d.world (course_joined w.course (went_course n b.world d.world second still)) hub y.1 in
+          there_was_plugged plan w.is w.paths d.world (course_joined w.course (went_course n b.world d.world second still)) hub y.1 in
           record {
             polls = z.polls + 1;
-            few = omega (arith, z.few, plugged_next plan.events b.world.taken d.world.taken (rank_after last) (rank_after (Some hub)) hub second.spends.onward rises (omega arith) was);
+            few = omega (arith, z.few, plugged_below-more plan.events b.world.taken d.world.taken (rank_after last) (rank_after (Some hub)) hub second.spends.onward rises (omega arith) was);
             paid = quiet_next c z.polls round a b d z.paid y.0;
           }
 
 -- each of them was polled
-pub hubs_all : (last : Option (List ℕ)) (round : Round) (a b : Hosting) → HubsSoFar last round a b → PaysPart hubs_most RoundPaid a (Ok round) b
+pub hubs_all : (last : Option (List ℕ)) (round : Round) (a b : HostState) → HubsSoFar last round a b → PaysPart hubs_most RoundPaid a (Ok round) b
 hubs_all last round a b x = record {
   stops = x.stops;
   pays = λ c plan w still. let y = x.pays c plan w still in done_by c y.polls round a b (few_polls c plan last round a b w y) y.paid;

@@ -12,30 +12,30 @@ use Rattle.usb_table.specs.Transfers.{PipesPolled}
 use Rattle.usb_host.specs.Agreement.{Agrees}
 use Rattle.usb_host.specs.Bounds.{drop_bound, hub_poll_bound, told_bound}
 use Rattle.usb_host.specs.Budget.{HubPaid, poll_most}
-use Rattle.usb_host.specs.Hosting.{Hosting}
+use Rattle.usb_host.specs.HostState.{HostState}
 use Rattle.usb_host.specs.Ownership.{StaysOwned}
-use Rattle.usb_host.specs.Progress.{HostGoes, HostWent}
+use Rattle.usb_host.specs.Progress.{HostRuns, HostSteps}
 use Rattle.usb_host.specs.Service.{DropsOne, ServesHub, ServesTold, first_byte}
-use Rattle.usb_host.specs.Soundness.{IsSound}
+use Rattle.usb_host.specs.Soundness.{HostInvariant}
 use Rattle.usb_host.specs.Transfers.{table_in}
 use Rattle.usb_host.specs.declared.fault.HostFault.{HostFault}
 use Rattle.usb_host.specs.declared.host.Round.{Round}
 use Rattle.usb_host.specs.declared.host.Round.TheVariants.{Quiet, Worked}
-use Rattle.usb_host.proofs.Handlings.{hub_lost}
-use Rattle.usb_host.proofs.HubPayments.{drop_fails, drop_pays, poll_fails, poll_none, tells_shows, told_fails, told_pays}
+use Rattle.usb_host.proofs.OwnedPorts.{dropped_hub_owned}
+use Rattle.usb_host.proofs.HubPayments.{drop_paid_fails, drop_pays, poll_fails, poll_none, tells_shows, told_fails, told_pays}
 use Rattle.usb_host.proofs.HubServices.{hub_tells, polls_lost, polls_quiet, polls_told, told_of_ports}
-use Rattle.usb_host.proofs.Joins.{goes_then, goes_wider}
+use Rattle.usb_host.proofs.StepSums.{host_goes_then, goes_wider}
 use Rattle.usb_host.proofs.Owners.{single_kept, single_then, stays_kept}
-use Rattle.usb_host.proofs.Parts.{hub_fails, hub_gone, hub_listed, hub_quiet, hub_told, part-fails, unserved}
-use Rattle.usb_host.proofs.Payments.{on_err, pays_where}
+use Rattle.usb_host.proofs.RoundParts.{hub_fails, hub_gone, hub_listed, hub_quiet, hub_told, part-fails, polled_hub_not_failed}
+use Rattle.usb_host.proofs.Payments.{is_err-if_ok, pays_where}
 use Rattle.usb_host.proofs.Soundness.{sound_kept}
 
-module _ (hub : List ℕ) (a b : Hosting) (agrees : Agrees a.entries a.addresses)
+module _ (hub : List ℕ) (a b : HostState) (agrees : Agrees a.entries a.addresses)
     (same : b.entries ≡ a.entries) (pool : b.addresses ≡ a.addresses)
-    (stopped : b.stopped ≡ a.stopped) (went : HostWent 768 a b)
+    (stopped : b.stopped ≡ a.stopped) (went : HostSteps 768 a b)
     (through : GoesThrough hub (table_in a) (table_in b))
     (listed : IsSome (hub_facts_at hub a.entries)) where
-  poll_goes : HostGoes 768 a b
+  poll_goes : HostRuns 768 a b
   poll_goes = record { went = went; going = stopped }
 
   -- the bus made no more steps
@@ -73,8 +73,8 @@ module _ (hub : List ℕ) (a b : Hosting) (agrees : Agrees a.entries a.addresses
 
     -- it told of changes, which were served
     module _ (packet : ArrayVec ℕ) (byte : ℕ) (is : got ≡ Some packet)
-        (read : byte ≡ first_byte packet.items) (still : b.world.fault ≡ None) (d : Hosting) where
-      of_ports : IsSound a → byte ≢ 1
+        (read : byte ≡ first_byte packet.items) (still : b.world.fault ≡ None) (d : HostState) where
+      of_ports : HostInvariant a → byte ≢ 1
       of_ports s =
           told_of_ports hub a b same pool stopped went listed got asks keeps packet byte is read
           still s
@@ -101,11 +101,11 @@ module _ (hub : List ℕ) (a b : Hosting) (agrees : Agrees a.entries a.addresses
       poll_unserved fault other e y = record {
         keeps = hub_fails other a d e hub (part-fails {A = Unit {0}} hub_poll_bound hub_poll_bound
             a d fault other (record {
-              goes = goes_then hub_poll_bound 768 told_bound a b d poll_goes y.goes (omega arith);
+              goes = host_goes_then hub_poll_bound 768 told_bound a b d poll_goes y.goes (omega arith);
               owned = single_then a b d told_owned y.owned;
               sound = tt;
             }) e (omega arith));
-        polls = on_err other _ e;
+        polls = is_err-if_ok other _ e;
         pays = pays_where poll_most (HubPaid hub) a other d
             (λ s. told_fails hub a b agrees same pool went d told_bound y.goes.went byte (Ok got)
             refl keeps (Err fault) (y.ports (of_ports s)).pays other e);
@@ -116,10 +116,10 @@ module _ (hub : List ℕ) (a b : Hosting) (agrees : Agrees a.entries a.addresses
       (asks : PipesPolled (pipes_at hub (table_in a)) a.world (Err why)
       (pipes_at hub (table_in b)) b.world)
       (keeps : KeepsPolled hub (table_in a) a.world (Err why) (table_in b) b.world)
-      (d : Hosting) where
+      (d : HostState) where
     not_served : b.world.fault ≡ None → NoHubFailed {A = Option (ArrayVec ℕ)} (Err why) → ⊥
     not_served =
-        unserved (pipes_at hub (table_in a)) (pipes_at hub (table_in b)) why a.world b.world asks
+        polled_hub_not_failed (pipes_at hub (table_in a)) (pipes_at hub (table_in b)) why a.world b.world asks
 
     -- and was dropped
     pub poll_lost : a.world.attempts + 1 ≤ b.world.attempts → DropsOne hub b (Ok tt) d
@@ -142,11 +142,11 @@ module _ (hub : List ℕ) (a b : Hosting) (agrees : Agrees a.entries a.addresses
         record {
           keeps = hub_fails other a d e hub (part-fails {A = Unit {0}} hub_poll_bound
               hub_poll_bound a d fault other (record {
-                goes = goes_then hub_poll_bound 768 drop_bound a b d poll_goes y.goes
+                goes = host_goes_then hub_poll_bound 768 drop_bound a b d poll_goes y.goes
                     (omega arith);
-                owned = hub_lost hub a b (Err fault) d there polled y.owned;
+                owned = dropped_hub_owned hub a b (Err fault) d there polled y.owned;
                 sound = tt;
               }) e (omega arith));
-          polls = on_err other _ e;
-          pays = drop_fails hub a d went y.goes.went other e;
+          polls = is_err-if_ok other _ e;
+          pays = drop_paid_fails hub a d went y.goes.went other e;
         }

@@ -20,11 +20,11 @@ use Rattle.usb_table.specs.Levels.{BitsOf, HubTold, KeepsPolled}
 use Rattle.usb_table.specs.Listing.{hub_facts_at}
 use Rattle.usb_table.specs.Table.{pipes_at}
 use Rattle.usb_table.specs.Transfers.{PipesPolled}
-use Rattle.usb_host.specs.Hosting.{Hosting}
+use Rattle.usb_host.specs.HostState.{HostState}
 use Rattle.usb_host.specs.Ownership.{HasLost}
-use Rattle.usb_host.specs.Progress.{AddsNoWork, Advances, HostGoes, HostWent, Remains, waiting}
+use Rattle.usb_host.specs.Progress.{AddsNoWork, HostProgress, HostRuns, HostSteps, Remains, waiting}
 use Rattle.usb_host.specs.Service.{PolledOnce, PollsHub, ServedTold, first_byte, not_heard, told_none, told_some}
-use Rattle.usb_host.specs.Soundness.{IsSound}
+use Rattle.usb_host.specs.Soundness.{HostInvariant}
 use Rattle.usb_host.specs.Transfers.{table_in}
 use Rattle.usb_host.specs.declared.host.Round.TheVariants.{Worked, Quiet}
 use Rattle.usb_host.proofs.Polls.{hub_there}
@@ -42,14 +42,14 @@ bit_not bits n not = ne_eqb (bits / 2 ^ n % 2) 1 (λ is. not (and_mask (bits / 2
 
 -- A poll changes no entry
 
-remains_by : (a b : Hosting) → b.entries ≡ a.entries → b.addresses ≡ a.addresses → b.stopped ≡ a.stopped → Remains a b
+remains_by : (a b : HostState) → b.entries ≡ a.entries → b.addresses ≡ a.addresses → b.stopped ≡ a.stopped → Remains a b
 remains_by a b same pool stopped =
     ap (λ es. record b { entries = es }) same ∙ ap (λ ps. record b { entries = a.entries; addresses = ps }) pool ∙ ap (λ (x : Bool). record b { entries = a.entries; addresses = a.addresses; stopped = x }) stopped
 
 -- an attempt was made, and what came after it took nothing back
-polled_on : (a b c : Hosting) → Remains a b → HostWent 768 a b → a.world.attempts + 1 ≤ b.world.attempts → AddsNoWork b c → Advances a c
+polled_on : (a b c : HostState) → Remains a b → HostSteps 768 a b → a.world.attempts + 1 ≤ b.world.attempts → AddsNoWork b c → HostProgress a c
 polled_on a b c r went more holds =
-    let same : waiting b.entries ≡ waiting a.entries = ap (λ (h : Hosting). waiting h.entries) r in
+    let same : waiting b.entries ≡ waiting a.entries = ap (λ (h : HostState). waiting h.entries) r in
     omega (arith, same, went.spends.served, went.spends.later, more, holds)
 
 -- a poll that failed took an attempt, where it was not the bus that failed
@@ -63,7 +63,7 @@ failed_more old new Memory other x = omega (arith, x.least)
 
 -- What it tells
 
-module _ (hub : List ℕ) (a b : Hosting) (same : b.entries ≡ a.entries) (pool : b.addresses ≡ a.addresses) (stopped : b.stopped ≡ a.stopped) (went : HostWent 768 a b) (listed : IsSome (hub_facts_at hub a.entries)) where
+module _ (hub : List ℕ) (a b : HostState) (same : b.entries ≡ a.entries) (pool : b.addresses ≡ a.addresses) (stopped : b.stopped ≡ a.stopped) (went : HostSteps 768 a b) (listed : IsSome (hub_facts_at hub a.entries)) where
   r : Remains a b
   r = remains_by a b same pool stopped
 
@@ -78,7 +78,7 @@ module _ (hub : List ℕ) (a b : Hosting) (same : b.entries ≡ a.entries) (pool
           ap (λ (d : Accepted). is_some d.hub) (sym is) ∙ ap is_some there.told
 
   module _ (got : Option (ArrayVec ℕ)) (polled : PipesPolled (pipes_at hub (table_in a)) a.world (Ok got) (pipes_at hub (table_in b)) b.world) (keeps : KeepsPolled hub (table_in a) a.world (Ok got) (table_in b) b.world) where
-    pub hub_tells : IsSound a → b.world.fault ≡ None → HubTold hub a.world (Ok got) b.world
+    pub hub_tells : HostInvariant a → b.world.fault ≡ None → HubTold hub a.world (Ok got) b.world
     hub_tells s still = pick (hub_facts_at hub a.entries) refl listed
       where
         pick : (o : Option HubFacts) → hub_facts_at hub a.entries ≡ o → IsSome o → HubTold hub a.world (Ok got) b.world
@@ -89,7 +89,7 @@ module _ (hub : List ℕ) (a b : Hosting) (same : b.entries ≡ a.entries) (pool
             keeps.told (s.owned.so before) (s.level before hub) there.device (ap accepted_device_of there.found) (ap is_some there.told) refl
 
     -- what is told is of ports: the hub itself has no change
-    pub told_of_ports : (packet : ArrayVec ℕ) (byte : ℕ) → got ≡ Some packet → byte ≡ first_byte packet.items → b.world.fault ≡ None → IsSound a → byte ≢ 1
+    pub told_of_ports : (packet : ArrayVec ℕ) (byte : ℕ) → got ≡ Some packet → byte ≡ first_byte packet.items → b.world.fault ≡ None → HostInvariant a → byte ≢ 1
     told_of_ports packet byte is read still s one =
         let t : ByteTold (BitsOf hub a.world b.world) packet.items = subst (λ (o : Option (ArrayVec ℕ)). PollTells (BitsOf hub a.world b.world) (Ok o)) is (hub_tells s still).tells in
         none_own (row_of t.so.ports) (sym t.so.told ∙ sym (read ∙ ap first_byte t.is) ∙ one)
@@ -100,7 +100,7 @@ module _ (hub : List ℕ) (a b : Hosting) (same : b.entries ≡ a.entries) (pool
     pub polls_quiet : got ≡ None → PollsHub hub Quiet a b
     polls_quiet none = record { did = r; polled = λ s still. told_none (once None none) (subst (λ (o : Option (ArrayVec ℕ)). PollTells (BitsOf hub a.world b.world) (Ok o)) none (hub_tells s still).tells) }
 
-    pub polls_told : (packet : ArrayVec ℕ) (byte n : ℕ) (c : Hosting) → got ≡ Some packet → byte ≡ first_byte packet.items → HostGoes n b c → a.world.attempts + 1 ≤ b.world.attempts → AddsNoWork b c → (IsSound a → ServedTold hub byte 8 b c) → PollsHub hub Worked a c
+    pub polls_told : (packet : ArrayVec ℕ) (byte n : ℕ) (c : HostState) → got ≡ Some packet → byte ≡ first_byte packet.items → HostRuns n b c → a.world.attempts + 1 ≤ b.world.attempts → AddsNoWork b c → (HostInvariant a → ServedTold hub byte 8 b c) → PollsHub hub Worked a c
     polls_told packet byte n c is read goes more holds served = record {
       did = polled_on a b c r went more holds;
       polled = λ s still.
@@ -111,8 +111,8 @@ module _ (hub : List ℕ) (a b : Hosting) (same : b.entries ≡ a.entries) (pool
     }
 
   -- it did not answer
-  pub polls_lost : (fault : PipeFault) → PipesPolled (pipes_at hub (table_in a)) a.world (Err fault) (pipes_at hub (table_in b)) b.world → KeepsPolled hub (table_in a) a.world (Err fault) (table_in b) b.world → (n : ℕ) (c : Hosting) → (b.world.fault ≡ None → NoHubFailed {A = Option (ArrayVec ℕ)} (Err fault) → ⊥)
-      → HostGoes n b c → a.world.attempts + 1 ≤ b.world.attempts → AddsNoWork b c → HasLost hub b.entries c.entries → PollsHub hub Worked a c
+  pub polls_lost : (fault : PipeFault) → PipesPolled (pipes_at hub (table_in a)) a.world (Err fault) (pipes_at hub (table_in b)) b.world → KeepsPolled hub (table_in a) a.world (Err fault) (table_in b) b.world → (n : ℕ) (c : HostState) → (b.world.fault ≡ None → NoHubFailed {A = Option (ArrayVec ℕ)} (Err fault) → ⊥)
+      → HostRuns n b c → a.world.attempts + 1 ≤ b.world.attempts → AddsNoWork b c → HasLost hub b.entries c.entries → PollsHub hub Worked a c
   polls_lost fault polled keeps n c failed goes more holds loses = record {
     did = polled_on a b c r went more holds;
     polled = λ s still.

@@ -14,7 +14,7 @@ use Rattle.usb_table.proofs.Interface.{port_found-some}
 use Rattle.usb_resources.specs.Power.{supply_of}
 use Rattle.usb_port.specs.Path.{IsPortNumber}
 use Rattle.usb_host.specs.Agreement.{Agrees}
-use Rattle.usb_host.specs.Hosting.{Hosting}
+use Rattle.usb_host.specs.HostState.{HostState}
 use Rattle.usb_host.specs.Ports.{IsDue, IsPortAt}
 
 pub below_due : (hub : List ℕ) (n : ℕ) (es : Entries) (port : KnownPort) (w : World) → 1 ≤ length hub → known_port (hub ++ n ∷ []) es ≡ Some port → IsDue w port.port
@@ -24,7 +24,7 @@ below_due hub n es port w least e =
     subst (λ (p : KnownPort). IsDue w p.port) (sym found.is) tt
 
 -- a port of the root
-pub root_stands : (modelled : Bool) (number : ℕ) (h : Hosting)
+pub root_stands : (modelled : Bool) (number : ℕ) (h : HostState)
     → (modelled ≡ true → IsRootPort h.world number) → IsPortNumber number
     → Agrees h.entries h.addresses
     → IsPortAt modelled (number ∷ [])

@@ -3,16 +3,16 @@ use Rattle.std.proofs.Common.{◌≤◌, ℕ, ◌+◌, ◌*◌, arith}
 use Rattle.std.proofs.Math.Nat.{mul-le-mul_left}
 
 -- so many looks, other changes and hubs, where the texts of a device say w bytes at most and a round's polls are z
-abbrev pub owed : ℕ → ℕ → ℕ → ℕ → ℕ → ℕ
-owed w z k s h = (321104 + 100 * w + 3 * z) * k + (19968 + z) * s + (31168 + z) * h
+abbrev pub work_owed : ℕ → ℕ → ℕ → ℕ → ℕ → ℕ
+work_owed w z k s h = (321104 + 100 * w + 3 * z) * k + (19968 + z) * s + (31168 + z) * h
 
 -- so many events
-abbrev pub came : ℕ → ℕ → ℕ → ℕ
-came w z t = (2611968 + 800 * w + 26 * z) * t
+abbrev pub came_cost : ℕ → ℕ → ℕ → ℕ
+came_cost w z t = (2611968 + 800 * w + 26 * z) * t
 
 -- a look is paid, events may have come, and no more hubs are listed than these
 pub sums_look : (w z n h h' spare a a' k k' s s' t t' : ℕ) → a' ≤ a + n → k' + 1 + 8 * t ≤ k + 8 * t' → s' + t ≤ s + 1 + t' → t ≤ t'
-    → n + (31168 + z) * h' + spare ≤ (31168 + z) * h + 301136 + 100 * w + 2 * z → a' + owed w z k' s' h' + spare + came w z t ≤ a + owed w z k s h + came w z t'
+    → n + (31168 + z) * h' + spare ≤ (31168 + z) * h + 301136 + 100 * w + 2 * z → a' + work_owed w z k' s' h' + spare + came_cost w z t ≤ a + work_owed w z k s h + came_cost w z t'
 sums_look w z n h h' spare a a' k k' s s' t t' few looks strays on fits =
     let x = mul-le-mul_left (321104 + 100 * w + 3 * z) looks in
     let y = mul-le-mul_left (19968 + z) strays in
@@ -22,7 +22,7 @@ sums_look w z n h h' spare a a' k k' s s' t t' few looks strays on fits =
 -- no more is left to do, and so many looks, other changes, hubs and events are paid
 pub sums_plain : (w z n spare i j f g a a' k k' s s' h h' t t' : ℕ) → a' ≤ a + n → k' + i + 7 * t ≤ k + 7 * t' → s' + j + t ≤ s + t' → h' + f ≤ h → t + g ≤ t'
     → n + spare ≤ (321104 + 100 * w + 3 * z) * i + (19968 + z) * j + (31168 + z) * f + (344272 + 100 * w + 4 * z) * g
-    → a' + owed w z k' s' h' + spare + came w z t ≤ a + owed w z k s h + came w z t'
+    → a' + work_owed w z k' s' h' + spare + came_cost w z t ≤ a + work_owed w z k s h + came_cost w z t'
 sums_plain w z n spare i j f g a a' k k' s s' h h' t t' few looks strays hubs on fits =
     let x = mul-le-mul_left (321104 + 100 * w + 3 * z) looks in
     let y = mul-le-mul_left (19968 + z) strays in
@@ -32,7 +32,7 @@ sums_plain w z n spare i j f g a a' k k' s s' h h' t t' few looks strays hubs on
 
 -- no more is left to do, and nothing is paid but the events
 pub sums_costs : (w z n a a' k k' s s' h h' t t' : ℕ) → a' ≤ a + n → k' + 7 * t ≤ k + 7 * t' → s' + t ≤ s + t' → h' ≤ h → t ≤ t'
-    → a' + owed w z k' s' h' + came w z t ≤ a + owed w z k s h + came w z t' + n
+    → a' + work_owed w z k' s' h' + came_cost w z t ≤ a + work_owed w z k s h + came_cost w z t' + n
 sums_costs w z n a a' k k' s s' h h' t t' few looks strays hubs on =
     let x = mul-le-mul_left (321104 + 100 * w + 3 * z) looks in
     let y = mul-le-mul_left (19968 + z) strays in

@@ -3,9 +3,9 @@ pub mod Backlogs
 pub mod Balances
 pub mod BulkPipes
 pub mod EntryClaims
-pub mod Climbs
+pub mod ParentPaths
 pub mod Interface
-pub mod Looks
+pub mod HostProgress
 pub mod HubCounts
 pub mod LookPayments
 pub mod ServePayments
@@ -28,16 +28,16 @@ pub mod Enumerations
 pub mod Fairness
 pub mod Soundness
 pub mod CalmPorts
-pub mod Silences
+pub mod UnchangedHubs
 pub mod Polls
 pub mod RestingRounds
 mod IdleRounds
-pub mod Parts
-pub mod Handlings
+pub mod RoundParts
+pub mod OwnedPorts
 pub mod Hubs
-pub mod Joins
+pub mod StepSums
 pub mod Ranks
-pub mod Stations
+pub mod PortLocations
 pub mod WaitingDevices
 pub mod SettledListings
 pub mod KnowledgeKept

@@ -11,27 +11,28 @@ use Rattle.usb_port.specs.PortState.{PortState, powered_on, is_attached, speed_o
 use Rattle.usb_device.specs.Rows.{forgotten}
 use Rattle.usb_device.specs.Tree.{Ports, ended, vacant, taken, row_of, reach, reach_at, state_at}
 use Rattle.usb_device.specs.Delivery.{all_forgotten}
-use Rattle.usb_world.specs.Paths.{live_at, pend_at}
-use Rattle.usb_world.specs.SanePorts.{IsSane}
-use Rattle.usb_world.proofs.Interface.{no}
+use Rattle.usb_world.specs.Paths.{has_power_at, pending_at}
+use Rattle.usb_world.specs.SanePorts.{Consistent}
+use Rattle.usb_world.proofs.Interface.{false_true}
 use Rattle.usb_world.specs.World.{World}
 use Rattle.usb_resources.specs.Pool.{Addresses}
 use Rattle.usb_table.specs.Table.{Table, empty}
-use Rattle.usb_host.specs.Hosting.{Hosting, opening_host, with_power}
-use Rattle.usb_host.specs.Ownership.{Owning, IsUntouched}
-use Rattle.usb_host.specs.Soundness.{IsSound, IsUnpowered, Known}
+use Rattle.usb_host.specs.HostState.{HostState, opening_host, with_power}
+use Rattle.usb_host.specs.Ownership.{HostMapHolds, IsUntouched}
+use Rattle.usb_host.specs.Soundness.{HostInvariant, IsUnpowered, PortsListed}
 use Rattle.usb_host.proofs.Roots.{rooted_opening}
+use Rattle.usb_device.proofs.Interface.{power_enable}
 
-abbrev going : World → Option (List ℕ) → Table → Addresses → Hosting
+abbrev going : World → Option (List ℕ) → Table → Addresses → HostState
 going w t table addresses = record { world = w; trace = t; entries = table.entries; pipes = table.pipes; addresses = addresses; stopped = false }
 
-abbrev powered : World → World
-powered w = record w { roots = with_power w.roots }
+abbrev world_powered : World → World
+world_powered w = record w { roots = with_power w.roots }
 
 -- power is given in silence
-pub opened : (w0 w : World) (t0 t : Option (List ℕ)) (table : Table) (addresses : Addresses) → w ≡ powered w0 → t ≡ t0 → table ≡ empty → addresses ≡ set.empty → going w t table addresses ≡ opening_host w0 t0
-opened w0 w t0 t table addresses e silent f h =
-    ap (λ v. going v t table addresses) e ∙ ap (λ s. going (powered w0) s table addresses) silent ∙ ap (λ x. going (powered w0) t0 x addresses) f ∙ ap (λ s. going (powered w0) t0 empty s) h
+pub powered_is_opening : (w0 w : World) (t0 t : Option (List ℕ)) (table : Table) (addresses : Addresses) → w ≡ world_powered w0 → t ≡ t0 → table ≡ empty → addresses ≡ set.empty → going w t table addresses ≡ opening_host w0 t0
+powered_is_opening w0 w t0 t table addresses e silent f h =
+    ap (λ v. going v t table addresses) e ∙ ap (λ s. going (world_powered w0) s table addresses) silent ∙ ap (λ x. going (world_powered w0) t0 x addresses) f ∙ ap (λ s. going (world_powered w0) t0 empty s) h
 
 -- Power moves no device
 
@@ -39,17 +40,14 @@ enable_by : (p b : Bool) (x y : PortState) → x.enable ≡ b → y.enable ≡ b
 enable_by true b x y left right = left
 enable_by false b x y left right = right
 
-enable_kept : (b : PortState) → (powered_on b).enable ≡ b.enable
-enable_kept b = enable_by b.power b.enable b (record b { power = true; connection_changed = is_attached b.attached || b.connection_changed }) refl refl
-
 reach-with_power : (k : Ports) (i : ℕ) (r : List ℕ) → reach_at (with_power k) i r ≡ reach_at k i r
 unfolding with_power reach_at
 reach-with_power ended i r = refl
 reach-with_power (vacant b k) zero r = refl
 reach-with_power (vacant b k) (suc i) r = reach-with_power k i r
-reach-with_power (taken b s a k) zero [] = enable_kept b
+reach-with_power (taken b s a k) zero [] = power_enable b
 reach-with_power (taken b s a k) zero (zero ∷ r) = refl
-reach-with_power (taken b s a k) zero (suc j ∷ r) = ap (λ e. e && reach_at a j r) (enable_kept b)
+reach-with_power (taken b s a k) zero (suc j ∷ r) = ap (λ e. e && reach_at a j r) (power_enable b)
 reach-with_power (taken b s a k) (suc i) r = reach-with_power k i r
 
 path-with_power : (k : Ports) (path : List ℕ) → reach (with_power k) path ≡ reach k path
@@ -63,13 +61,13 @@ forgotten-with_power ended = refl
 forgotten-with_power (vacant b k) = ap (vacant (powered_on b)) (forgotten-with_power k)
 forgotten-with_power (taken b s a k) = ap (taken (powered_on b) (forgotten s) (all_forgotten a)) (forgotten-with_power k)
 
-pub owning_opening : (w : World) (t : Option (List ℕ)) → IsUntouched w → Owning (opening_host w t)
+pub owning_opening : (w : World) (t : Option (List ℕ)) → IsUntouched w → HostMapHolds (opening_host w t)
 owning_opening w t u = record {
   single = u.single;
   owned = λ going. record {
     so = λ none. record {
       distinct = λ p q a at_p at_q. absurd (cc at_p);
-      own = λ path on. no (sym (u.none path) ∙ sym (path-with_power w.roots path) ∙ on);
+      own = λ path on. false_true (sym (u.none path) ∙ sym (path-with_power w.roots path) ∙ on);
       single = u.single;
       settled = forgotten-with_power w.roots ∙ ap with_power u.settled;
     };
@@ -91,16 +89,16 @@ told_given : (b : PortState) (low : Bool) → b.power ≡ false → b.attached �
 told_given b true dark at = rw (dark, at) refl
 told_given b false dark at = rw (dark, at) refl
 
-known-with_power : (k : Ports) (i : ℕ) → IsSane k → All (λ b. b.power ≡ false) (row_of k) → i < length (row_of (with_power k))
-    → (pend_at (with_power k) i [] ≡ true) ⊎ ((live_at (with_power k) i [] ≡ true) × (state_at (with_power k) i [] ≡ None))
-unfolding with_power IsSane row_of pend_at live_at state_at
+known-with_power : (k : Ports) (i : ℕ) → Consistent k → All (λ b. b.power ≡ false) (row_of k) → i < length (row_of (with_power k))
+    → (pending_at (with_power k) i [] ≡ true) ⊎ ((has_power_at (with_power k) i [] ≡ true) × (state_at (with_power k) i [] ≡ None))
+unfolding with_power Consistent row_of pending_at has_power_at state_at
 known-with_power ended i h dark lt = absurd (omega (arith, lt))
 known-with_power (vacant b k) zero h dark lt = inr (power_given b, refl)
 known-with_power (vacant b k) (suc i) h dark lt = known-with_power k i h.2 (All-tail (λ b. b.power ≡ false) b (row_of k) dark) (omega (arith, lt))
 known-with_power (taken b s a k) zero h dark lt = inl (told_given b s.spec.low (All-head (λ b. b.power ≡ false) b (row_of k) dark) h.1)
 known-with_power (taken b s a k) (suc i) h dark lt = known-with_power k i h.3 (All-tail (λ b. b.power ≡ false) b (row_of k) dark) (omega (arith, lt))
 
-known_opening : (w : World) → IsUnpowered w → Known (powered w) []
+known_opening : (w : World) → IsUnpowered w → PortsListed (world_powered w) []
 unfolding parent_of port_on_hub
 known_opening w u [] port = absurd (omega (arith, port.some))
 known_opening w u (zero ∷ []) port = absurd (omega (arith, port.port.0))
@@ -110,7 +108,7 @@ known_opening w u (n ∷ m ∷ rest) port =
     let wrong = rw long at port.port in
     absurd wrong
 
-pub sound_opening : (w : World) (t : Option (List ℕ)) → Traced w t (opening_host w t).world (opening_host w t).trace → IsUntouched w → IsUnpowered w → IsSound (opening_host w t)
+pub sound_opening : (w : World) (t : Option (List ℕ)) → Traced w t (opening_host w t).world (opening_host w t).trace → IsUntouched w → IsUnpowered w → HostInvariant (opening_host w t)
 sound_opening w t traced untouched u = record {
   owned = (owning_opening w t untouched).owned refl;
   rooted = rooted_opening w t;

@@ -5,9 +5,9 @@ use Rattle.std.proofs.lemmas.Bool.{lt-ltb}
 use Rattle.std.specs.BTreeMap.{is_at, insert_entry}
 use Rattle.usb_port.specs.Order.{path_cmp, parent_of, port_on_hub}
 use Rattle.usb_port.proofs.Interface.{rejoined}
-use Rattle.usb_world.specs.Paths.{is_way, pend, same_number}
+use Rattle.usb_world.specs.Paths.{is_way, pending, same_number}
 use Rattle.usb_world.specs.World.{World, roots_of}
-use Rattle.usb_world.proofs.Interface.{and_of, at_or_below_way, both, decided, no, way_itself, way_parent, way_rest, way_trans}
+use Rattle.usb_world.proofs.Interface.{and_of, at_or_below_way, both, decided, false_true, way_itself, way_parent, way_rest, way_trans}
 use Rattle.usb_enum.specs.declared.finding.Finding.{Finding}
 use Rattle.usb_enum.specs.declared.finding.Finding.TheVariants.{Device, Refused}
 use Rattle.usb_enum.specs.Verdicts.{IsFindingOf, IsRight}
@@ -17,9 +17,9 @@ use Rattle.usb_table.specs.Findings.{accepted_device_of}
 use Rattle.usb_table.specs.Listing.{finding_at, hub_facts_in, IsPortBelow, IsListedPort, tier_of}
 use Rattle.usb_table.proofs.Interface.{path_tied}
 use Rattle.usb_enum.specs.Places.{IsKnownAs}
-use Rattle.usb_host.specs.Soundness.{Known, known_supply, IsToldAt, Truthful, IsCausedAt, Causes, KnownBut, TruthfulBut, CausesBut}
+use Rattle.usb_host.specs.Soundness.{PortsListed, known_supply, IsAccurateAt, DevicesAccurate, IsJustifiedAt, RefusalsJustified, KnownBut, TruthfulBut, CausesBut}
 use Rattle.usb_host.proofs.Agreements.{lookup-without, lookup-insert_entry_elsewhere, known_away, known_entered}
-use Rattle.usb_host.proofs.EntryClaims.{none_there, lookup-insert_entry_here}
+use Rattle.usb_host.proofs.EntryClaims.{lookup-none_there, lookup-insert_entry_here}
 
 -- what is below a port, and longer, has its hub at the port or below it
 way_hub : (p hub : List ℕ) (n : ℕ) → length p ≤ length hub → is_way p (hub ++ n ∷ []) ≡ true → is_way p hub ≡ true
@@ -39,22 +39,22 @@ pub finding-kept : (first path : List ℕ) (es : Entries) → is_way first path 
 finding-kept first path es away = lookup-without path first true es (ap not (at_or_below_way path first ∙ away))
 
 pub finding-none : (first path : List ℕ) (es : Entries) → has_at first es ≡ false → is_way first path ≡ true → finding_at path es ≡ None
-finding-none first path es gone way = none_there first path es gone (at_or_below_way path first ∙ way)
+finding-none first path es gone way = lookup-none_there first path es gone (at_or_below_way path first ∙ way)
 
 untied_by : (first path : List ℕ) → is_way first path ≡ false → (b : Bool) → is_at (path_cmp path) first ≡ b → b ≡ false
-untied_by first path away true tie = no (sym (subst (λ p. is_way first p ≡ false) (path_tied path first tie) away) ∙ way_itself first)
+untied_by first path away true tie = false_true (sym (subst (λ p. is_way first p ≡ false) (path_tied path first tie) away) ∙ way_itself first)
 untied_by first path away false tie = refl
 
 untied : (first path : List ℕ) → is_way first path ≡ false → is_at (path_cmp path) first ≡ false
 untied first path away = untied_by first path away (is_at (path_cmp path) first) refl
 
-hub_by : (first path hub : List ℕ) → parent_of path ≡ Some hub → is_way first path ≡ false → (b : Bool) → is_way first hub ≡ b → b ≡ false
-hub_by first path hub is away true way = no (sym away ∙ way_trans first hub path way (way_parent path hub is))
-hub_by first path hub is away false way = refl
+is_way-parent : (first path hub : List ℕ) → parent_of path ≡ Some hub → is_way first path ≡ false → (b : Bool) → is_way first hub ≡ b → b ≡ false
+is_way-parent first path hub is away true way = false_true (sym away ∙ way_trans first hub path way (way_parent path hub is))
+is_way-parent first path hub is away false way = refl
 
 -- the hub of a path that stands elsewhere stands elsewhere
 hub_elsewhere : (first path hub : List ℕ) → parent_of path ≡ Some hub → is_way first path ≡ false → is_way first hub ≡ false
-hub_elsewhere first path hub is away = hub_by first path hub is away (is_way first hub) refl
+hub_elsewhere first path hub is away = is_way-parent first path hub is away (is_way first hub) refl
 
 port_as : (roots : ℕ) (es fs : Entries) (n : ℕ) (o : Option (List ℕ)) → ((hub : List ℕ) → o ≡ Some hub → finding_at hub es ≡ finding_at hub fs) → IsPortBelow roots es o n → IsPortBelow roots fs o n
 port_as roots es fs n None same h = h
@@ -87,7 +87,7 @@ split first path some way = let rest = way_rest first path way in split_by first
 
 -- what is known elsewhere, at the path, and of the ports of hubs there and below it, is known
 pub known_whole : (first : List ℕ) (w : World) (es : Entries) → 1 ≤ length first → KnownBut first w es → IsKnownAs w first (finding_at first es)
-    → ((path hub : List ℕ) → parent_of path ≡ Some hub → is_way first hub ≡ true → IsListedPort (roots_of w) es path → IsKnownAs w path (finding_at path es)) → Known w es
+    → ((path hub : List ℕ) → parent_of path ≡ Some hub → is_way first hub ≡ true → IsListedPort (roots_of w) es path → IsKnownAs w path (finding_at path es)) → PortsListed w es
 known_whole first w es some others here below path port = pick (decided (is_way first path))
   where
     at : (path ≡ first) ⊎ ((hub : List ℕ) × (parent_of path ≡ Some hub) × (is_way first hub ≡ true)) → IsKnownAs w path (finding_at path es)
@@ -111,20 +111,20 @@ known_dropped first w es known path away port =
     subst (IsKnownAs w path) (sym (finding-kept first path es away)) (known path away was)
 
 -- nothing is listed at a path and below it, and nothing stands there
-pub known_vacant : (first : List ℕ) (w : World) (es : Entries) → 1 ≤ length first → has_at first es ≡ false → KnownBut first w es → IsKnownAs w first None → Known w es
+pub known_vacant : (first : List ℕ) (w : World) (es : Entries) → 1 ≤ length first → has_at first es ≡ false → KnownBut first w es → IsKnownAs w first None → PortsListed w es
 known_vacant first w es some gone known here =
     known_whole first w es some known (subst (IsKnownAs w first) (sym (finding-none first first es gone (way_itself first))) here)
     (λ path hub is way port. absurd (none_below (roots_of w) es path hub is (finding-none first hub es gone way) port))
 
-told_as : (w : World) (es fs : Entries) (path : List ℕ) → finding_at path fs ≡ finding_at path es → known_supply path fs ≡ known_supply path es → IsToldAt w es path → IsToldAt w fs path
-told_as w es fs path same supply told device s at on stands =
+is_told_at-same : (w : World) (es fs : Entries) (path : List ℕ) → finding_at path fs ≡ finding_at path es → known_supply path fs ≡ known_supply path es → IsAccurateAt w es path → IsAccurateAt w fs path
+is_told_at-same w es fs path same supply told device s at on stands =
     let t = told device s (ap accepted_device_of (sym same) ∙ at) on stands in
     record { found = subst (λ n. IsFindingOf s.spec (tier_of path) n (Device device)) (sym supply) t.found; set = t.set }
 
-caused_as : (w : World) (es fs : Entries) (path : List ℕ) → finding_at path fs ≡ finding_at path es → known_supply path fs ≡ known_supply path es → IsCausedAt w es path → IsCausedAt w fs path
+caused_as : (w : World) (es fs : Entries) (path : List ℕ) → finding_at path fs ≡ finding_at path es → known_supply path fs ≡ known_supply path es → IsJustifiedAt w es path → IsJustifiedAt w fs path
 caused_as w es fs path same supply caused cause s at stands = pick (caused cause s (sym same ∙ at) stands)
   where
-    pick : (pend w.roots path ≡ true) ⊎ IsRight ⊤ s.spec (tier_of path) (known_supply path es) (Refused cause) → (pend w.roots path ≡ true) ⊎ IsRight ⊤ s.spec (tier_of path) (known_supply path fs) (Refused cause)
+    pick : (pending w.roots path ≡ true) ⊎ IsRight ⊤ s.spec (tier_of path) (known_supply path es) (Refused cause) → (pending w.roots path ≡ true) ⊎ IsRight ⊤ s.spec (tier_of path) (known_supply path fs) (Refused cause)
     pick (inl pends) = inl pends
     pick (inr right) = inr (subst (λ n. IsRight ⊤ s.spec (tier_of path) n (Refused cause)) (sym supply) right)
 
@@ -134,17 +134,17 @@ supply_known path o u e = ap (λ (x : Option KnownPort). unwrap_or (option_map (
 supply-kept : (first path : List ℕ) (es : Entries) → is_way first path ≡ false → known_supply path (without first es) ≡ known_supply path es
 supply-kept first path es away = supply_known path _ _ (known_away path first es (at_or_below_way path first ∙ away))
 
-pub truthful_dropped : (first : List ℕ) (w : World) (es : Entries) → TruthfulBut first w es → Truthful w (without first es)
+pub truthful_dropped : (first : List ℕ) (w : World) (es : Entries) → TruthfulBut first w es → DevicesAccurate w (without first es)
 truthful_dropped first w es told path = pick (decided (is_way first path))
   where
-    pick : (is_way first path ≡ true) ⊎ (is_way first path ≡ false) → IsToldAt w (without first es) path
+    pick : (is_way first path ≡ true) ⊎ (is_way first path ≡ false) → IsAccurateAt w (without first es) path
     pick (inl way) = λ device s at on stands. absurd (cc (ap accepted_device_of (finding-dropped first path es way), at))
-    pick (inr away) = told_as w es (without first es) path (finding-kept first path es away) (supply-kept first path es away) (told path away)
+    pick (inr away) = is_told_at-same w es (without first es) path (finding-kept first path es away) (supply-kept first path es away) (told path away)
 
-pub causes_dropped : (first : List ℕ) (w : World) (es : Entries) → CausesBut first w es → Causes w (without first es)
+pub causes_dropped : (first : List ℕ) (w : World) (es : Entries) → CausesBut first w es → RefusalsJustified w (without first es)
 causes_dropped first w es caused path = pick (decided (is_way first path))
   where
-    pick : (is_way first path ≡ true) ⊎ (is_way first path ≡ false) → IsCausedAt w (without first es) path
+    pick : (is_way first path ≡ true) ⊎ (is_way first path ≡ false) → IsJustifiedAt w (without first es) path
     pick (inl way) = λ cause s at stands. absurd (cc (finding-dropped first path es way, at))
     pick (inr away) = caused_as w es (without first es) path (finding-kept first path es away) (supply-kept first path es away) (caused path away)
 
@@ -180,7 +180,7 @@ module _ (first : List ℕ) (f : Finding) (es : Entries) (some : 1 ≤ length fi
 
   -- and each port of what was found, where that is a hub, is vacant or pending
   pub known_found : (w : World) → KnownBut first w es → IsKnownAs w first (Some f)
-      → ((n : ℕ) → IsSomeAnd (hub_facts_in (Some f)) (λ facts. (1 ≤ n) × (n ≤ facts.ports)) → IsKnownAs w (first ++ n ∷ []) None) → Known w entered
+      → ((n : ℕ) → IsSomeAnd (hub_facts_in (Some f)) (λ facts. (1 ≤ n) × (n ≤ facts.ports)) → IsKnownAs w (first ++ n ∷ []) None) → PortsListed w entered
   known_found w known here ports =
       known_whole first w entered some (known_but_entered w known) (subst (IsKnownAs w first) (sym (lookup-insert_entry_here first f es)) here)
       (λ path hub is way port. subst (IsKnownAs w path) (sym (finding-below path hub is way)) (below path hub is way port (is_at (path_cmp hub) first) refl))
@@ -195,18 +195,18 @@ module _ (first : List ℕ) (f : Finding) (es : Entries) (some : 1 ≤ length fi
       below path hub is way port false apart =
           absurd (none_below (roots_of w) entered path hub is (finding-entered hub apart ∙ finding-none first hub es gone way) port)
 
-  pub truthful_found : (w : World) → Truthful w es → IsToldAt w entered first → Truthful w entered
+  pub truthful_found : (w : World) → DevicesAccurate w es → IsAccurateAt w entered first → DevicesAccurate w entered
   truthful_found w told here path = pick (is_at (path_cmp path) first) refl (decided (is_way first path))
     where
-      pick : (b : Bool) → is_at (path_cmp path) first ≡ b → (is_way first path ≡ true) ⊎ (is_way first path ≡ false) → IsToldAt w entered path
-      pick true tie on = subst (IsToldAt w entered) (sym (path_tied path first tie)) here
+      pick : (b : Bool) → is_at (path_cmp path) first ≡ b → (is_way first path ≡ true) ⊎ (is_way first path ≡ false) → IsAccurateAt w entered path
+      pick true tie on = subst (IsAccurateAt w entered) (sym (path_tied path first tie)) here
       pick false apart (inl way) = λ device s at on stands. absurd (cc (ap accepted_device_of (finding-entered path apart ∙ finding-none first path es gone way), at))
-      pick false apart (inr away) = told_as w es entered path (finding-entered path apart) (supply-entered path away) (told path)
+      pick false apart (inr away) = is_told_at-same w es entered path (finding-entered path apart) (supply-entered path away) (told path)
 
-  pub causes_found : (w : World) → Causes w es → IsCausedAt w entered first → Causes w entered
+  pub causes_found : (w : World) → RefusalsJustified w es → IsJustifiedAt w entered first → RefusalsJustified w entered
   causes_found w caused here path = pick (is_at (path_cmp path) first) refl (decided (is_way first path))
     where
-      pick : (b : Bool) → is_at (path_cmp path) first ≡ b → (is_way first path ≡ true) ⊎ (is_way first path ≡ false) → IsCausedAt w entered path
-      pick true tie on = subst (IsCausedAt w entered) (sym (path_tied path first tie)) here
+      pick : (b : Bool) → is_at (path_cmp path) first ≡ b → (is_way first path ≡ true) ⊎ (is_way first path ≡ false) → IsJustifiedAt w entered path
+      pick true tie on = subst (IsJustifiedAt w entered) (sym (path_tied path first tie)) here
       pick false apart (inl way) = λ cause s at stands. absurd (cc (finding-entered path apart ∙ finding-none first path es gone way, at))
       pick false apart (inr away) = caused_as w es entered path (finding-entered path apart) (supply-entered path away) (caused path)

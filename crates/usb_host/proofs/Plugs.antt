@@ -27,7 +27,7 @@ use Rattle.usb_world.specs.Steps.{AnyStep, Course, opening}
 use Rattle.usb_world.specs.World.{World}
 use Rattle.usb_world.proofs.Interface.{both, course_joined, course_taken, course_then, course_wider, decided, devices_left, or_left, or_right, way_itself}
 use Rattle.usb_address.proofs.Interface.{attached_there}
-use Rattle.usb_hub.specs.Moments.{PortDone, PortTold}
+use Rattle.usb_hub.specs.Moments.{PortCallDone, PortStatusAt}
 use Rattle.usb_enum.specs.declared.cause.Cause.TheVariants.{Lost, NoAddress}
 use Rattle.usb_enum.specs.declared.finding.Accepted.{Accepted}
 use Rattle.usb_enum.specs.declared.finding.Finding.{Finding}
@@ -40,15 +40,15 @@ use Rattle.usb_table.specs.Keys.{address_in}
 use Rattle.usb_table.specs.Listing.{entry_address, finding_at}
 use Rattle.usb_table.proofs.Interface.{path_tied}
 use Rattle.usb_host.specs.Agreement.{Agrees}
-use Rattle.usb_host.specs.Hosting.{Hosting}
+use Rattle.usb_host.specs.HostState.{HostState}
 use Rattle.usb_host.specs.Ownership.{HasLost}
 use Rattle.usb_host.specs.Plugs.{HasPlugs, KeepsPlugs, PlugsAt, WasPlugged, is_plug, plug_events}
 use Rattle.usb_host.specs.Ports.{EntersOne}
-use Rattle.usb_host.specs.Progress.{HostWent, Rests}
+use Rattle.usb_host.specs.Progress.{HostSteps, OnlyBusSteps}
 use Rattle.usb_host.specs.Service.{ClearsAndReads, DoneWhere}
 use Rattle.usb_host.proofs.Agreements.{lookup-insert_entry_elsewhere}
-use Rattle.usb_host.proofs.Balances.{accounts_listed, one}
-use Rattle.usb_host.proofs.BulkPipes.{device_found}
+use Rattle.usb_host.proofs.Balances.{accounts_listed, one_when}
+use Rattle.usb_host.proofs.BulkPipes.{accepted_device_of-some}
 use Rattle.usb_host.proofs.EntryClaims.{lookup-insert_entry_here}
 use Rattle.usb_host.proofs.Places.{finding-dropped, finding-kept, finding-none}
 
@@ -152,9 +152,9 @@ index_some None (Some s) plan there is = absurd (cc is)
 index_some None None plan there is = absurd (cc there)
 index_some (Some i) s plan there is = (i, refl)
 
-pub plugged_there : (plan : PlanData) → IsPlan plan → AtPorts plan.events → (w : World) → Course AnyStep (opening plan) w
+pub there_was_plugged : (plan : PlanData) → IsPlan plan → AtPorts plan.events → (w : World) → Course AnyStep (opening plan) w
     → (path : List ℕ) → is_some (state_there w.roots path) ≡ true → WasPlugged plan.events w.taken path
-plugged_there plan is paths w course path there =
+there_was_plugged plan is paths w course path there =
     let came : List Event = take w.taken plan.events in
     let index : (i : ℕ) × (index_at (plugged_by [] came) path ≡ Some i) =
     index_some (index_at (plugged_by [] came) path) (state_there w.roots path) plan there (devices_left plan is paths w course path) in
@@ -176,15 +176,15 @@ abbrev plug_addresses : Entries → List Event → List ℕ
 plug_addresses es [] = []
 plug_addresses es (e ∷ events) = cond (is_plug e.action) (plug_address es e.action ∷ plug_addresses es events) (plug_addresses es events)
 
-plug_events-cons : (e : Event) (events : List Event) → plug_events (e ∷ events) ≡ one (is_plug e.action) + plug_events events
-unfolding one
+plug_events-cons : (e : Event) (events : List Event) → plug_events (e ∷ events) ≡ one_when (is_plug e.action) + plug_events events
+unfolding one_when
 plug_events-cons e events = sum_by-cons (λ x. cond (is_plug x.action) 1 0) e events
 
 plug_step : (es : Entries) (e : Event) (events : List Event) → length (plug_addresses es events) ≡ plug_events events → (b : Bool) → is_plug e.action ≡ b
     → length (cond b (plug_address es e.action ∷ plug_addresses es events) (plug_addresses es events)) ≡ plug_events (e ∷ events)
-unfolding one
-plug_step es e events same true is = let counted : one (is_plug e.action) ≡ 1 = ap one is in omega (arith, counted, same, plug_events-cons e events)
-plug_step es e events same false is = let counted : one (is_plug e.action) ≡ 0 = ap one is in omega (arith, counted, same, plug_events-cons e events)
+unfolding one_when
+plug_step es e events same true is = let counted : one_when (is_plug e.action) ≡ 1 = ap one_when is in omega (arith, counted, same, plug_events-cons e events)
+plug_step es e events same false is = let counted : one_when (is_plug e.action) ≡ 0 = ap one_when is in omega (arith, counted, same, plug_events-cons e events)
 
 length-plug_addresses : (es : Entries) (events : List Event) → length (plug_addresses es events) ≡ plug_events events
 length-plug_addresses es [] = refl
@@ -217,7 +217,7 @@ device_there (Some (Device device)) a e = (device, refl)
 device_there (Some (Refused cause)) a e = absurd (cc e)
 
 -- at a path of its own for each address, and at one that has none
-full_plugged : (events : List Event) (path : List ℕ) (h : Hosting) → HasPlugs events h → Agrees h.entries h.addresses → IsFull h.addresses
+full_plugged : (events : List Event) (path : List ℕ) (h : HostState) → HasPlugs events h → Agrees h.entries h.addresses → IsFull h.addresses
     → finding_at path h.entries ≡ None → WasPlugged events h.world.taken path → 128 ≤ plug_events events
 full_plugged events path h plugs agrees full none was =
     subst (λ n. 128 ≤ n) (length-plug_addresses h.entries events) (le-length_from_below (plug_addresses h.entries events) 128 found)
@@ -236,15 +236,15 @@ full_plugged events path h plugs agrees full none was =
 
 -- From one moment to the next
 
-pub plugs_none : (h : Hosting) → KeepsPlugs h h
+pub plugs_none : (h : HostState) → KeepsPlugs h h
 plugs_none h plan is paths course plugs = plugs
 
-pub plugs_then : (m n : ℕ) (a b c : Hosting) → HostWent m a b → HostWent n b c → c.world.fault ≡ None → KeepsPlugs a b → KeepsPlugs b c → KeepsPlugs a c
+pub plugs_then : (m n : ℕ) (a b c : HostState) → HostSteps m a b → HostSteps n b c → c.world.fault ≡ None → KeepsPlugs a b → KeepsPlugs b c → KeepsPlugs a c
 plugs_then m n a b c first second still x y plan is paths course plugs =
     y plan is paths (course_joined course (went_course m a.world b.world first (went_sound n b.world c.world second still))) (x plan is paths course plugs)
 
 -- what is listed was so before, or is lost
-plugs_fewer : (events : List Event) (a b : Hosting) → a.world.taken ≤ b.world.taken
+plugs_fewer : (events : List Event) (a b : HostState) → a.world.taken ≤ b.world.taken
     → ((path : List ℕ) (f : Finding) → finding_at path b.entries ≡ Some f → (finding_at path a.entries ≡ Some f) ⊎ (f ≡ Refused Lost))
     → HasPlugs events a → HasPlugs events b
 plugs_fewer events a b onward was plugs = record {
@@ -261,7 +261,7 @@ plugs_fewer events a b onward was plugs = record {
         → WasPlugged events a.world.taken path
     pick path device None at e = absurd (cc e)
     pick path device (Some f) at e =
-        let is : f ≡ Device device = device_found f device e in
+        let is : f ≡ Device device = accepted_device_of-some f device e in
         listed path device (was path (Device device) (at ∙ ap (λ g. Some g) is))
 
     waits : plug_events events ≤ 127 → (path : List ℕ) → (finding_at path a.entries ≡ Some (Refused NoAddress)) ⊎ (Refused NoAddress ≡ Refused Lost) → ⊥
@@ -269,14 +269,14 @@ plugs_fewer events a b onward was plugs = record {
     waits few path (inr e) = cc e
 
 -- the same is listed
-pub plugs_same : (events : List Event) (a b : Hosting) → a.world.taken ≤ b.world.taken → b.entries ≡ a.entries → HasPlugs events a → HasPlugs events b
+pub plugs_same : (events : List Event) (a b : HostState) → a.world.taken ≤ b.world.taken → b.entries ≡ a.entries → HasPlugs events a → HasPlugs events b
 plugs_same events a b onward same = plugs_fewer events a b onward (λ path f at. inl (ap (finding_at path) (sym same) ∙ at))
 
-pub plugs_kept : (a b : Hosting) → a.world.taken ≤ b.world.taken → b.entries ≡ a.entries → KeepsPlugs a b
+pub plugs_kept : (a b : HostState) → a.world.taken ≤ b.world.taken → b.entries ≡ a.entries → KeepsPlugs a b
 plugs_kept a b onward same plan is paths course = plugs_same plan.events a b onward same
 
-pub plugs_rests : (n : ℕ) (a b : Hosting) → HostWent n a b → Rests a b → KeepsPlugs a b
-plugs_rests n a b went r = plugs_kept a b went.spends.onward (ap (λ (h : Hosting). h.entries) r)
+pub plugs_rests : (n : ℕ) (a b : HostState) → HostSteps n a b → OnlyBusSteps a b → KeepsPlugs a b
+plugs_rests n a b went r = plugs_kept a b went.spends.onward (ap (λ (h : HostState). h.entries) r)
 
 was_listed : (first path : List ℕ) (es : Entries) (f : Finding) → finding_at path (without first es) ≡ Some f → finding_at path es ≡ Some f
 was_listed first path es f at = pick (decided (is_way first path))
@@ -286,16 +286,16 @@ was_listed first path es f at = pick (decided (is_way first path))
     pick (inr away) = sym (finding-kept first path es away) ∙ at
 
 -- what was found at a port and below it is forgotten
-pub plugs_forgot : (n : ℕ) (path : List ℕ) (a b c : Hosting) → HostWent n a c → Rests a b → c.entries ≡ without path b.entries → KeepsPlugs a c
+pub plugs_forgot : (n : ℕ) (path : List ℕ) (a b c : HostState) → HostSteps n a c → OnlyBusSteps a b → c.entries ≡ without path b.entries → KeepsPlugs a c
 plugs_forgot n path a b c went r rest plan is paths course =
-    let left : c.entries ≡ without path a.entries = rest ∙ ap (λ (h : Hosting). without path h.entries) r in
+    let left : c.entries ≡ without path a.entries = rest ∙ ap (λ (h : HostState). without path h.entries) r in
     plugs_fewer plan.events a c went.spends.onward (λ p f at. inl (was_listed path p a.entries f (ap (finding_at p) (sym left) ∙ at)))
 
 abbrev with_lost : List ℕ → Entries → Entries
 with_lost path es = insert_entry path_cmp (without path es) path (Refused Lost)
 
 -- besides, a hub is listed as lost
-pub plugs_lost : (hub : List ℕ) (a b : Hosting) → a.world.taken ≤ b.world.taken → HasLost hub a.entries b.entries → KeepsPlugs a b
+pub plugs_lost : (hub : List ℕ) (a b : HostState) → a.world.taken ≤ b.world.taken → HasLost hub a.entries b.entries → KeepsPlugs a b
 plugs_lost hub a b onward lost plan is paths course =
     plugs_fewer plan.events a b onward (λ p f at. pick p f (is_at (path_cmp p) lost.path) refl (ap (finding_at p) (sym lost.entries) ∙ at))
   where
@@ -309,7 +309,7 @@ plugs_lost hub a b onward lost plan is paths course =
         inl (was_listed lost.path p a.entries f (sym (lookup-insert_entry_elsewhere p lost.path (Refused Lost) (without lost.path a.entries) apart) ∙ at))
 
 -- one finding is entered at a path at which a device was plugged
-plugs_entered : (events : List Event) (path : List ℕ) (a b : Hosting) → Agrees a.entries a.addresses → has_at path a.entries ≡ false
+plugs_entered : (events : List Event) (path : List ℕ) (a b : HostState) → Agrees a.entries a.addresses → has_at path a.entries ≡ false
     → EntersOne path a b → a.world.taken ≤ b.world.taken → WasPlugged events a.world.taken path → HasPlugs events a → HasPlugs events b
 plugs_entered events path a b agrees gone enters onward was plugs = record {
   each = λ p device at. was_later events a.world.taken b.world.taken p onward (each p device (is_at (path_cmp p) path) refl at);
@@ -338,15 +338,15 @@ plugs_entered events path a b agrees gone enters onward was plugs = record {
 
 -- A look at a port
 
-done_course : (p : List ℕ) (c : PortCall) (w v : World) → PortDone p c w v → Course AnyStep w v
-done_course p c w v d = course_joined (course_wider (λ s u k. tt) (course_then d.last d.repeats d.acts)) (course_wider (λ s u k. tt) (d.since p))
+call_course : (p : List ℕ) (c : PortCall) (w v : World) → PortCallDone p c w v → Course AnyStep w v
+call_course p c w v d = course_joined (course_wider (λ s u k. tt) (course_then d.last d.repeats d.acts)) (course_wider (λ s u k. tt) (d.since p))
 
 disabled_taken : (b : Bool) (p : List ℕ) (w v : World) → DoneWhere b p ClearEnable w v → w.taken ≤ v.taken
-disabled_taken true p w v d = course_taken (done_course p ClearEnable w v d)
+disabled_taken true p w v d = course_taken (call_course p ClearEnable w v d)
 disabled_taken false p w v same = let taken : v.taken ≡ w.taken = ap (λ (u : World). u.taken) same in omega (arith, taken)
 
 -- a device stood where a status showed one
-told_there : (p : List ℕ) (status : PortStatus) (w v : World) (t : PortTold p status w v) → IsOrderly t.now → status.connected ≡ true
+told_there : (p : List ℕ) (status : PortStatus) (w v : World) (t : PortStatusAt p status w v) → IsOrderly t.now → status.connected ≡ true
     → is_some (state_there t.now.roots p) ≡ true
 told_there p status w v t order on =
     let attached : is_attached t.port.attached ≡ true =
@@ -358,33 +358,33 @@ seen_plugged : (path : List ℕ) (status : PortStatus) (old new : World) → Cle
     → (plan : PlanData) → IsPlan plan → AtPorts plan.events → Course AnyStep (opening plan) old → WasPlugged plan.events new.taken path
 seen_plugged path status old new x order on plan is paths course =
     let first : Course AnyStep old x.told.now =
-    course_joined (done_course path ClearConnectionChange old x.mid x.cleared) (course_wider (λ s u k. tt) (x.told.before path)) in
+    course_joined (call_course path ClearConnectionChange old x.mid x.cleared) (course_wider (λ s u k. tt) (x.told.before path)) in
     let there : is_some (state_there x.told.now.roots path) ≡ true = told_there path status x.mid x.now x.told (orderly_on order first) on in
     let onward : x.told.now.taken ≤ x.now.taken = course_taken (x.told.since path) in
     let last : x.now.taken ≤ new.taken = disabled_taken status.enabled path x.now new x.disabled in
     was_later plan.events x.told.now.taken new.taken path (omega (arith, onward, last))
-    (plugged_there plan is paths x.told.now (course_joined course first) path there)
+    (there_was_plugged plan is paths x.told.now (course_joined course first) path there)
 
 -- what a status showed is found and entered
-pub plugs_found : (m n : ℕ) (path : List ℕ) (status : PortStatus) (a b c d : Hosting) → HostWent m a c → HostWent n c d → Rests a b
+pub plugs_found : (m n : ℕ) (path : List ℕ) (status : PortStatus) (a b c d : HostState) → HostSteps m a c → HostSteps n c d → OnlyBusSteps a b
     → c ≡ record b { entries = c.entries; pipes = c.pipes; addresses = c.addresses } → c.entries ≡ without path b.entries → has_at path c.entries ≡ false → Agrees c.entries c.addresses
     → ClearsAndReads path status a.world b.world → IsOrderly a.world → status.connected ≡ true → EntersOne path c d → KeepsPlugs a d
 plugs_found m n path status a b c d first second r others rest gone agrees x order on enters plan is paths course plugs =
-    let same : c.world ≡ b.world = ap (λ (h : Hosting). h.world) others in
+    let same : c.world ≡ b.world = ap (λ (h : HostState). h.world) others in
     let was : WasPlugged plan.events c.world.taken path =
     subst (λ (w : World). WasPlugged plan.events w.taken path) (sym same) (seen_plugged path status a.world b.world x order on plan is paths course) in
     plugs_entered plan.events path c d agrees gone enters second.spends.onward was (plugs_forgot m path a b c first r rest plan is paths course plugs)
 
 -- A host that knows of no device
 
-pub plugs_opening : (events : List Event) (h : Hosting) → h.entries ≡ [] → HasPlugs events h
+pub plugs_opening : (events : List Event) (h : HostState) → h.entries ≡ [] → HasPlugs events h
 plugs_opening events h none = record {
   each = λ path device at. absurd (cc (none, at));
   none_waits = λ few path at. absurd (cc (none, at));
 }
 
 -- only the host's own stop is new
-pub plugs_stopped : (a b : Hosting) (stopped : Bool) → KeepsPlugs a b → KeepsPlugs a (record b { stopped = stopped })
+pub plugs_stopped : (a b : HostState) (stopped : Bool) → KeepsPlugs a b → KeepsPlugs a (record b { stopped = stopped })
 plugs_stopped a b stopped x plan is paths course plugs =
     let kept : HasPlugs plan.events b = x plan is paths course plugs in
     record { each = kept.each; none_waits = kept.none_waits }

@@ -15,16 +15,16 @@ use Rattle.usb_device.specs.declared.request.Registers.{Registers}
 use Rattle.usb_device.specs.Bulk.{tells_changes}
 use Rattle.usb_device.specs.Rows.{State}
 use Rattle.usb_device.specs.Spec.{Spec, Hub, IsSpec, IsHub}
-use Rattle.usb_device.specs.Tree.{reach, Spot, path_to, reach_on, state_on}
+use Rattle.usb_device.specs.Tree.{reach, Location, path_to, reach_on, state_on}
 use Rattle.usb_device.specs.View.{port_there}
-use Rattle.usb_world.specs.Paths.{address_of, pend}
+use Rattle.usb_world.specs.Paths.{address_of, pending}
 use Rattle.usb_world.specs.PluggedDevices.{hub_ports}
 use Rattle.usb_world.specs.World.{World, roots_of}
-use Rattle.usb_world.proofs.Interface.{and_of, neither, no, sane_spec}
+use Rattle.usb_world.proofs.Interface.{and_of, neither, false_true, sane_spec}
 use Rattle.usb_transaction.specs.declared.target.Target.{Target}
 use Rattle.usb_transaction.specs.Leaves.{is_at as has_address}
 use Rattle.usb_transaction.specs.Transactions.{in_attempt}
-use Rattle.usb_transaction.specs.Trail.{Trail, Waiting}
+use Rattle.usb_transaction.specs.AttemptLog.{AttemptLog, Waiting}
 use Rattle.usb_world.specs.declared.types.Outcome.TheVariants.{Nak}
 use Rattle.usb_world.specs.AttemptPackets.{IsSettled, deep_at}
 use Rattle.usb_resources.specs.Pool.{Addresses}
@@ -42,28 +42,28 @@ use Rattle.usb_table.specs.declared.pipes.Pipes.TheVariants.{Hub as HubPipe, Fun
 use Rattle.usb_table.specs.Entries.{Entries}
 use Rattle.usb_table.specs.Findings.{accepted_device_of, accepted_device_at}
 use Rattle.usb_table.specs.KnownPorts.{is_below_hub}
-use Rattle.usb_table.specs.Levels.{Heard}
+use Rattle.usb_table.specs.Levels.{IsListening}
 use Rattle.usb_table.specs.Listing.{finding_at, hub_facts_in, hub_facts_at, tier_of}
 use Rattle.usb_table.specs.Pipes.{IsStatusPipe, ArePipesTo, ArePipesIf}
 use Rattle.usb_table.specs.Transfers.{PipesPolled, PolledThrough}
 use Rattle.usb_host.specs.Agreement.{Agrees}
-use Rattle.usb_host.specs.Hosting.{Hosting}
-use Rattle.usb_host.specs.Soundness.{Accounted, IsSound, IsSilent, Known, IsTruthOf, Truthful, known_supply}
+use Rattle.usb_host.specs.HostState.{HostState}
+use Rattle.usb_host.specs.Soundness.{Accounted, HostInvariant, IsSilent, PortsListed, IsTruthOf, DevicesAccurate, known_supply}
 use Rattle.usb_host.proofs.Roots.{accounted}
 use Rattle.usb_enum.proofs.Interface.{accepts}
-use Rattle.usb_host.proofs.Servers.{hears_by, below_of}
+use Rattle.usb_host.proofs.Servers.{server_hears, is_below_hub-deep}
 use Rattle.usb_host.proofs.SettledListings.{listed_port, reached_there}
-use Rattle.usb_host.proofs.Silences.{AreClear, nak_clears}
+use Rattle.usb_host.proofs.UnchangedHubs.{AreClear, nak_clears}
 
 -- A status endpoint
 
-status_by : (b : Bool) (size : ℕ) (e : ℕ × ℕ) → (if b then Some (1, size) else None) ≡ Some e → e.0 ≡ 1
-status_by true size e h = cc h
-status_by false size e h = absurd (cc h)
+if_size-one : (b : Bool) (size : ℕ) (e : ℕ × ℕ) → (if b then Some (1, size) else None) ≡ Some e → e.0 ≡ 1
+if_size-one true size e h = cc h
+if_size-one false size e h = absurd (cc h)
 
 status_first : (endpoint : List ℕ) (e : ℕ × ℕ) → status_at endpoint ≡ Some e → e.0 ≡ 1
 unfolding status_at
-status_first endpoint e h = status_by _ (packet_size endpoint) e h
+status_first endpoint e h = if_size-one _ (packet_size endpoint) e h
 
 picked_first : (counts : Bool) (item : Item) (e : ℕ × ℕ) → picked status_at counts item ≡ Some e → e.0 ≡ 1
 picked_first counts (Interface bytes) e h = absurd (cc h)
@@ -105,13 +105,13 @@ pub record HubThere (path : List ℕ) (entries : Entries) (facts : HubFacts) : T
   pub found : finding_at path entries ≡ Some (Device device)
   pub told : device.hub ≡ Some facts
 
-hub_by : (o : Option Finding) (facts : HubFacts) → hub_facts_in o ≡ Some facts → (device : Accepted) × (o ≡ Some (Device device)) × (device.hub ≡ Some facts)
-hub_by None facts h = absurd (cc h)
-hub_by (Some (Refused cause)) facts h = absurd (cc h)
-hub_by (Some (Device device)) facts h = (device, refl, h)
+hub_facts_in-device : (o : Option Finding) (facts : HubFacts) → hub_facts_in o ≡ Some facts → (device : Accepted) × (o ≡ Some (Device device)) × (device.hub ≡ Some facts)
+hub_facts_in-device None facts h = absurd (cc h)
+hub_facts_in-device (Some (Refused cause)) facts h = absurd (cc h)
+hub_facts_in-device (Some (Device device)) facts h = (device, refl, h)
 
 pub hub_there : (path : List ℕ) (entries : Entries) (facts : HubFacts) → hub_facts_at path entries ≡ Some facts → HubThere path entries facts
-hub_there path entries facts h = let x = hub_by (finding_at path entries) facts h in record { device = x.0; found = x.1; told = x.2 }
+hub_there path entries facts h = let x = hub_facts_in-device (finding_at path entries) facts h in record { device = x.0; found = x.1; told = x.2 }
 
 -- its description has as many ports
 pub facts_ports : (spec : Spec) (facts : HubFacts) → facts_of spec ≡ Some facts → facts.ports ≡ hub_ports spec.hub
@@ -125,23 +125,23 @@ few_by : (o : Option Hub) → IfSome o IsHub → hub_ports o ≤ 7
 few_by None h = omega arith
 few_by (Some hub) h = h.most
 
-some_by : (o : Option Hub) → 1 ≤ hub_ports o → is_some o ≡ true
-some_by None h = absurd (omega (arith, h))
-some_by (Some hub) h = refl
+hub_ports-some : (o : Option Hub) → 1 ≤ hub_ports o → is_some o ≡ true
+hub_ports-some None h = absurd (omega (arith, h))
+hub_ports-some (Some hub) h = refl
 
 valued_by : (n : ℕ) → 1 ≤ n → not (n == 0) ≡ true
 valued_by zero h = absurd (omega (arith, h))
 valued_by (suc n) h = ap not (ne_eqb (suc n) 0 (λ e. absurd (omega (arith, e))))
 
 -- a configured hub tells which of its ports changed
-pub tells_by : (spec : Spec) (g : Registers) → 1 ≤ hub_ports spec.hub → 1 ≤ g.configuration → tells_changes spec g ≡ true
-tells_by spec g some valued = rw (some_by spec.hub some, valued_by g.configuration valued) refl
+pub tells_changes-hub : (spec : Spec) (g : Registers) → 1 ≤ hub_ports spec.hub → 1 ≤ g.configuration → tells_changes spec g ≡ true
+tells_changes-hub spec g some valued = rw (hub_ports-some spec.hub some, valued_by g.configuration valued) refl
 
 -- A quiet poll
 
 status_pipe : (device : Accepted) (facts : HubFacts) (below : Bool) (pipes : Pipes) → device.hub ≡ Some facts → ArePipesTo device below pipes → (pipe : Interrupt) × (pipes ≡ HubPipe pipe) × IsStatusPipe device below pipe
 status_pipe device facts below (HubPipe pipe) told are = (pipe, refl, are.1)
-status_pipe device facts below (Function pipes) told are = no (sym are.0 ∙ ap is_some told)
+status_pipe device facts below (Function pipes) told are = false_true (sym are.0 ∙ ap is_some told)
 status_pipe device facts below Absent told are = absurd are
 
 change_none : (b : PortState) → has_change b ≡ false → b.connection_changed ≡ false
@@ -152,24 +152,24 @@ change_by None h = tt
 change_by (Some b) h = change_none b h
 
 -- the device that is reached at a path
-record ReachedAt (w : World) (entries : Entries) (j : Spot) (device : Accepted) : Type 0 where
+record ReachedAt (w : World) (entries : Entries) (j : Location) (device : Accepted) : Type 0 where
   state : State
   on : reach_on w.roots j ≡ true
   stands : state_on w.roots j ≡ Some state
   tells : IsTruthOf entries (path_to j) device state
 
-module _ (w : World) (entries : Entries) (addresses : Addresses) (fits : Accounted (roots_of w) entries addresses) (known : Known w entries) (truthful : Truthful w entries) where
-  pub reached_at : (path : List ℕ) (device : Accepted) → finding_at path entries ≡ Some (Device device) → pend w.roots path ≡ false → reach w.roots path ≡ true
+module _ (w : World) (entries : Entries) (addresses : Addresses) (fits : Accounted (roots_of w) entries addresses) (known : PortsListed w entries) (truthful : DevicesAccurate w entries) where
+  pub reached_at : (path : List ℕ) (device : Accepted) → finding_at path entries ≡ Some (Device device) → pending w.roots path ≡ false → reach w.roots path ≡ true
   reached_at path device found none =
       let here : IsKnownAs w path (Some (Device device)) = subst (IsKnownAs w path) found (known path (listed_port w entries addresses fits path (Device device) found)) in
-      elim here [ inl pends ↦ no (sym none ∙ pends) | inr there ↦ there.1 ]
+      elim here [ inl pends ↦ false_true (sym none ∙ pends) | inr there ↦ there.1 ]
 
-  stands_at : (j : Spot) (device : Accepted) → finding_at (path_to j) entries ≡ Some (Device device) → reach w.roots (path_to j) ≡ true → ReachedAt w entries j device
+  stands_at : (j : Location) (device : Accepted) → finding_at (path_to j) entries ≡ Some (Device device) → reach w.roots (path_to j) ≡ true → ReachedAt w entries j device
   stands_at j device found on =
       let there : _ = reached_there w.roots (path_to j) on in
       record { state = there.0; on = on; stands = there.1; tells = truthful (path_to j) device there.0 (ap accepted_device_of found) on there.1 }
 
-  heard_by : (j : Spot) (device : Accepted) → ReachedAt w entries j device → Heard (path_to j) device w
+  heard_by : (j : Location) (device : Accepted) → ReachedAt w entries j device → IsListening (path_to j) device w
   heard_by j device r = record {
     spot = j;
     state = r.state;
@@ -179,18 +179,18 @@ module _ (w : World) (entries : Entries) (addresses : Addresses) (fits : Account
     listens = record {
       at = eq-eqb (address_of r.state) device.address r.tells.set.address;
       loud = (accepts r.state.spec (tier_of (path_to j)) (known_supply (path_to j) entries) device.chosen r.tells.found.0).loud;
-      hears = hears_by device.low r.state.spec.low (deep_at false j.rest) (device.low && is_below_hub (path_to j)) r.tells.found.1.low (λ low deep. and_of device.low (is_below_hub (path_to j)) low (below_of j.row j.rest deep));
+      hears = server_hears device.low r.state.spec.low (deep_at false j.rest) (device.low && is_below_hub (path_to j)) r.tells.found.1.low (λ low deep. and_of device.low (is_below_hub (path_to j)) low (is_below_hub-deep j.row j.rest deep));
     };
   }
 
-  pub heard_at : (path : List ℕ) (device : Accepted) → finding_at path entries ≡ Some (Device device) → reach w.roots path ≡ true → Heard path device w
-  heard_at [] device found on = no on
-  heard_at (zero ∷ p) device found on = no on
+  pub heard_at : (path : List ℕ) (device : Accepted) → finding_at path entries ≡ Some (Device device) → reach w.roots path ≡ true → IsListening path device w
+  heard_at [] device found on = false_true on
+  heard_at (zero ∷ p) device found on = false_true on
   heard_at (suc j ∷ p) device found on = heard_by (record { row = j; rest = p }) device (stands_at (record { row = j; rest = p }) device found on)
 
-module _ (h : Hosting) (agrees : Agrees h.entries h.addresses) (s : IsSound h) (still : h.world.fault ≡ None) where
+module _ (h : HostState) (agrees : Agrees h.entries h.addresses) (s : HostInvariant h) (still : h.world.fault ≡ None) where
   module _ (facts : HubFacts) (number : ℕ) (least : 1 ≤ number) (most : number ≤ facts.ports) where
-    clear_by : (pipe : Interrupt) (old : World) (j : Spot) (device : Accepted) (below : Bool) → device.hub ≡ Some facts → IsStatusPipe device below pipe → IsSettled old.roots → Waiting pipe.toggle (in_attempt pipe.target pipe.ep) old h.world
+    clear_by : (pipe : Interrupt) (old : World) (j : Location) (device : Accepted) (below : Bool) → device.hub ≡ Some facts → IsStatusPipe device below pipe → IsSettled old.roots → Waiting pipe.toggle (in_attempt pipe.target pipe.ep) old h.world
         → ReachedAt h.world h.entries j device → IfSome (port_there h.world.roots (path_to j ++ (number ∷ []))) (λ b. b.connection_changed ≡ false)
     clear_by pipe old j device below told is settled waiting r =
         let status = status_of (configuration_of device) (pipe.ep, pipe.target.max) is.endpoint in
@@ -200,22 +200,22 @@ module _ (h : Hosting) (agrees : Agrees h.entries h.addresses) (s : IsSound h) (
         let configured : 1 ≤ r.state.registers.configuration = subst (λ n. 1 ≤ n) (sym r.tells.set.configuration) status.valued in
         let address : pipe.target.addr ≡ device.address = ap (λ (t : Target). t.addr) is.target in
         let at : has_address r.state pipe.target ≡ true = eq-eqb r.state.registers.address pipe.target.addr (r.tells.set.address ∙ sym address) in
-        let tells : tells_changes r.state.spec r.state.registers ≡ true = tells_by r.state.spec r.state.registers (omega (arith, least, most, ports)) configured in
-        let trail : Trail (in_attempt pipe.target 1) old (Nak ∷ waiting.outcomes) h.world = subst (λ e. Trail (in_attempt pipe.target e) old (Nak ∷ waiting.outcomes) h.world) status.one waiting.trail in
+        let tells : tells_changes r.state.spec r.state.registers ≡ true = tells_changes-hub r.state.spec r.state.registers (omega (arith, least, most, ports)) configured in
+        let trail : AttemptLog (in_attempt pipe.target 1) old (Nak ∷ waiting.outcomes) h.world = subst (λ e. AttemptLog (in_attempt pipe.target e) old (Nak ∷ waiting.outcomes) h.world) status.one waiting.trail in
         let clear : AreClear h.world j = nak_clears pipe.target trail refl settled s.owned.single j r.state r.on r.stands at tells in
         change_by (port_there h.world.roots (path_to j ++ (number ∷ []))) (clear number least (omega (arith, most, ports, few)))
 
     silent_by : (path : List ℕ) (pipe rest : Interrupt) (old : World) → (there : HubThere path h.entries facts) → IsStatusPipe there.device (is_below_hub path) pipe → PolledThrough pipe old (Ok None) rest h.world
         → reach h.world.roots path ≡ true → IfSome (port_there h.world.roots (path ++ (number ∷ []))) (λ b. b.connection_changed ≡ false)
-    silent_by [] pipe rest old there is through on = no on
-    silent_by (zero ∷ p) pipe rest old there is through on = no on
+    silent_by [] pipe rest old there is through on = false_true on
+    silent_by (zero ∷ p) pipe rest old there is through on = false_true on
     silent_by (suc j ∷ p) pipe rest old there is through on =
         clear_by pipe old (record { row = j; rest = p }) there.device (is_below_hub (suc j ∷ p)) there.told is through.settled through.polls.asked
         (stands_at h.world h.entries h.addresses (accounted h agrees s.rooted) (s.known still) (s.truthful still) (record { row = j; rest = p }) there.device there.found on)
 
   -- the poll answered that there is nothing to tell
   pub poll_silent : (path : List ℕ) (pipes left : Pipes) (old : World) → ArePipesIf (accepted_device_at path h.entries) (is_below_hub path) pipes
-      → PipesPolled pipes old (Ok None) left h.world → pend h.world.roots path ≡ false → IsSilent path h
+      → PipesPolled pipes old (Ok None) left h.world → pending h.world.roots path ≡ false → IsSilent path h
   poll_silent path pipes left old are polled none facts number at least most =
       let there = hub_there path h.entries facts at in
       let pipe : _ = status_pipe there.device facts (is_below_hub path) pipes there.told (subst (λ (found : Option Finding). ArePipesIf (accepted_device_of found) (is_below_hub path) pipes) there.found are) in

@@ -4,13 +4,13 @@ use Rattle.std.specs.Prelude.{IsErr, IsSome, IsSomeAnd}
 use Rattle.std.specs.BTreeMap.{insert_entry}
 use Rattle.usb_port.specs.Order.{parent_of, path_cmp}
 use Rattle.usb_port.specs.Path.{IsPath}
-use Rattle.usb_world.specs.Paths.{is_way, pend}
+use Rattle.usb_world.specs.Paths.{is_way, pending}
 use Rattle.usb_world.specs.World.{World}
 use Rattle.usb_address.specs.Ownership.{KeepsAddresses}
 use Rattle.usb_address.proofs.Interface.{keeps_none, keeps_then}
 use Rattle.usb_pipe.specs.Control.{write_bound}
 use Rattle.usb_hub.specs.Addresses.{KeepsDevices}
-use Rattle.usb_hub.proofs.Interface.{stays_none}
+use Rattle.usb_hub.proofs.Interface.{keeps_devices_none}
 use Rattle.usb_backlog.specs.Marks.{KeepsAll}
 use Rattle.usb_backlog.proofs.Interface.{all_none, all_then}
 use Rattle.usb_enum.specs.declared.cause.Cause.TheVariants.{Lost}
@@ -21,22 +21,22 @@ use Rattle.usb_table.specs.Entries.{without}
 use Rattle.usb_table.specs.Listing.{hub_facts_at}
 use Rattle.usb_table.specs.Table.{Table, entered}
 use Rattle.usb_host.specs.Bounds.{drop_bound}
-use Rattle.usb_host.specs.Hosting.{Hosting}
+use Rattle.usb_host.specs.HostState.{HostState}
 use Rattle.usb_host.specs.PortHandling.{Climbs, DisablesOnWay}
 use Rattle.usb_host.specs.Ports.{Forgets}
-use Rattle.usb_host.specs.Progress.{AddsNoWork, HostGoes, Rests, waiting}
+use Rattle.usb_host.specs.Progress.{AddsNoWork, HostRuns, OnlyBusSteps, waiting}
 use Rattle.usb_host.specs.Service.{DropsOne, FinishesAt}
 use Rattle.usb_host.specs.Soundness.{CausesBut, DropsSound, IsDroppable, IsFairTo}
 use Rattle.usb_host.specs.Transfers.{table_in}
 use Rattle.usb_host.specs.declared.fault.HostFault.{HostFault}
 use Rattle.usb_host.proofs.BulkPipes.{bulk_none}
 use Rattle.usb_host.proofs.Causes.{lost_drops}
-use Rattle.usb_host.proofs.Climbs.{parent_length}
+use Rattle.usb_host.proofs.ParentPaths.{parent_length}
 use Rattle.usb_host.proofs.DroppedHubs.{climb_caused, climb_sound, done_caused, if_err, top_absurd}
 use Rattle.usb_host.proofs.HandlingPayments.{hubs_dropped}
-use Rattle.usb_host.proofs.Handlings.{bares_above, drop_ends, drop_fails, hub_dropped, match_err}
+use Rattle.usb_host.proofs.OwnedPorts.{bares_above, drop_ends, drop_not_done, hub_dropped, match_err}
 use Rattle.usb_host.proofs.HubCounts.{hubs-dropped}
-use Rattle.usb_host.proofs.Joins.{goes_forgotten, goes_none, goes_then}
+use Rattle.usb_host.proofs.StepSums.{goes_forgotten, host_goes_none, host_goes_then}
 use Rattle.usb_host.proofs.Plugs.{plugs_none}
 use Rattle.usb_host.proofs.ServedWork.{rests_holds}
 use Rattle.usb_host.proofs.Services.{loses_parent}
@@ -45,32 +45,32 @@ use Rattle.usb_host.proofs.WaitingDevices.{waiting-entered_other, waiting-withou
 -- The way up
 
 -- each port from the first one up to the path could not be told to pass nothing on
-pub record ClimbedTo (first path : List ℕ) (a b : Hosting) : Type 0 where
-  pub goes : HostGoes ((7 - length path) * write_bound) a b
+pub record ClimbedTo (first path : List ℕ) (a b : HostState) : Type 0 where
+  pub goes : HostRuns ((7 - length path) * write_bound) a b
   pub keeps : KeepsAddresses a.world b.world
   pub devices : KeepsDevices a.world b.world
   pub sound : IsDroppable first a → IsDroppable path b
   pub backlog : IsDroppable first a → b.world.fault ≡ None → KeepsAll a.world b.world
-  pub caused : IsDroppable first a → IsFairTo a.world b.world → pend a.world.roots first ≡ true
+  pub caused : IsDroppable first a → IsFairTo a.world b.world → pending a.world.roots first ≡ true
       → CausesBut first a.world a.entries
-      → (pend b.world.roots path ≡ true) × CausesBut path b.world b.entries
+      → (pending b.world.roots path ≡ true) × CausesBut path b.world b.entries
 
-pub climbed_none : (first : List ℕ) (h : Hosting) → ClimbedTo first first h h
+pub climbed_none : (first : List ℕ) (h : HostState) → ClimbedTo first first h h
 climbed_none first h = record {
-  goes = goes_none ((7 - length first) * write_bound) h;
+  goes = host_goes_none ((7 - length first) * write_bound) h;
   keeps = keeps_none h.world;
-  devices = stays_none h.world;
+  devices = keeps_devices_none h.world;
   sound = λ d. d;
   backlog = λ d still. all_none h.world;
   caused = λ d fair pends caused. (pends, caused);
 }
 
-module _ (first path : List ℕ) (a b c : Hosting) (x : ClimbedTo first path a b)
+module _ (first path : List ℕ) (a b c : HostState) (x : ClimbedTo first path a b)
     (most : length path ≤ 7) (result : Result Bool HostFault)
     (y : DisablesOnWay path b result c) where
-  climb_goes : 1 ≤ length path → HostGoes drop_bound a c
+  climb_goes : 1 ≤ length path → HostRuns drop_bound a c
   climb_goes least =
-      goes_then drop_bound ((7 - length path) * write_bound) write_bound a b c x.goes y.goes
+      host_goes_then drop_bound ((7 - length path) * write_bound) write_bound a b c x.goes y.goes
       (omega (arith, least, most))
 
   climb_devices : KeepsDevices a.world c.world
@@ -89,7 +89,7 @@ module _ (first path : List ℕ) (a b c : Hosting) (x : ClimbedTo first path a b
   climbed_on above is parent =
       let one = parent_length path above parent in
       record {
-        goes = goes_then ((7 - length above) * write_bound) ((7 - length path) * write_bound)
+        goes = host_goes_then ((7 - length above) * write_bound) ((7 - length path) * write_bound)
             write_bound a b c x.goes y.goes (omega (arith, one, most));
         keeps = climb_keeps;
         devices = climb_devices;
@@ -111,7 +111,7 @@ module _ (first path : List ℕ) (a b c : Hosting) (x : ClimbedTo first path a b
       caused = λ d fair pends caused. if_err other _ e;
     }
 
-    module _ (on : is_way path first ≡ true) (r : Rests a b) where
+    module _ (on : is_way path first ≡ true) (r : OnlyBusSteps a b) where
       -- the port was told to pass nothing on
       pub climb_done : result ≡ Ok true → Climbs first a (Ok path) c
       climb_done is = record {
@@ -139,7 +139,7 @@ module _ (first path : List ℕ) (a b c : Hosting) (x : ClimbedTo first path a b
 
 -- A hub is dropped
 
-not_dropped : (hub : List ℕ) (fault : HostFault) (a b : Hosting) → DropsSound hub a (Err fault) b
+not_dropped : (hub : List ℕ) (fault : HostFault) (a b : HostState) → DropsSound hub a (Err fault) b
 not_dropped hub fault a b = record {
   sound = λ d. tt;
   backlog = λ d. tt;
@@ -149,31 +149,31 @@ not_dropped hub fault a b = record {
 }
 
 -- no port was told
-pub drop_untold : (hub : List ℕ) (fault : HostFault) (a b : Hosting) → Rests a b
+pub drop_untold : (hub : List ℕ) (fault : HostFault) (a b : HostState) → OnlyBusSteps a b
     → Climbs hub a (Err fault) b → DropsOne hub a (Err fault) b
 drop_untold hub fault a b r x = record {
   goes = x.goes;
   holds = rests_holds drop_bound a b x.goes r;
   hubs = tt;
-  owned = drop_fails hub a (Err fault) b refl x.bares;
+  owned = drop_not_done hub a (Err fault) b refl x.bares;
   sound = not_dropped hub fault a b;
 }
 
-module _ (hub lost : List ℕ) (a b c d : Hosting) (r : Rests a b) (x : Climbs hub a (Ok lost) b)
+module _ (hub lost : List ℕ) (a b c d : HostState) (r : OnlyBusSteps a b) (x : Climbs hub a (Ok lost) b)
     (f : Forgets lost b c)
     (others : d ≡ record c { entries = d.entries; pipes = d.pipes; addresses = d.addresses }) where
   drop_world : d.world ≡ c.world
-  drop_world = ap (λ (h : Hosting). h.world) others
+  drop_world = ap (λ (h : HostState). h.world) others
 
-  drop_goes : HostGoes drop_bound a d
+  drop_goes : HostRuns drop_bound a d
   drop_goes =
       goes_forgotten drop_bound a c d (goes_forgotten drop_bound a b c x.goes f.others) others
 
   drop_holds : waiting d.entries ≤ waiting c.entries → AddsNoWork a d
   drop_holds fewer =
-      let there = drop_world ∙ ap (λ (h : Hosting). h.world) f.others in
+      let there = drop_world ∙ ap (λ (h : HostState). h.world) f.others in
       let before : waiting b.entries ≡ waiting a.entries =
-      ap (λ (h : Hosting). waiting h.entries) r in
+      ap (λ (h : HostState). waiting h.entries) r in
       let left : waiting c.entries ≡ waiting (without lost b.entries) = ap waiting f.rest in
       rw there (omega (
         arith,
@@ -189,7 +189,7 @@ module _ (hub lost : List ℕ) (a b c d : Hosting) (r : Rests a b) (x : Climbs h
   pub drop_unlisted : (fault : HostFault) → d.entries ≡ c.entries → DropsOne hub a (Err fault) d
   drop_unlisted fault same =
       let fewer = ap waiting same in
-      let world = drop_world ∙ ap (λ (h : Hosting). h.world) f.others in
+      let world = drop_world ∙ ap (λ (h : HostState). h.world) f.others in
       record {
         goes = drop_goes;
         holds = drop_holds (omega (arith, fewer));
@@ -209,7 +209,7 @@ module _ (hub lost : List ℕ) (a b c d : Hosting) (r : Rests a b) (x : Climbs h
       ap (λ (t : Table). t.entries) table in
       let more = waiting-entered_other lost (Refused Lost) c.entries refl in
       let entry = ap waiting entries in
-      let left = f.rest ∙ ap (λ (h : Hosting). without lost h.entries) r in
+      let left = f.rest ∙ ap (λ (h : HostState). without lost h.entries) r in
       let drops = drop_ends hub lost a b c d path r x.goes.went.spends.roots x.bares f.others
       f.rest f.gone drop_world entries in
       record {
@@ -224,9 +224,9 @@ module _ (hub lost : List ℕ) (a b c d : Hosting) (r : Rests a b) (x : Climbs h
 
 -- A port was handled
 
-pub finish_done : (path : List ℕ) (h : Hosting) → FinishesAt path (Ok tt) h (Ok tt) h
+pub finish_done : (path : List ℕ) (h : HostState) → FinishesAt path (Ok tt) h (Ok tt) h
 finish_done path h = record {
-  goes = goes_none drop_bound h;
+  goes = host_goes_none drop_bound h;
   holds = omega arith;
   drops = record {
     owned = record { ends = λ o. o; rooted = λ r within. r };
@@ -241,7 +241,7 @@ finish_done path h = record {
 }
 
 -- its hub was lost, and is dropped
-pub finish_lost : (path hub : List ℕ) (a b : Hosting) (result : Result (Unit {0}) HostFault)
+pub finish_lost : (path hub : List ℕ) (a b : HostState) (result : Result (Unit {0}) HostFault)
     → parent_of path ≡ Some hub → DropsOne hub a result b
     → FinishesAt path (Err ParentLost) a result b
 finish_lost path hub a b result above x =
@@ -257,7 +257,7 @@ finish_lost path hub a b result above x =
         bulk = λ p. x.sound.bulk (at p);
         plugs = x.sound.plugs;
         caused = λ p fair q.
-            let e = subst (λ o. IsSomeAnd o (λ hub. (pend a.world.roots hub ≡ true)
+            let e = subst (λ o. IsSomeAnd o (λ hub. (pending a.world.roots hub ≡ true)
             × CausesBut hub a.world a.entries)) above q in
             x.sound.caused (at p) fair e.0 e.1;
       };

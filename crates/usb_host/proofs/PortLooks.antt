@@ -3,12 +3,12 @@ use Rattle.std.proofs.Common.{◌≡◌, ◌∙◌, ◌⊎◌, ◌+◌, ◌≤�
 use Rattle.std.specs.Prelude.{OnOk}
 use Rattle.usb_port.specs.declared.status.PortStatus.{PortStatus}
 use Rattle.usb_world.proofs.Interface.{decided}
-use Rattle.usb_hub.specs.Addresses.{Bares}
+use Rattle.usb_hub.specs.Addresses.{Isolates}
 use Rattle.usb_hub.specs.Port.{IsAsked}
 use Rattle.usb_resources.specs.Pool.{IsFull}
 use Rattle.usb_enum.specs.Bounds.{enumeration_bound, widest_enumeration}
 use Rattle.usb_enum.specs.Findings.{Enumerates}
-use Rattle.usb_enum.specs.Stop.{FaultAt}
+use Rattle.usb_enum.specs.Stop.{FaultAllowedAt}
 use Rattle.usb_enum.specs.declared.fault.EnumFault.{EnumFault}
 use Rattle.usb_enum.specs.declared.fault.EnumFault.TheVariants.{Memory}
 use Rattle.usb_enum.specs.declared.finding.Finding.{Finding}
@@ -22,44 +22,44 @@ use Rattle.usb_table.proofs.Interface.{known_port-without}
 use Rattle.usb_host.specs.Accounts.{Accounts}
 use Rattle.usb_host.specs.Backlog.{PaysAtLook, hubs}
 use Rattle.usb_host.specs.Bounds.{clearing_bound, look_bound}
-use Rattle.usb_host.specs.Hosting.{Hosting}
+use Rattle.usb_host.specs.HostState.{HostState}
 use Rattle.usb_host.specs.Ownership.{IsOwned, KeepsPort, StaysOwned, claims}
 use Rattle.usb_host.specs.PortHandling.{IsOpen, ServesSound}
 use Rattle.usb_host.specs.Plugs.{KeepsPlugs}
-use Rattle.usb_host.specs.Ports.{Entered, Forgets, Gained, IsPortAt, Requested, Served, StandsAt, Waits}
-use Rattle.usb_host.specs.Progress.{HostGoes, HostWent, Rests, waiting}
+use Rattle.usb_host.specs.Ports.{Entered, Forgets, Gained, IsPortAt, Requested, ProgressOrLost, StandsAt, Waits}
+use Rattle.usb_host.specs.Progress.{HostRuns, HostSteps, OnlyBusSteps, waiting}
 use Rattle.usb_host.specs.Requests.{ClearsError, ClearsPort}
 use Rattle.usb_host.specs.Service.{Discovers, LookedOrLost, LooksAfterError, LooksAt, RenewsPort}
-use Rattle.usb_host.specs.Soundness.{IsSound}
+use Rattle.usb_host.specs.Soundness.{HostInvariant}
 use Rattle.usb_host.specs.Transfers.{table_in}
 use Rattle.usb_host.proofs.BulkPipes.{bulk_stays, bulk_then}
-use Rattle.usb_host.proofs.Causes.{cleared_caused, entered_finds, forgot_caused, still_same, unentered_finds, unfound_finds}
-use Rattle.usb_host.proofs.Enumerations.{enumerated}
+use Rattle.usb_host.proofs.Causes.{cleared_caused, entered_finds, forgot_caused, fault_none_back, unentered_finds, unfound_finds}
+use Rattle.usb_host.proofs.Enumerations.{enumeration_goes}
 use Rattle.usb_host.proofs.Fairness.{fair_after, fair_before}
-use Rattle.usb_host.proofs.Handlings.{found_ends, found_fails, found_lost, port_rests, port_stays, port_then, stays_bare}
+use Rattle.usb_host.proofs.OwnedPorts.{found_ends, found_fails, found_lost, rests_keeps_port, stays_keeps_port, port_then, stays_bare}
 use Rattle.usb_host.proofs.HubCounts.{hubs-found, hubs-gone, hubs-rest, none_rests}
-use Rattle.usb_host.proofs.Joins.{goes_forgotten, goes_none, goes_wider}
-use Rattle.usb_host.proofs.LookPayments.{look_bare, look_lost, look_pays, within_on}
-use Rattle.usb_host.proofs.Looks.{enters_few, enters_other, forgets, looks, renews, served_any}
+use Rattle.usb_host.proofs.StepSums.{goes_forgotten, host_goes_none, goes_wider}
+use Rattle.usb_host.proofs.LookPayments.{look_bare, look_lost, look_pays, plan_within-went}
+use Rattle.usb_host.proofs.HostProgress.{enters_few, enters_other, without_rests, looks, renews, served_any}
 use Rattle.usb_host.proofs.Plugs.{plugs_forgot, plugs_found, plugs_kept, plugs_rests, plugs_then}
 use Rattle.usb_host.proofs.PortRequests.{requested-fails, requested-then}
 use Rattle.usb_host.proofs.ServedPorts.{cleared_lost, cleared_stay, forgot_open, forgot_sound, forgot_stay}
 use Rattle.usb_host.proofs.ServedWork.{failed_on_way, lost_on}
 use Rattle.usb_host.proofs.Services.{cleared_failed, found_failed, renews_by, renews_one}
-use Rattle.usb_host.proofs.Stations.{stands_at}
+use Rattle.usb_host.proofs.PortLocations.{stands_at-claim}
 
 -- What is there is found
 
-module _ (path : List ℕ) (port : KnownPort) (a b : Hosting) (s : StandsAt path port a)
+module _ (path : List ℕ) (port : KnownPort) (a b : HostState) (s : StandsAt path port a)
     (away : has_at path a.entries ≡ false) (accounts : Accounts a.entries a.addresses)
-    (went : HostWent (enumeration_bound port.port) a b) (same : b.stopped ≡ a.stopped) where
-  found_goes : HostGoes widest_enumeration a b
-  found_goes = enumerated port.port a b s.askable went same
+    (went : HostSteps (enumeration_bound port.port) a b) (same : b.stopped ≡ a.stopped) where
+  found_goes : HostRuns widest_enumeration a b
+  found_goes = enumeration_goes port.port a b s.askable went same
 
   pub discover_fails : (fault : EnumFault)
       → Enumerates port.port a.addresses (tier_of path) port.supply a.world (Err fault) b.world
       → b.entries ≡ a.entries → b.pipes ≡ a.pipes → b.addresses ≡ a.addresses
-      → FaultAt port.port fault b.world → Discovers path port a (Err fault) b
+      → FaultAllowedAt port.port fault b.world → Discovers path port a (Err fault) b
   discover_fails fault x entries pipes pool told =
       let owned = found_fails path port a b fault a.addresses x.addresses s away accounts entries
       went.spends.roots in
@@ -97,36 +97,36 @@ module _ (path : List ℕ) (port : KnownPort) (a b : Hosting) (s : StandsAt path
 -- What was there is forgotten
 
 -- the port stands where it stood
-pub forgot_placed : (modelled : Bool) (path : List ℕ) (port : KnownPort) (a b : Hosting)
+pub forgot_placed : (modelled : Bool) (path : List ℕ) (port : KnownPort) (a b : HostState)
     → Forgets path a b → IsPortAt modelled path port a → IsPortAt modelled path port b
 forgot_placed modelled path port a b f s = record {
   is = s.is;
   known = ap (known_port path) f.rest ∙ known_port-without path a.entries ∙ s.known;
-  asked = subst (λ w. IsAsked modelled w port.port) (sym (ap (λ (h : Hosting). h.world) f.others))
+  asked = subst (λ w. IsAsked modelled w port.port) (sym (ap (λ (h : HostState). h.world) f.others))
       s.asked;
   askable = s.askable;
   agrees = f.agrees;
 }
 
-entered_few : (path : List ℕ) (c d : Hosting) (result : Result (Unit {0}) EnumFault)
+entered_few : (path : List ℕ) (c d : HostState) (result : Result (Unit {0}) EnumFault)
     → Entered path c result d → waiting d.entries ≤ waiting c.entries + 1
 entered_few path c d (Ok done) e = enters_few path c d e
 entered_few path c d (Err fault) e = let same = ap waiting e in omega (arith, same)
 
-entered_other : (path : List ℕ) (c d : Hosting) (result : Result (Unit {0}) EnumFault)
+entered_other : (path : List ℕ) (c d : HostState) (result : Result (Unit {0}) EnumFault)
     → Entered path c result d → (IsFull c.addresses → ⊥)
     → waiting d.entries ≤ waiting c.entries
 entered_other path c d (Ok done) e free = enters_other path c d e free
 entered_other path c d (Err fault) e free = let same = ap waiting e in omega (arith, same)
 
-pub entered_hubs : (path : List ℕ) (c d : Hosting) (result : Result (Unit {0}) EnumFault)
+pub entered_hubs : (path : List ℕ) (c d : HostState) (result : Result (Unit {0}) EnumFault)
     → Entered path c result d → hubs d.entries ≤ hubs c.entries + 1
 entered_hubs path c d (Ok done) e = hubs-found path c d e
 entered_hubs path c d (Err fault) e = let same = ap hubs e in omega (arith, same)
 
-module _ (path : List ℕ) (port : KnownPort) (on : Bool) (b d : Hosting)
+module _ (path : List ℕ) (port : KnownPort) (on : Bool) (b d : HostState)
     (result : Result (Unit {0}) EnumFault) (x : RenewsPort path port on b result d) where
-  renew_cases : (P : Result (Unit {0}) EnumFault → Hosting → Type 0)
+  renew_cases : (P : Result (Unit {0}) EnumFault → HostState → Type 0)
       → (on ≡ true → P result d) → (on ≡ false → P (Ok tt) x.mid) → P result d
   renew_cases P found none = elim (decided on) [
     | inl e ↦ found e
@@ -136,8 +136,8 @@ module _ (path : List ℕ) (port : KnownPort) (on : Bool) (b d : Hosting)
   ]
 
   -- after a request
-  module _ (n : ℕ) (a : Hosting) (r : Rests a b) (goes : HostGoes n a b) where
-    forgot_goes : HostGoes n a x.mid
+  module _ (n : ℕ) (a : HostState) (r : OnlyBusSteps a b) (goes : HostRuns n a b) where
+    forgot_goes : HostRuns n a x.mid
     forgot_goes = goes_forgotten n a b x.mid goes x.forgot.others
 
     renew_requested : (k : ℕ) → n + widest_enumeration ≤ k → Requested port.port k a result d
@@ -151,15 +151,15 @@ module _ (path : List ℕ) (port : KnownPort) (on : Bool) (b d : Hosting)
         })
 
     renew_on : {Due : Type 0} → (Due → Gained a.world b.world) → Due ⊎ Waits path a
-        → Served result a d
+        → ProgressOrLost result a d
     renew_on gains due =
-        renew_cases (λ q h. Served q a h)
+        renew_cases (λ q h. ProgressOrLost q a h)
         (λ on. served_any result a d (looks path n widest_enumeration a b x.mid d goes r
         x.forgot.others x.forgot.rest (x.found on).requested.goes gains x.forgot.full
         (entered_few path x.mid d result (x.entered on))
         (entered_other path x.mid d result (x.entered on)) due))
         (λ off. looks path n 0 a b x.mid x.mid goes r x.forgot.others x.forgot.rest
-        (goes_none 0 x.mid) gains x.forgot.full (omega arith) (λ free. omega arith) due)
+        (host_goes_none 0 x.mid) gains x.forgot.full (omega arith) (λ free. omega arith) due)
 
     renew_hubs : hubs d.entries ≤ hubs a.entries + 1
     renew_hubs =
@@ -168,20 +168,20 @@ module _ (path : List ℕ) (port : KnownPort) (on : Bool) (b d : Hosting)
         (λ on. omega (arith, fewer, entered_hubs path x.mid d result (x.entered on)))
         (λ off. omega (arith, fewer))
 
-    renew_owned : StandsAt path port a → Bares port.port a.world b.world
+    renew_owned : StandsAt path port a → Isolates port.port a.world b.world
         → KeepsPort path a result d
     renew_owned s bares =
         let gone : StaysOwned a x.mid = stays_bare path port a b x.mid s r goes.went.spends.roots
         bares x.forgot.others x.forgot.rest in
         renew_cases (λ q h. KeepsPort path a q h)
         (λ on. port_then path a x.mid result d gone (x.found on).owned)
-        (λ off. port_stays path a x.mid gone)
+        (λ off. stays_keeps_port path a x.mid gone)
 
 -- A look
 
 -- the change was not cleared
-pub look_fails : (path : List ℕ) (port : KnownPort) (a b : Hosting) (fault : EnumFault)
-    → StandsAt path port a → Rests a b → ClearsPort port.port a (Err fault) b
+pub look_fails : (path : List ℕ) (port : KnownPort) (a b : HostState) (fault : EnumFault)
+    → StandsAt path port a → OnlyBusSteps a b → ClearsPort port.port a (Err fault) b
     → LooksAt path port a (Err fault) b
 look_fails path port a b fault s r x =
     let went = x.requested.goes.went in
@@ -190,7 +190,7 @@ look_fails path port a b fault s r x =
       requested = requested-fails (Unit {0}) port.port look_bound clearing_bound a b fault
           x.requested (omega arith);
       on = λ due. lost_on PortStatus port.port a b fault r x.gains told;
-      owned = port_rests path a (Err fault) b r went.spends.roots x.keeps.bares;
+      owned = rests_keeps_port path a (Err fault) b r went.spends.roots x.keeps.bares;
       sound = record {
         sound = cleared_lost clearing_bound path port a b s r went fault x.keeps told;
         bulk = λ i on still.
@@ -210,17 +210,17 @@ look_fails path port a b fault s r x =
     }
 
 -- it was, and what was there is forgotten
-module _ (path : List ℕ) (port : KnownPort) (a b c : Hosting) (s : StandsAt path port a)
-    (r : Rests a b) (status : PortStatus) (x : ClearsPort port.port a (Ok status) b)
+module _ (path : List ℕ) (port : KnownPort) (a b c : HostState) (s : StandsAt path port a)
+    (r : OnlyBusSteps a b) (status : PortStatus) (x : ClearsPort port.port a (Ok status) b)
     (f : Forgets path b c) where
-  look_went : HostWent clearing_bound a b
+  look_went : HostSteps clearing_bound a b
   look_went = x.requested.goes.went
 
-  look_goes : HostGoes clearing_bound a c
+  look_goes : HostRuns clearing_bound a c
   look_goes = goes_forgotten clearing_bound a b c x.requested.goes f.others
 
   look_left : c.entries ≡ without path a.entries
-  look_left = forgets path a b c r f.rest
+  look_left = without_rests path a b c r f.rest
 
   -- no device is connected
   bare_sound : status.connected ≡ false → ServesSound path a (Ok tt) c
@@ -233,7 +233,7 @@ module _ (path : List ℕ) (port : KnownPort) (a b c : Hosting) (s : StandsAt pa
     plugs = λ i still. plugs_forgot clearing_bound path a b c look_goes.went r f.rest;
     caused = λ i fair caused.
         forgot_caused clearing_bound path port a b s r look_went c status x.keeps f.others f.rest i
-        (still_same b c f.others fair.still) caused;
+        (fault_none_back b c f.others fair.still) caused;
   }
 
   bare_pays : PaysAtLook path a (Ok tt) c
@@ -248,47 +248,47 @@ module _ (path : List ℕ) (port : KnownPort) (a b c : Hosting) (s : StandsAt pa
   bare_looked off o = record {
     status = status;
     mid = b.world;
-    cleared = x.reads (claims a.entries) path (stands_at path port a s) o;
+    cleared = x.reads (claims a.entries) path (stands_at-claim path port a s) o;
     renewed = renews_by status.connected path a.entries c.entries false off look_left;
   }
 
   -- one is
   module _ (on : status.connected ≡ true) where
-    look_opens : IsSound a → IsOpen path c
+    look_opens : HostInvariant a → IsOpen path c
     look_opens i =
         forgot_open clearing_bound path port a b c status s r look_went x.keeps f i on
 
-    found_plugs : (result : Result (Unit {0}) EnumFault) (d : Hosting)
-        → HostWent widest_enumeration c d → Entered path c result d → IsSound a
+    found_plugs : (result : Result (Unit {0}) EnumFault) (d : HostState)
+        → HostSteps widest_enumeration c d → Entered path c result d → HostInvariant a
         → d.world.fault ≡ None → KeepsPlugs a d
     found_plugs (Ok done) d then e i still =
         let here = went_sound widest_enumeration c.world d.world then still in
         let order = i.order (went_sound clearing_bound a.world c.world look_goes.went here) in
         plugs_found clearing_bound widest_enumeration path status a b c d look_goes.went then r
         f.others f.rest f.gone f.agrees
-        (x.reads (claims a.entries) path (stands_at path port a s) i.owned) order on e
+        (x.reads (claims a.entries) path (stands_at-claim path port a s) i.owned) order on e
     found_plugs (Err fault) d then e i still =
         plugs_then clearing_bound widest_enumeration a c d look_goes.went then still
         (plugs_forgot clearing_bound path a b c look_goes.went r f.rest)
         (plugs_kept c d then.spends.onward e)
 
-    found_renewed : (result : Result (Unit {0}) EnumFault) (d : Hosting)
+    found_renewed : (result : Result (Unit {0}) EnumFault) (d : HostState)
         → Entered path c result d → OnOk result (Replaced path (without path a.entries) d.entries)
     found_renewed (Ok done) d e = renews path a b c d r f.rest e
     found_renewed (Err fault) d e = tt
 
-    found_looked : (result : Result (Unit {0}) EnumFault) (d : Hosting)
+    found_looked : (result : Result (Unit {0}) EnumFault) (d : HostState)
         → Entered path c result d → IsOwned a → LookedOrLost path a result d
     found_looked (Ok done) d e o = record {
       status = status;
       mid = b.world;
-      cleared = x.reads (claims a.entries) path (stands_at path port a s) o;
+      cleared = x.reads (claims a.entries) path (stands_at-claim path port a s) o;
       renewed = renews_by status.connected path a.entries d.entries true on
           (renews_one path a.entries c d look_left e);
     }
     found_looked (Err fault) d e o = found_failed path a c d fault look_left e
 
-    module _ (result : Result (Unit {0}) EnumFault) (d : Hosting)
+    module _ (result : Result (Unit {0}) EnumFault) (d : HostState)
         (e : Entered path c result d) (z : Discovers path port c result d) where
       found_sound : ServesSound path a result d
       found_sound = record {
@@ -303,7 +303,7 @@ module _ (path : List ℕ) (port : KnownPort) (a b c : Hosting) (s : StandsAt pa
             let half = fair_before widest_enumeration a.world c.world d.world
             z.requested.goes.went fair in
             let causes = forgot_caused clearing_bound path port a b s r look_went c status x.keeps
-            f.others f.rest i (still_same b c f.others half.still) caused in
+            f.others f.rest i (fault_none_back b c f.others half.still) caused in
             z.sound.caused (look_opens i)
             (fair_after clearing_bound a.world c.world d.world look_goes.went fair)
             (λ y away. causes y);
@@ -320,13 +320,13 @@ module _ (path : List ℕ) (port : KnownPort) (a b c : Hosting) (s : StandsAt pa
               arith,
               look_goes.went.spends.most,
               z.sound.few (look_opens i) most
-                  (within_on most clearing_bound a c look_goes.went plan),
+                  (plan_within-went most clearing_bound a c look_goes.went plan),
             );
       }
 
-pub look_done : (path : List ℕ) (port : KnownPort) (a b d : Hosting)
+pub look_done : (path : List ℕ) (port : KnownPort) (a b d : HostState)
     (result : Result (Unit {0}) EnumFault) (status : PortStatus) → StandsAt path port a
-    → Rests a b → ClearsPort port.port a (Ok status) b
+    → OnlyBusSteps a b → ClearsPort port.port a (Ok status) b
     → RenewsPort path port status.connected b result d → LooksAt path port a result d
 look_done path port a b d result status s r x y = record {
   requested = renew_requested path port status.connected b d result y clearing_bound a r
@@ -341,7 +341,7 @@ look_done path port a b d result status s r x y = record {
       (bare_sound path port a b y.mid s r status x y.forgot);
   renewed = cases (λ q h. OnOk q (Replaced path (without path a.entries) h.entries))
       (λ on. found_renewed path port a b y.mid s r status x y.forgot on result d (y.entered on))
-      (λ off. inl (forgets path a b y.mid r y.forgot.rest));
+      (λ off. inl (without_rests path a b y.mid r y.forgot.rest));
   pays = cases (λ q h. PaysAtLook path a q h)
       (λ on. found_pays path port a b y.mid s r status x y.forgot on result d (y.entered on)
       (y.found on))
@@ -352,26 +352,26 @@ look_done path port a b d result status s r x y = record {
       (bare_looked path port a b y.mid s r status x y.forgot);
 }
   where
-    cases : (P : Result (Unit {0}) EnumFault → Hosting → Type 0)
+    cases : (P : Result (Unit {0}) EnumFault → HostState → Type 0)
         → (status.connected ≡ true → P result d) → (status.connected ≡ false → P (Ok tt) y.mid)
         → P result d
     cases = renew_cases path port status.connected b d result y
 
 -- One after an error
 
-pub error_look_fails : (path : List ℕ) (port : KnownPort) (a b : Hosting) (fault : EnumFault)
-    → Rests a b → ClearsError port.port a (Err fault) b
+pub error_look_fails : (path : List ℕ) (port : KnownPort) (a b : HostState) (fault : EnumFault)
+    → OnlyBusSteps a b → ClearsError port.port a (Err fault) b
     → LooksAfterError path port a (Err fault) b
 error_look_fails path port a b fault r x = record {
   requested = requested-fails (Unit {0}) port.port look_bound clearing_bound a b fault x.requested
       (omega arith);
   on = λ can. failed_on_way PortStatus a b fault r (x.gains can);
-  owned = port_rests path a (Err fault) b r x.requested.goes.went.spends.roots x.bares;
+  owned = rests_keeps_port path a (Err fault) b r x.requested.goes.went.spends.roots x.bares;
 }
 
-pub error_look_done : (path : List ℕ) (port : KnownPort) (a b d : Hosting)
+pub error_look_done : (path : List ℕ) (port : KnownPort) (a b d : HostState)
     (result : Result (Unit {0}) EnumFault) (status : PortStatus) → StandsAt path port a
-    → Rests a b → ClearsError port.port a (Ok status) b
+    → OnlyBusSteps a b → ClearsError port.port a (Ok status) b
     → RenewsPort path port status.connected b result d → LooksAfterError path port a result d
 error_look_done path port a b d result status s r x y = record {
   requested = renew_requested path port status.connected b d result y clearing_bound a r

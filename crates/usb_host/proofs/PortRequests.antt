@@ -6,63 +6,63 @@ use Rattle.usb_port.specs.Calls.{clear_call, is_reset}
 use Rattle.usb_port.specs.declared.call.PortCall.{PortCall}
 use Rattle.usb_port.specs.declared.call.PortCall.TheVariants.{ClearEnable, ClearConnectionChange, ClearEnableChange, ClearResetChange}
 use Rattle.usb_port.specs.declared.status.PortStatus.{PortStatus}
-use Rattle.usb_world.specs.World.{World, Failed, Spends}
+use Rattle.usb_world.specs.World.{World, Failed, AttemptsWithin}
 use Rattle.usb_world.proofs.Interface.{decided}
 use Rattle.usb_world.specs.declared.types.BusFault.{BusFault}
 use Rattle.usb_bus.proofs.Interface.{went_then}
-use Rattle.usb_address.specs.Claims.{Claims}
-use Rattle.usb_address.specs.Ownership.{KeepsAddresses, Owned, TillFault}
+use Rattle.usb_address.specs.Claims.{AddressMap}
+use Rattle.usb_address.specs.Ownership.{KeepsAddresses, MapHolds, WhileBusWorks}
 use Rattle.usb_address.proofs.Interface.{keeps_then}
 use Rattle.usb_pipe.specs.Control.{FaultAfter, write_bound}
 use Rattle.usb_pipe.specs.declared.fault.PipeFault.{PipeFault}
 use Rattle.usb_pipe.specs.declared.fault.PipeFault.TheVariants as pipe
 use Rattle.usb_hub.specs.Addresses.{IsAt, KeepsAsked, KeepsCleared, KeepsDevices}
 use Rattle.usb_hub.specs.Changes.{ClearsOfPort}
-use Rattle.usb_hub.specs.Moments.{CallsPort, TellsPort}
+use Rattle.usb_hub.specs.Moments.{CommandsPort, ReadsPort}
 use Rattle.usb_hub.specs.Port.{PortCleared, PortRead, order_bound, status_bound}
 use Rattle.usb_hub.specs.Requests.{EndsAfter}
 use Rattle.usb_hub.specs.declared.port.HubPort.{HubPort}
 use Rattle.usb_hub.specs.declared.port.HubPort.TheVariants.{Root, External}
 use Rattle.usb_backlog.proofs.Interface.{all_none}
 use Rattle.usb_enum.specs.Bounds.{read_bound}
-use Rattle.usb_enum.specs.Stop.{CanFail, FaultAt, at_port, fault_at_port}
+use Rattle.usb_enum.specs.Stop.{CanFail, FaultAllowedAt, at_port, fault_at_port}
 use Rattle.usb_enum.specs.declared.fault.EnumFault.{EnumFault}
 use Rattle.usb_enum.specs.declared.fault.EnumFault.TheVariants.{ParentLost, Bus, Memory}
 use Rattle.usb_enum.proofs.Interface.{order_most}
 use Rattle.usb_table.specs.KnownPorts.{IsAskable}
 use Rattle.usb_host.specs.Backlog.{ClearsConnection, ClearsReset}
 use Rattle.usb_host.specs.Bounds.{clearing_bound}
-use Rattle.usb_host.specs.Changes.{IsPlain}
-use Rattle.usb_host.specs.Hosting.{Hosting}
+use Rattle.usb_host.specs.Changes.{HasOnlyWorldChanges}
+use Rattle.usb_host.specs.HostState.{HostState}
 use Rattle.usb_host.specs.Ownership.{BaresPort}
 use Rattle.usb_host.specs.PortHandling.{ClearsChange, LetsGoOn, Tidies, Watches}
-use Rattle.usb_host.specs.Ports.{Gained, Gains, IsDue, Requested, Shown}
-use Rattle.usb_host.specs.Progress.{HostGoes, HostWent}
+use Rattle.usb_host.specs.Ports.{Gained, ProgressOnOk, IsDue, Requested, Shown}
+use Rattle.usb_host.specs.Progress.{HostRuns, HostSteps}
 use Rattle.usb_host.specs.Requests.{ClearsError, ClearsFeature, ClearsOthers, ClearsOwn, ClearsPort, ClearsWhere, SettlesPort, ShowsPort, TidiesPort}
 use Rattle.usb_host.specs.Service.{ClearsAndReads, ClearsTold, DoneWhere}
-use Rattle.usb_host.proofs.Enumerations.{asked}
-use Rattle.usb_host.proofs.Handlings.{bares_after}
-use Rattle.usb_host.proofs.Joins.{goes_by, goes_none, goes_then, goes_wider}
-use Rattle.usb_host.proofs.OtherChanges.{bares_kept, each_none, each_then}
-use Rattle.usb_host.proofs.Requests.{call_tidies, changes_disabled, changes_done, clears_after, clears_disabled, clears_enable_change, clears_failed, clears_reset_change, clears_told, clears_untold, disabled_so, ok_at_port, resets_done, tidies_none, tidies_then, watched}
+use Rattle.usb_host.proofs.Enumerations.{status_read_goes}
+use Rattle.usb_host.proofs.OwnedPorts.{bares_after}
+use Rattle.usb_host.proofs.StepSums.{goes_by, host_goes_none, host_goes_then, goes_wider}
+use Rattle.usb_host.proofs.OtherChanges.{bares_kept, keeps_each_none, keeps_each_then}
+use Rattle.usb_host.proofs.Requests.{call_tidies, changes_disabled, changes_done, clears_after, clears_disabled, clears_enable_change, clears_failed, clears_reset_change, tells_keeps_asked, clears_untold, disabled_so, ok_at_port, resets_done, tidies_none, tidies_then, watched}
 use Rattle.usb_host.proofs.Services.{call_done, done_not, done_so}
 use Rattle.usb_host.proofs.TidiedPorts.{Tidy, enable, reset, tidy_call}
 
 -- A number of requests
 
-pub requested-none : {A : Type 0} (port : HubPort) (n : ℕ) (x : A) (h : Hosting)
+pub requested-none : {A : Type 0} (port : HubPort) (n : ℕ) (x : A) (h : HostState)
     → Requested port n h (Ok x) h
-requested-none port n x h = record { goes = goes_none n h; told = tt }
+requested-none port n x h = record { goes = host_goes_none n h; told = tt }
 
-pub requested-then : {A B : Type 0} (port : HubPort) (k m n : ℕ) (a b c : Hosting) (x : A)
+pub requested-then : {A B : Type 0} (port : HubPort) (k m n : ℕ) (a b c : HostState) (x : A)
     (result : Result B EnumFault) → Requested port m a (Ok x) b → Requested port n b result c
     → m + n ≤ k → Requested port k a result c
 requested-then port k m n a b c x result p q le = record {
-  goes = goes_then k m n a b c p.goes q.goes le;
+  goes = host_goes_then k m n a b c p.goes q.goes le;
   told = q.told;
 }
 
-pub requested-wider : {A : Type 0} (port : HubPort) (k m : ℕ) (a b : Hosting)
+pub requested-wider : {A : Type 0} (port : HubPort) (k m : ℕ) (a b : HostState)
     (result : Result A EnumFault) → Requested port m a result b → m ≤ k
     → Requested port k a result b
 requested-wider port k m a b result p le = record {
@@ -71,7 +71,7 @@ requested-wider port k m a b result p le = record {
 }
 
 -- one of them failed, and so did the call
-pub requested-fails : {A : Type 0} (B : Type 0) (port : HubPort) (k m : ℕ) (a b : Hosting)
+pub requested-fails : {A : Type 0} (B : Type 0) (port : HubPort) (k m : ℕ) (a b : HostState)
     (fault : EnumFault) → Requested {A = A} port m a (Err fault) b → m ≤ k
     → Requested {A = B} port k a (Err fault) b
 requested-fails B port k m a b fault p le = record {
@@ -89,7 +89,7 @@ bus_told answer old new x f is =
 
 port_fault : (port : HubPort) (fault : PipeFault) (new : World) → CanFail port
     → ((f : BusFault) → fault ≡ pipe.Bus f → Failed f new)
-    → FaultAt port (fault_at_port fault) new
+    → FaultAllowedAt port (fault_at_port fault) new
 port_fault port pipe.Stalled new can told = can
 port_fault port pipe.Busy new can told = can
 port_fault port pipe.NoAnswer new can told = can
@@ -100,20 +100,20 @@ port_fault port pipe.Memory new can told = tt
 -- a root port is a register, and never fails
 requested_told : {A : Type 0} (port : HubPort) (answer : Result A PipeFault) (new : World)
     → CanFail port ⊎ IsOk answer → ((f : BusFault) → answer ≡ Err (pipe.Bus f) → Failed f new)
-    → IfErr (at_port answer) (λ fault. FaultAt port fault new)
+    → IfErr (at_port answer) (λ fault. FaultAllowedAt port fault new)
 requested_told port (Ok x) new can told = tt
 requested_told port (Err fault) new (inl can) told =
     port_fault port fault new can (λ f is. told f (ap (λ e. Err e) is))
 requested_told port (Err fault) new (inr ok) told = absurd (cc ok)
 
-requested_by : {A : Type 0} (port : HubPort) (n : ℕ) (a b : Hosting)
-    (answer : Result A PipeFault) (result : Result A EnumFault) → HostGoes n a b
+requested_by : {A : Type 0} (port : HubPort) (n : ℕ) (a b : HostState)
+    (answer : Result A PipeFault) (result : Result A EnumFault) → HostRuns n a b
     → CanFail port ⊎ IsOk answer
     → ((f : BusFault) → answer ≡ Err (pipe.Bus f) → Failed f b.world)
     → result ≡ at_port answer → Requested port n a result b
 requested_by port n a b answer result goes can told is = record {
   goes = goes;
-  told = subst (λ r. IfErr r (λ fault. FaultAt port fault b.world)) (sym is)
+  told = subst (λ r. IfErr r (λ fault. FaultAllowedAt port fault b.world)) (sym is)
       (requested_told port answer b.world can told);
 }
 
@@ -123,15 +123,15 @@ read_can (Root number) old answer new x =
     inr (subst (λ (r : Result PortStatus PipeFault). IsOk r) (sym x.status) refl)
 read_can (External hub number) old answer new x = inl tt
 
-pub shows : (port : HubPort) (a b : Hosting) (answer : Result PortStatus PipeFault)
-    (result : Result PortStatus EnumFault) → IsAskable port → HostWent (status_bound port) a b
+pub shows : (port : HubPort) (a b : HostState) (answer : Result PortStatus PipeFault)
+    (result : Result PortStatus EnumFault) → IsAskable port → HostSteps (status_bound port) a b
     → b.stopped ≡ a.stopped → IfErr answer (λ fault. FaultAfter 1 a.world fault b.world)
-    → PortRead port a.world answer b.world → TellsPort port a.world answer b.world
+    → PortRead port a.world answer b.world → ReadsPort port a.world answer b.world
     → KeepsAsked port a.world answer b.world → result ≡ at_port answer
     → ShowsPort port a result b
 shows port a b answer result askable went same fault read tells keeps is = record {
   requested = requested_by port (read_bound 4) a b answer result
-      (asked port a b askable went same) (read_can port a.world answer b.world read)
+      (status_read_goes port a b askable went same) (read_can port a.world answer b.world read)
       (bus_told answer a.world b.world fault) is;
   answer = answer;
   is = is;
@@ -145,13 +145,13 @@ cleared_can : (port : HubPort) (feature : ℕ) (old : World) (answer : Result (U
 cleared_can (Root number) feature old answer new x = inr x.done
 cleared_can (External hub number) feature old answer new x = inl tt
 
-pub clears_by : (port : HubPort) (feature : ℕ) (a b : Hosting)
+pub clears_by : (port : HubPort) (feature : ℕ) (a b : HostState)
     (answer : Result (Unit {0}) PipeFault) (result : Result (Unit {0}) EnumFault)
-    → HostWent (order_bound port) a b → b.stopped ≡ a.stopped
+    → HostSteps (order_bound port) a b → b.stopped ≡ a.stopped
     → IfErr answer (λ fault. FaultAfter 1 a.world fault b.world)
     → PortCleared port feature a.world answer b.world
     → KeepsCleared port feature a.world answer b.world
-    → CallsPort port (clear_call feature) a.world answer b.world → result ≡ at_port answer
+    → CommandsPort port (clear_call feature) a.world answer b.world → result ≡ at_port answer
     → ClearsFeature port feature a result b
 clears_by port feature a b answer result went same fault effect keeps calls is = record {
   requested = requested_by port write_bound a b answer result
@@ -171,9 +171,9 @@ other_can (Root number) feature old answer new x =
     inr (subst (λ (r : Result (Unit {0}) PipeFault). IsOk r) (sym x.0) refl)
 other_can (External hub number) feature old answer new x = inl tt
 
-pub others_by : (port : HubPort) (feature : ℕ) (a b : Hosting)
+pub others_by : (port : HubPort) (feature : ℕ) (a b : HostState)
     (answer : Result (Unit {0}) PipeFault) (result : Result (Unit {0}) EnumFault)
-    → HostWent (order_bound port) a b → b.stopped ≡ a.stopped
+    → HostSteps (order_bound port) a b → b.stopped ≡ a.stopped
     → IfErr answer (λ fault. FaultAfter 1 a.world fault b.world)
     → ClearsOfPort port feature a.world answer b.world → KeepsAddresses a.world b.world
     → KeepsDevices a.world b.world → result ≡ at_port answer
@@ -186,9 +186,9 @@ others_by port feature a b answer result went same fault effect addresses device
   keeps = record { addresses = addresses; devices = devices };
 }
 
-pub own_by : (hub : HubPort) (a b : Hosting) (answer : Result (Unit {0}) PipeFault)
+pub own_by : (hub : HubPort) (a b : HostState) (answer : Result (Unit {0}) PipeFault)
     (result : Result (Unit {0}) EnumFault) → CanFail hub
-    → HostGoes (read_bound 4 + 2 * write_bound) a b
+    → HostRuns (read_bound 4 + 2 * write_bound) a b
     → ((f : BusFault) → answer ≡ Err (pipe.Bus f) → Failed f b.world)
     → KeepsAddresses a.world b.world → result ≡ at_port answer → ClearsOwn hub a result b
 own_by hub a b answer result can goes fault addresses is = record {
@@ -197,25 +197,25 @@ own_by hub a b answer result can goes fault addresses is = record {
   addresses = addresses;
 }
 
-pub others_none : (port : HubPort) (n : ℕ) (h : Hosting) → ClearsOthers port n h (Ok tt) h
+pub others_none : (port : HubPort) (n : ℕ) (h : HostState) → ClearsOthers port n h (Ok tt) h
 others_none port n h = record {
   requested = requested-none port n tt h;
-  keeps = each_none h.world;
+  keeps = keeps_each_none h.world;
 }
 
-pub others_fail : (port : HubPort) (k m : ℕ) (a b : Hosting) (fault : EnumFault)
+pub others_fail : (port : HubPort) (k m : ℕ) (a b : HostState) (fault : EnumFault)
     → ClearsOthers port m a (Err fault) b → m ≤ k → ClearsOthers port k a (Err fault) b
 others_fail port k m a b fault x le = record {
   requested = requested-wider port k m a b (Err fault) x.requested le;
   keeps = x.keeps;
 }
 
-pub others_then : (port : HubPort) (k m n : ℕ) (a b c : Hosting)
+pub others_then : (port : HubPort) (k m n : ℕ) (a b c : HostState)
     (result : Result (Unit {0}) EnumFault) → ClearsOthers port m a (Ok tt) b
     → ClearsOthers port n b result c → m + n ≤ k → ClearsOthers port k a result c
 others_then port k m n a b c result x y le = record {
   requested = requested-then port k m n a b c tt result x.requested y.requested le;
-  keeps = each_then n a.world b.world c.world x.keeps y.requested.goes.went y.keeps;
+  keeps = keeps_each_then n a.world b.world c.world x.keeps y.requested.goes.went y.keeps;
 }
 
 -- That the host gets on
@@ -236,7 +236,7 @@ attempt_made least (Ok x) old new le ends goes = omega (arith, le, ends.least)
 attempt_made {A = A} least (Err fault) old new le ends goes = made_by A fault old new ends goes
 
 gains_by : {A : Type 0} (result : Result A EnumFault) (old new : World)
-    → (LetsGoOn result → Gained old new) → Gains result old new
+    → (LetsGoOn result → Gained old new) → ProgressOnOk result old new
 gains_by (Ok x) old new g = g tt
 gains_by (Err ParentLost) old new g = g tt
 gains_by (Err (Bus fault)) old new g = tt
@@ -250,7 +250,7 @@ goes_as A B Memory goes = absurd goes
 
 -- a hub was asked
 order_gains : (port : HubPort) (feature n : ℕ) (old : World)
-    (answer : Result (Unit {0}) PipeFault) (new : World) → CanFail port → Spends n old new
+    (answer : Result (Unit {0}) PipeFault) (new : World) → CanFail port → AttemptsWithin n old new
     → PortCleared port feature old answer new → LetsGoOn (at_port answer) → Gained old new
 order_gains (Root number) feature n old answer new can s x goes = absurd can
 order_gains (External hub number) feature n old answer new can s x goes =
@@ -258,7 +258,7 @@ order_gains (External hub number) feature n old answer new can s x goes =
 
 -- or the change of a root port was cleared
 change_gains : (port : HubPort) (n : ℕ) (old : World) (answer : Result (Unit {0}) PipeFault)
-    (new : World) → IsDue old port → Spends n old new
+    (new : World) → IsDue old port → AttemptsWithin n old new
     → PortCleared port C_PORT_CONNECTION old answer new → LetsGoOn (at_port answer)
     → Gained old new
 change_gains (Root number) n old answer new due s x goes =
@@ -266,13 +266,13 @@ change_gains (Root number) n old answer new due s x goes =
 change_gains (External hub number) n old answer new due s x goes =
     order_gains (External hub number) C_PORT_CONNECTION n old answer new tt s x goes
 
-gained_then : (n : ℕ) (old mid new : World) → Gained old mid → Spends n mid new → Gained old new
+gained_then : (n : ℕ) (old mid new : World) → Gained old mid → AttemptsWithin n mid new → Gained old new
 gained_then n old mid new g s = omega (arith, g, s.served, s.later)
 
 -- A status
 
 shown_by : (port : HubPort) (n : ℕ) (old : World) (answer : Result PortStatus PipeFault)
-    (new : World) → Spends n old new → PortRead port old answer new
+    (new : World) → AttemptsWithin n old new → PortRead port old answer new
     → Shown port (at_port answer) old new
 shown_by (Root number) n old answer new s x =
     (ap (λ (r : Result PortStatus PipeFault). at_port r) x.status, x.same)
@@ -280,7 +280,7 @@ shown_by (External hub number) n old answer new s x =
     gains_by (at_port answer) old new
     (λ goes. omega (arith, s.served, attempt_made 3 answer old new (omega arith) x.ends goes))
 
-module _ (port : HubPort) (a b : Hosting) (result : Result PortStatus EnumFault)
+module _ (port : HubPort) (a b : HostState) (result : Result PortStatus EnumFault)
     (x : ShowsPort port a result b) where
   pub shows_shown : Shown port result a.world b.world
   shows_shown = subst (λ r. Shown port r a.world b.world) (sym x.is)
@@ -292,15 +292,15 @@ module _ (port : HubPort) (a b : Hosting) (result : Result PortStatus EnumFault)
 
 -- A clearing, where it is asked for
 
-feature_calls : (port : HubPort) (feature : ℕ) (a b : Hosting)
+feature_calls : (port : HubPort) (feature : ℕ) (a b : HostState)
     → ClearsFeature port feature a (Ok tt) b
-    → CallsPort port (clear_call feature) a.world (Ok tt) b.world
+    → CommandsPort port (clear_call feature) a.world (Ok tt) b.world
 feature_calls port feature a b x =
-    subst (λ r. CallsPort port (clear_call feature) a.world r b.world)
+    subst (λ r. CommandsPort port (clear_call feature) a.world r b.world)
     (ok_at_port x.answer tt (sym x.is)) x.calls
 
-module _ (asked : Bool) (port : HubPort) (feature : ℕ) (a b : Hosting) where
-  where_cases : (P : Result (Unit {0}) EnumFault → Hosting → Type 0)
+module _ (asked : Bool) (port : HubPort) (feature : ℕ) (a b : HostState) where
+  where_cases : (P : Result (Unit {0}) EnumFault → HostState → Type 0)
       (result : Result (Unit {0}) EnumFault) → ClearsWhere asked port feature a result b
       → (ClearsFeature port feature a result b → P result b) → P (Ok tt) a → P result b
   where_cases P result x so not = elim (decided asked) [
@@ -326,21 +326,21 @@ module _ (asked : Bool) (port : HubPort) (feature : ℕ) (a b : Hosting) where
       (tidies_none port a.world)
 
   where_done : (call : PortCall) → clear_call feature ≡ Some call → (is_reset call ≡ true → ⊥)
-      → ClearsWhere asked port feature a (Ok tt) b → (f : Claims) (p : List ℕ) → IsAt f port p
-      → TillFault (Owned f) a.world → DoneWhere asked p call a.world b.world
+      → ClearsWhere asked port feature a (Ok tt) b → (f : AddressMap) (p : List ℕ) → IsAt f port p
+      → WhileBusWorks (MapHolds f) a.world → DoneWhere asked p call a.world b.world
   where_done call is other x f p at owned = elim (decided asked) [
     | inl e ↦
-        let calls = subst (λ o. CallsPort port o a.world (Ok tt) b.world) is
+        let calls = subst (λ o. CommandsPort port o a.world (Ok tt) b.world) is
         (feature_calls port feature a b (x.so e)) in
         done_so asked p call a.world b.world e
         (call_done port call a.world b.world other calls f p at owned)
     | inr e ↦
-        done_not asked p call a.world b.world e (ap (λ (h : Hosting). h.world) (x.not e).1)
+        done_not asked p call a.world b.world e (ap (λ (h : HostState). h.world) (x.not e).1)
   ]
 
 -- The changes of enable and of reset
 
-module _ (port : HubPort) (status : PortStatus) (a b : Hosting) where
+module _ (port : HubPort) (status : PortStatus) (a b : HostState) where
   pub tidied_fails : (fault : EnumFault)
       → ClearsWhere status.enable_changed port C_PORT_ENABLE a (Err fault) b
       → TidiesPort port status a (Err fault) b
@@ -352,7 +352,7 @@ module _ (port : HubPort) (status : PortStatus) (a b : Hosting) where
     clears = record { reset = tt; calm = λ off none. x.not off; clears = λ f p at owned. tt };
   }
 
-  module _ (c : Hosting)
+  module _ (c : HostState)
       (x : ClearsWhere status.enable_changed port C_PORT_ENABLE a (Ok tt) b) where
     first_tidies : Tidies port a.world (Ok tt) b.world
     first_tidies = where_tidies status.enable_changed port C_PORT_ENABLE a b enable
@@ -371,7 +371,7 @@ module _ (port : HubPort) (status : PortStatus) (a b : Hosting) where
 
     clears_told_by : (result : Result (Unit {0}) EnumFault)
         → ClearsWhere status.reset_changed port C_PORT_RESET b result c
-        → (f : Claims) (p : List ℕ) → IsAt f port p → TillFault (Owned f) a.world
+        → (f : AddressMap) (p : List ℕ) → IsAt f port p → WhileBusWorks (MapHolds f) a.world
         → OnOk result (ClearsTold p status a.world c.world)
     clears_told_by (Ok tt) y f p at owned = record {
       mid = b.world;
@@ -403,7 +403,7 @@ module _ (port : HubPort) (status : PortStatus) (a b : Hosting) where
 
 -- and the others
 
-pub settled_fails : (port : HubPort) (status : PortStatus) (a b : Hosting) (fault : EnumFault)
+pub settled_fails : (port : HubPort) (status : PortStatus) (a b : HostState) (fault : EnumFault)
     → TidiesPort port status a (Err fault) b → SettlesPort port status a (Err fault) b
 settled_fails port status a b fault x = record {
   requested = requested-wider port (4 * write_bound) (2 * write_bound) a b (Err fault) x.requested
@@ -412,14 +412,14 @@ settled_fails port status a b fault x = record {
   tidies = λ plain. x;
 }
 
-pub port_settled : (port : HubPort) (status : PortStatus) (a b c : Hosting)
+pub port_settled : (port : HubPort) (status : PortStatus) (a b c : HostState)
     (result : Result (Unit {0}) EnumFault) → TidiesPort port status a (Ok tt) b
     → ClearsOthers port (2 * write_bound) b result c
-    → (IsPlain status → (result ≡ Ok tt) × (c ≡ b)) → SettlesPort port status a result c
+    → (HasOnlyWorldChanges status → (result ≡ Ok tt) × (c ≡ b)) → SettlesPort port status a result c
 port_settled port status a b c result x y none = record {
   requested = requested-then port (4 * write_bound) (2 * write_bound) (2 * write_bound) a b c tt
       result x.requested y.requested (omega arith);
-  keeps = each_then (2 * write_bound) a.world b.world c.world
+  keeps = keeps_each_then (2 * write_bound) a.world b.world c.world
       (record { addresses = x.tidies.addresses; devices = x.tidies.devices })
       y.requested.goes.went y.keeps;
   tidies = λ plain.
@@ -440,7 +440,7 @@ disabled_as : (status : PortStatus) (answer : Result (Unit {0}) PipeFault)
 disabled_as status (Ok done) = refl
 disabled_as status (Err fault) = refl
 
-after_told : (port : HubPort) (n : ℕ) (status : PortStatus) (a b : Hosting)
+after_told : (port : HubPort) (n : ℕ) (status : PortStatus) (a b : HostState)
     (result : Result (Unit {0}) EnumFault) → Requested port n a result b
     → Requested port n a (status_after status result) b
 after_told port n status a b (Ok done) x = record { goes = x.goes; told = tt }
@@ -448,7 +448,7 @@ after_told port n status a b (Err fault) x = record { goes = x.goes; told = x.to
 
 change_failed : (port : HubPort) (old : World) (answer : Result (Unit {0}) PipeFault) (new : World)
     (fault : EnumFault) → Err fault ≡ at_port answer
-    → CallsPort port (clear_call C_PORT_CONNECTION) old answer new
+    → CommandsPort port (clear_call C_PORT_CONNECTION) old answer new
     → KeepsCleared port C_PORT_CONNECTION old answer new → ClearsChange port old (Err fault) new
 change_failed port old (Ok done) new fault is calls keeps = absurd (cc is)
 change_failed port old (Err why) new fault is calls keeps =
@@ -456,7 +456,7 @@ change_failed port old (Err why) new fault is calls keeps =
     subst (λ f. ClearsChange port old (Err f) new) (sym same)
     (clears_failed port old why new calls keeps)
 
-module _ (port : HubPort) (a b : Hosting) where
+module _ (port : HubPort) (a b : HostState) where
   -- it was not cleared
   pub change_fails : (fault : EnumFault) → ClearsFeature port C_PORT_CONNECTION a (Err fault) b
       → ClearsPort port a (Err fault) b
@@ -479,23 +479,23 @@ module _ (port : HubPort) (a b : Hosting) where
         change_gains port write_bound a.world x.answer b.world due x.requested.goes.went.spends
         x.effect (subst LetsGoOn x.is tt)
 
-    change_calls : CallsPort port (clear_call C_PORT_CONNECTION) a.world (Ok tt) b.world
+    change_calls : CommandsPort port (clear_call C_PORT_CONNECTION) a.world (Ok tt) b.world
     change_calls = feature_calls port C_PORT_CONNECTION a b x
 
-    change_after : (n : ℕ) (c : Hosting) (result : Result PortStatus EnumFault) → HostWent n b c
+    change_after : (n : ℕ) (c : HostState) (result : Result PortStatus EnumFault) → HostSteps n b c
         → ClearsChange port b.world result c.world → ClearsChange port a.world result c.world
     change_after n c result went y =
         clears_after port write_bound n a.world b.world c.world x.requested.goes.went went result
         change_calls x.keeps.keeps x.keeps.devices y
 
-    change_on : (n : ℕ) (c : Hosting) (result : Result PortStatus EnumFault) → HostWent n b c
-        → IsDue a.world port → Gains result a.world c.world
+    change_on : (n : ℕ) (c : HostState) (result : Result PortStatus EnumFault) → HostSteps n b c
+        → IsDue a.world port → ProgressOnOk result a.world c.world
     change_on n c result went due =
         gains_by result a.world c.world
         (λ goes. gained_then n a.world b.world c.world (change_gained due) went.spends)
 
     -- the status was not told
-    pub change_untold : (c : Hosting) (fault : EnumFault) → ShowsPort port b (Err fault) c
+    pub change_untold : (c : HostState) (fault : EnumFault) → ShowsPort port b (Err fault) c
         → ClearsPort port a (Err fault) c
     change_untold c fault y = record {
       requested = requested-then port clearing_bound write_bound (read_bound 4) a b c tt
@@ -507,21 +507,21 @@ module _ (port : HubPort) (a b : Hosting) where
       reads = λ f p at owned. tt;
     }
 
-    module _ (c d : Hosting) (status : PortStatus) (y : ShowsPort port b (Ok status) c) where
+    module _ (c d : HostState) (status : PortStatus) (y : ShowsPort port b (Ok status) c) where
       told_answer : y.answer ≡ Ok status
       told_answer = ok_at_port y.answer status (sym y.is)
 
       told_read : PortRead port b.world (Ok status) c.world
       told_read = subst (λ r. PortRead port b.world r c.world) told_answer y.read
 
-      told_tells : TellsPort port b.world (Ok status) c.world
-      told_tells = subst (λ r. TellsPort port b.world r c.world) told_answer y.tells
+      told_tells : ReadsPort port b.world (Ok status) c.world
+      told_tells = subst (λ r. ReadsPort port b.world r c.world) told_answer y.tells
 
       told_asks : KeepsAsked port b.world (Ok status) c.world
       told_asks = subst (λ r. KeepsAsked port b.world r c.world) told_answer y.keeps
 
-      told_goes : HostGoes (write_bound + read_bound 4) a c
-      told_goes = goes_then (write_bound + read_bound 4) write_bound (read_bound 4) a b c
+      told_goes : HostRuns (write_bound + read_bound 4) a c
+      told_goes = host_goes_then (write_bound + read_bound 4) write_bound (read_bound 4) a b c
           x.requested.goes y.requested.goes (omega arith)
 
       -- a port that is enabled was disabled
@@ -551,7 +551,7 @@ module _ (port : HubPort) (a b : Hosting) where
 
       reads_by : (result : Result (Unit {0}) EnumFault)
           → ClearsWhere status.enabled port PORT_ENABLE c result d
-          → (f : Claims) (p : List ℕ) → IsAt f port p → TillFault (Owned f) a.world
+          → (f : AddressMap) (p : List ℕ) → IsAt f port p → WhileBusWorks (MapHolds f) a.world
           → IfOk (status_after status result) (λ s. ClearsAndReads p s a.world d.world)
       reads_by (Ok tt) z f p at owned =
           let kept = x.keeps.keeps.kept f owned in
@@ -570,7 +570,7 @@ module _ (port : HubPort) (a b : Hosting) where
       left_change : status.enabled ≡ false → ClearsChange port a.world (Ok status) c.world
       left_change off =
           change_after (read_bound 4) c (Ok status) y.requested.goes.went
-          (clears_told port (read_bound 4) b.world status c.world y.requested.goes.went off
+          (tells_keeps_asked port (read_bound 4) b.world status c.world y.requested.goes.went off
           told_read told_tells told_asks)
 
       pub change_cleared : (result : Result (Unit {0}) EnumFault)
@@ -578,7 +578,7 @@ module _ (port : HubPort) (a b : Hosting) where
           → ClearsPort port a (status_after status result) d
       change_cleared result z =
           let last = where_requested status.enabled port PORT_ENABLE c d result z in
-          let went = goes_then (read_bound 4 + write_bound) (read_bound 4) write_bound b c d
+          let went = host_goes_then (read_bound 4 + write_bound) (read_bound 4) write_bound b c d
           y.requested.goes last.goes (omega arith) in
           record {
             requested = after_told port clearing_bound status a d result
@@ -592,7 +592,7 @@ module _ (port : HubPort) (a b : Hosting) where
                   let rests = z.not e in
                   subst (λ r. ClearsChange port a.world (status_after status r) d.world)
                   (sym rests.0)
-                  (subst (λ (h : Hosting). ClearsChange port a.world (Ok status) h.world)
+                  (subst (λ (h : HostState). ClearsChange port a.world (Ok status) h.world)
                   (sym rests.1) (left_change e))
             ];
             paid = elim (decided status.enabled) [
@@ -601,7 +601,7 @@ module _ (port : HubPort) (a b : Hosting) where
                   let rests = z.not e in
                   subst (λ r. IfOk (status_after status r)
                   (λ s. ClearsConnection port s a.world d.world)) (sym rests.0)
-                  (subst (λ (h : Hosting). ClearsConnection port status a.world h.world)
+                  (subst (λ (h : HostState). ClearsConnection port status a.world h.world)
                   (sym rests.1) (changes_done port a.world b.world c.world status change_calls
                   x.keeps.keeps told_tells c.world (all_none c.world)))
             ];
@@ -610,7 +610,7 @@ module _ (port : HubPort) (a b : Hosting) where
 
 -- The change of enable
 
-module _ (port : HubPort) (a b : Hosting) where
+module _ (port : HubPort) (a b : HostState) where
   pub error_fails : (fault : EnumFault) → ClearsFeature port C_PORT_ENABLE a (Err fault) b
       → ClearsError port a (Err fault) b
   error_fails fault x = record {
@@ -625,15 +625,15 @@ module _ (port : HubPort) (a b : Hosting) where
   }
 
   module _ (x : ClearsFeature port C_PORT_ENABLE a (Ok tt) b) where
-    error_on : (n : ℕ) (c : Hosting) (result : Result PortStatus EnumFault) → HostGoes n b c
-        → CanFail port → Gains result a.world c.world
+    error_on : (n : ℕ) (c : HostState) (result : Result PortStatus EnumFault) → HostRuns n b c
+        → CanFail port → ProgressOnOk result a.world c.world
     error_on n c result goes can =
         gains_by result a.world c.world
         (λ end. gained_then n a.world b.world c.world
         (order_gains port C_PORT_ENABLE write_bound a.world x.answer b.world can
         x.requested.goes.went.spends x.effect (subst LetsGoOn x.is tt)) goes.went.spends)
 
-    pub error_kept : (c : Hosting) (fault : EnumFault)
+    pub error_kept : (c : HostState) (fault : EnumFault)
         → ClearsFeature port PORT_ENABLE b (Err fault) c → ClearsError port a (Err fault) c
     error_kept c fault y = record {
       requested = requested-fails PortStatus port clearing_bound (2 * write_bound) a c fault
@@ -643,7 +643,7 @@ module _ (port : HubPort) (a b : Hosting) where
       bares = keeps_then a.world b.world c.world x.keeps.keeps y.keeps.keeps;
     }
 
-    module _ (c d : Hosting) (y : ClearsFeature port PORT_ENABLE b (Ok tt) c) where
+    module _ (c d : HostState) (y : ClearsFeature port PORT_ENABLE b (Ok tt) c) where
       bares_by : (result : Result PortStatus EnumFault) → KeepsAddresses c.world d.world
           → BaresPort port a.world result d.world
       bares_by (Ok status) k =
@@ -663,7 +663,7 @@ module _ (port : HubPort) (a b : Hosting) where
             requested = requested-then port clearing_bound (2 * write_bound) (read_bound 4) a c d
                 tt result first z.requested (omega arith);
             gains = error_on (write_bound + read_bound 4) d result
-                (goes_then (write_bound + read_bound 4) write_bound (read_bound 4) b c d
+                (host_goes_then (write_bound + read_bound 4) write_bound (read_bound 4) b c d
                 y.requested.goes z.requested.goes (omega arith));
             bares = bares_by result z.keeps.keeps;
           }

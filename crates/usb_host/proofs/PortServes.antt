@@ -12,15 +12,15 @@ use Rattle.usb_enum.proofs.Interface.{went_sound}
 use Rattle.usb_table.specs.declared.known.KnownPort.{KnownPort}
 use Rattle.usb_host.specs.Backlog.{hubs}
 use Rattle.usb_host.specs.Bounds.{drop_bound, handling_bound, look_bound, serving_bound}
-use Rattle.usb_host.specs.Changes.{has_failed}
-use Rattle.usb_host.specs.Hosting.{Hosting}
+use Rattle.usb_host.specs.Changes.{was_disabled}
+use Rattle.usb_host.specs.HostState.{HostState}
 use Rattle.usb_host.specs.Ownership.{KeepsPort, PortOwned}
 use Rattle.usb_host.specs.PortHandling.{ServesSound, Watches}
 use Rattle.usb_host.specs.Ports.{EndsAs, IsDue, StandsAt, StandsNowhere, Waits}
-use Rattle.usb_host.specs.Progress.{HostWent, Rests}
+use Rattle.usb_host.specs.Progress.{HostSteps, OnlyBusSteps}
 use Rattle.usb_host.specs.Requests.{ClearsOwn, SettlesPort, ShowsPort, TidiesPort}
 use Rattle.usb_host.specs.Service.{EndsAt, FinishesAt, HandlesPort, LooksAfterError, LooksAt, LooksOnceMore, ServesOwn, ServesPort}
-use Rattle.usb_host.specs.Soundness.{IsSound, Part}
+use Rattle.usb_host.specs.Soundness.{HostInvariant, Part}
 use Rattle.usb_host.specs.declared.fault.HostFault.{HostFault}
 use Rattle.usb_host.specs.declared.host.Round.{Round}
 use Rattle.usb_host.specs.declared.host.Round.TheVariants.{Quiet, Worked}
@@ -29,15 +29,15 @@ use Rattle.usb_host.proofs.Causes.{causes_rests, tidied_caused, watched_caused}
 use Rattle.usb_host.proofs.Fairness.{fair_after, fair_before}
 use Rattle.usb_host.proofs.FinishedPorts.{finished_sound}
 use Rattle.usb_host.proofs.HandlingPayments.{handling_pays}
-use Rattle.usb_host.proofs.Handlings.{port_finished, port_rests, port_then, stays_rests}
+use Rattle.usb_host.proofs.OwnedPorts.{port_finished, rests_keeps_port, port_then, stays_rests}
 use Rattle.usb_host.proofs.HubCounts.{hubs-rest, none_rests}
-use Rattle.usb_host.proofs.Joins.{advances_then, goes_none, goes_then, holds_then, rests_then}
-use Rattle.usb_host.proofs.LookPayments.{within_on}
-use Rattle.usb_host.proofs.Looks.{handled, served_on}
-use Rattle.usb_host.proofs.OtherChanges.{failed_on, none_failed, watched_plain}
+use Rattle.usb_host.proofs.StepSums.{advances_then, host_goes_none, host_goes_then, no_work_then, host_rests_then}
+use Rattle.usb_host.proofs.LookPayments.{plan_within-went}
+use Rattle.usb_host.proofs.HostProgress.{handled, served_on}
+use Rattle.usb_host.proofs.OtherChanges.{failed_served, none_failed, watched_plain}
 use Rattle.usb_host.proofs.Plugs.{plugs_rests, plugs_then}
-use Rattle.usb_host.proofs.Parts.{part-fails, part-none, part-wider}
-use Rattle.usb_host.proofs.Payments.{on_err}
+use Rattle.usb_host.proofs.RoundParts.{part-fails, part-none, part-wider}
+use Rattle.usb_host.proofs.Payments.{is_err-if_ok}
 use Rattle.usb_host.proofs.Roots.{waits_somewhere}
 use Rattle.usb_host.proofs.PortRequests.{requested-fails, requested-then, shows_shown, shows_watches}
 use Rattle.usb_host.proofs.ServedPorts.{rests_stands, tidied_port, tidied_stay, watched_lost, watched_sound, watched_stay}
@@ -48,8 +48,8 @@ use Rattle.usb_host.proofs.Services.{handled_at, handled_once, handles_at, serve
 -- A port is served
 
 -- its status was not told
-pub serve_fails : (path : List ℕ) (port : KnownPort) (a b : Hosting) (fault : EnumFault)
-    → StandsAt path port a → Rests a b → ShowsPort port.port a (Err fault) b
+pub serve_fails : (path : List ℕ) (port : KnownPort) (a b : HostState) (fault : EnumFault)
+    → StandsAt path port a → OnlyBusSteps a b → ShowsPort port.port a (Err fault) b
     → ServesPort path port a (Err fault) b
 serve_fails path port a b fault s r x =
     let watches = shows_watches port.port a b (Err fault) x in
@@ -60,7 +60,7 @@ serve_fails path port a b fault s r x =
           x.requested (omega arith);
       on = λ due.
           status_lost_on port.port a b r fault (shows_shown port.port a b (Err fault) x);
-      owned = port_rests path a (Err fault) b r went.spends.roots watches.addresses;
+      owned = rests_keeps_port path a (Err fault) b r went.spends.roots watches.addresses;
       sound = record {
         sound = watched_lost (read_bound 4) path port a b s r went fault watches told;
         bulk = λ i on still.
@@ -77,21 +77,21 @@ serve_fails path port a b fault s r x =
       served = λ i. status_failed path port a b s r (read_bound 4) went i.owned fault;
     }
 
-module _ (path : List ℕ) (port : KnownPort) (a b : Hosting) (s : StandsAt path port a)
-    (r : Rests a b) (status : PortStatus) (x : ShowsPort port.port a (Ok status) b) where
+module _ (path : List ℕ) (port : KnownPort) (a b : HostState) (s : StandsAt path port a)
+    (r : OnlyBusSteps a b) (status : PortStatus) (x : ShowsPort port.port a (Ok status) b) where
   shown_watches : Watches port.port a.world (Ok status) b.world
   shown_watches = shows_watches port.port a b (Ok status) x
 
-  shown_went : HostWent (read_bound 4) a b
+  shown_went : HostSteps (read_bound 4) a b
   shown_went = x.requested.goes.went
 
-  shown_sound : IsSound a → IsSound b
+  shown_sound : HostInvariant a → HostInvariant b
   shown_sound i =
       watched_sound (read_bound 4) path port a b s r shown_went status shown_watches i
 
   -- a change of connection was told
   pub serve_looked : status.connection_changed ≡ true → (result : Result (Unit {0}) EnumFault)
-      (d : Hosting) → LooksAt path port b result d → ServesPort path port a result d
+      (d : HostState) → LooksAt path port b result d → ServesPort path port a result d
   serve_looked changed result d y =
       let then = y.requested.goes.went in
       record {
@@ -128,7 +128,7 @@ module _ (path : List ℕ) (port : KnownPort) (a b : Hosting) (s : StandsAt path
                 arith,
                 shown_went.spends.most,
                 y.pays.few (shown_sound i) most
-                    (within_on most (read_bound 4) a b shown_went plan),
+                    (plan_within-went most (read_bound 4) a b shown_went plan),
               );
         };
         hubs = omega (arith, hubs-rest a b r, y.hubs);
@@ -139,11 +139,11 @@ module _ (path : List ℕ) (port : KnownPort) (a b : Hosting) (s : StandsAt path
 
   -- none was
   module _ (steady : status.connection_changed ≡ false) (result : Result (Unit {0}) EnumFault)
-      (d : Hosting) (q : Rests b d) (y : SettlesPort port.port status b result d) where
-    settled_went : HostWent (4 * write_bound) b d
+      (d : HostState) (q : OnlyBusSteps b d) (y : SettlesPort port.port status b result d) where
+    settled_went : HostSteps (4 * write_bound) b d
     settled_went = y.requested.goes.went
 
-    settled_tidies : IsSound a → TidiesPort port.port status b result d
+    settled_tidies : HostInvariant a → TidiesPort port.port status b result d
     settled_tidies i =
         y.tidies (watched_plain path port a b.world s i.owned status shown_watches)
 
@@ -180,7 +180,7 @@ module _ (path : List ℕ) (port : KnownPort) (a b : Hosting) (s : StandsAt path
       on = λ due.
           tidied_on (4 * write_bound) port.port a b d result status r q
           (shows_shown port.port a b (Ok status) x) y.requested.goes steady due;
-      owned = port_rests path a result d (rests_then a b d r q)
+      owned = rests_keeps_port path a result d (host_rests_then a b d r q)
           (settled_went.spends.roots ∙ shown_went.spends.roots)
           (keeps_then a.world b.world d.world shown_watches.addresses y.keeps.addresses);
       sound = settled_sound;
@@ -201,18 +201,18 @@ module _ (path : List ℕ) (port : KnownPort) (a b : Hosting) (s : StandsAt path
     }
 
   -- its hub has disabled it on an error: no hub of a world does
-  module _ (device : Option Accepted) (failed : has_failed port.port status device ≡ true) where
-    not_failed : IsSound a → ⊥
+  module _ (device : Option Accepted) (failed : was_disabled port.port status device ≡ true) where
+    not_failed : HostInvariant a → ⊥
     not_failed i = none_failed path port a b.world s i status shown_watches device failed
 
-    pub serve_failed : (result : Result (Unit {0}) EnumFault) (d : Hosting)
+    pub serve_failed : (result : Result (Unit {0}) EnumFault) (d : HostState)
         → LooksAfterError path port b result d → hubs d.entries ≤ hubs b.entries + 1
         → ServesPort path port a result d
     serve_failed result d y few = record {
       requested = requested-then port.port serving_bound (read_bound 4) look_bound a b d status
           result x.requested y.requested (omega arith);
       on = λ due.
-          failed_on (read_bound 4) port.port a b d result status r x.requested.goes device failed
+          failed_served (read_bound 4) port.port a b d result status r x.requested.goes device failed
           y.on;
       owned = port_then path a b result d
           (stays_rests a b r shown_went.spends.roots shown_watches.addresses) y.owned;
@@ -234,11 +234,11 @@ module _ (path : List ℕ) (port : KnownPort) (a b : Hosting) (s : StandsAt path
 
 -- the host stopped as the port was served
 pub finish_fails : (path : List ℕ) (served : Result (Unit {0}) EnumFault) (fault : HostFault)
-    (h : Hosting) → (served ≡ Err ParentLost → ⊥)
+    (h : HostState) → (served ≡ Err ParentLost → ⊥)
     → (PortOwned path served h → h.world.shared ≡ false) → EndsAt path served h (Err fault) h
     → FinishesAt path served h (Err fault) h
 finish_fails path served fault h other single left = record {
-  goes = goes_none drop_bound h;
+  goes = host_goes_none drop_bound h;
   holds = omega arith;
   drops = record {
     owned = record { ends = single; rooted = λ r at. tt };
@@ -252,15 +252,15 @@ finish_fails path served fault h other single left = record {
   fewer = λ is. absurd (other is);
 }
 
-module _ (path : List ℕ) (port : KnownPort) (a b d : Hosting) (s : StandsAt path port a)
+module _ (path : List ℕ) (port : KnownPort) (a b d : HostState) (s : StandsAt path port a)
     (served : Result (Unit {0}) EnumFault) (result : Result (Unit {0}) HostFault)
     (ends : EndsAs served result) (y : FinishesAt path served b result d) where
   -- a part of what is done at a port
-  finished_part : (n : ℕ) → HostWent n a b → n + drop_bound ≤ handling_bound
+  finished_part : (n : ℕ) → HostSteps n a b → n + drop_bound ≤ handling_bound
       → b.stopped ≡ a.stopped → KeepsPort path a served b → ServesSound path a served b
       → Part handling_bound a result d
   finished_part n went le same owned sound = record {
-    goes = goes_then handling_bound n drop_bound a b d (record { went = went; going = same })
+    goes = host_goes_then handling_bound n drop_bound a b d (record { went = went; going = same })
         y.goes le;
     owned = port_finished path port served a b result d s went.spends.roots owned y.drops.owned;
     sound = finished_sound path n drop_bound served result a b d went y.goes.went ends sound
@@ -285,22 +285,22 @@ module _ (path : List ℕ) (port : KnownPort) (a b d : Hosting) (s : StandsAt pa
   }
 
   -- the changes of a hub itself
-  pub own_finished : Rests a b → ClearsOwn port.port a served b → ServesOwn a result d
+  pub own_finished : OnlyBusSteps a b → ClearsOwn port.port a served b → ServesOwn a result d
   own_finished r x =
       let roots = x.requested.goes.went.spends.roots in
       record {
-        goes = goes_then handling_bound (read_bound 4 + 2 * write_bound) drop_bound a b d
+        goes = host_goes_then handling_bound (read_bound 4 + 2 * write_bound) drop_bound a b d
             x.requested.goes y.goes (omega arith);
-        holds = holds_then a b d
+        holds = no_work_then a b d
             (rests_holds (read_bound 4 + 2 * write_bound) a b x.requested.goes r) y.holds;
         owned = port_finished path port served a b result d s roots
-            (port_rests path a served b r roots x.addresses) y.drops.owned;
+            (rests_keeps_port path a served b r roots x.addresses) y.drops.owned;
       }
 
 -- A second look
 
 -- the port stands nowhere
-pub look_nowhere : (path : List ℕ) (h : Hosting) → StandsNowhere path h → Waits path h
+pub look_nowhere : (path : List ℕ) (h : HostState) → StandsNowhere path h → Waits path h
     → LooksOnceMore path h (Ok Quiet) h
 look_nowhere path h none waits = record {
   part = part-none handling_bound Quiet h;
@@ -308,7 +308,7 @@ look_nowhere path h none waits = record {
   looked = λ s. absurd (waits_somewhere path h none waits s.rooted);
 }
 
-module _ (path : List ℕ) (port : KnownPort) (a b d : Hosting) (s : StandsAt path port a)
+module _ (path : List ℕ) (port : KnownPort) (a b d : HostState) (s : StandsAt path port a)
     (served : Result (Unit {0}) EnumFault) where
   pub look_once_fails : (fault : HostFault) (ends : EndsAs served (Err fault))
       → FinishesAt path served b (Err fault) d → LooksAt path port a served b
@@ -316,8 +316,8 @@ module _ (path : List ℕ) (port : KnownPort) (a b d : Hosting) (s : StandsAt pa
   look_once_fails fault ends y x other e = record {
     part = part-fails handling_bound handling_bound a d fault other
         (look_finished path port a b d s served (Err fault) ends y x) e (omega arith);
-    did = on_err other _ e;
-    looked = on_err other _ e;
+    did = is_err-if_ok other _ e;
+    looked = is_err-if_ok other _ e;
   }
 
   pub look_once : EndsAs served (Ok tt) → FinishesAt path served b (Ok tt) d → Waits path a

@@ -7,7 +7,7 @@ use Rattle.usb_port.specs.declared.call.PortCall.TheVariants.{SetPower}
 use Rattle.usb_device.specs.Tree.{Ports, ended, vacant, taken, called, changed_at, row_of}
 use Rattle.usb_world.specs.World.{World, roots_of}
 use Rattle.usb_world.specs.Steps.{SetsRoot, after, root_call}
-use Rattle.usb_host.specs.Hosting.{with_power}
+use Rattle.usb_host.specs.HostState.{with_power}
 
 -- the first so many ports have power
 pub powered_upto : ℕ → Ports → Ports

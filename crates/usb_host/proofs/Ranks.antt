@@ -5,7 +5,7 @@ use Rattle.std.proofs.Math.Nat.{mul-le-mul_right}
 use Rattle.std.proofs.lemmas.Nat.{row_fits}
 use Rattle.usb_port.specs.Path.{IsPath}
 use Rattle.usb_port.specs.Order.{rank_of}
-use Rattle.usb_port.proofs.Interface.{bound, rises}
+use Rattle.usb_port.proofs.Interface.{bound, rank_of-less}
 use Rattle.usb_table.specs.NextEntries.{ComesAfter}
 
 -- how many paths are at most as far as the last one
@@ -21,7 +21,7 @@ rank_most path is = omega (arith, bound path is, eight)
 
 pub rank_rises : (last : Option (List ℕ)) (path : List ℕ) → IfSome last IsPath → IsPath path → ComesAfter last path → rank_after last < rank_after (Some path)
 rank_rises None path before is after = omega arith
-rank_rises (Some last) path before is after = omega (arith, rises last path before is after)
+rank_rises (Some last) path before is after = omega (arith, rank_of-less last path before is after)
 
 pub rank_after_most : (last : Option (List ℕ)) → IfSome last IsPath → rank_after last ≤ 2097152
 rank_after_most None is = omega arith

@@ -1,5 +1,5 @@
 -- What a host knows stays so as the world alone goes on, and a hub that is lost may be dropped.
-use Rattle.usb_device.specs.Tree.{Spot}
+use Rattle.usb_device.specs.Tree.{Location}
 use Rattle.std.proofs.Common.{◌≡◌, inl, inr, refl, sym, ap, subst, ◌∙◌, arith, length-append, ℕ, Bool, true, false, List, [], ◌∷◌, length, Option, None, Some, Err}
 use Rattle.std.specs.Prelude.{IsSome, IsSomeAnd}
 use Rattle.usb_port.specs.Order.{parent_of, port_on_hub}
@@ -11,40 +11,40 @@ use Rattle.usb_world.specs.World.{World}
 use Rattle.usb_world.proofs.Interface.{way_apart, way_parent, way_shorter}
 use Rattle.usb_address.specs.Ownership.{KeepsAddresses}
 use Rattle.usb_hub.specs.Addresses.{StaysAs, EachElsewhere, KeepsDevices}
-use Rattle.usb_hub.specs.Requests.{AllRest}
+use Rattle.usb_hub.specs.Requests.{TouchesNoPort}
 use Rattle.usb_hub.proofs.Interface.{stays-registers, stays-spec}
 use Rattle.usb_enum.specs.declared.fault.EnumFault.{EnumFault}
 use Rattle.usb_enum.specs.declared.fault.EnumFault.TheVariants.{ParentLost, Bus, Memory}
 use Rattle.usb_enum.specs.declared.finding.Finding.{Finding}
 use Rattle.usb_enum.specs.declared.finding.Finding.TheVariants.{Device, Refused}
 use Rattle.usb_enum.specs.Places.{IsKnownAs, IsOccupied}
-use Rattle.usb_enum.specs.Stop.{FaultAt}
+use Rattle.usb_enum.specs.Stop.{FaultAllowedAt}
 use Rattle.usb_enum.proofs.Interface.{went_in_order, went_sound}
 use Rattle.usb_table.specs.declared.known.KnownPort.{KnownPort}
 use Rattle.usb_table.specs.KnownPorts.{known_port, port_below, port_found, is_below_hub}
 use Rattle.usb_table.specs.Listing.{finding_at}
 use Rattle.usb_table.specs.Transfers.{SameSettings}
 use Rattle.usb_host.specs.Agreement.{Agrees}
-use Rattle.usb_host.specs.PortHandling.{LetsGoOn, RestElsewhere, PortSound}
-use Rattle.usb_host.specs.Hosting.{Hosting}
+use Rattle.usb_host.specs.PortHandling.{LetsGoOn, RestElsewhere, InvariantAfterPort}
+use Rattle.usb_host.specs.HostState.{HostState}
 use Rattle.usb_host.specs.Ports.{StandsAt}
-use Rattle.usb_host.specs.Progress.{HostWent, Rests}
-use Rattle.usb_host.specs.Soundness.{Known, KnownBut, Truthful, TruthfulBut, IsSound, IsSoundBut, IsDroppable, EachStill, EachStillBut}
-use Rattle.usb_host.proofs.Handlings.{owned_rests, but_rests}
+use Rattle.usb_host.specs.Progress.{HostSteps, OnlyBusSteps}
+use Rattle.usb_host.specs.Soundness.{PortsListed, KnownBut, DevicesAccurate, TruthfulBut, HostInvariant, IsSoundBut, IsDroppable, EachStill, EachStillBut}
+use Rattle.usb_host.proofs.OwnedPorts.{owned_rests, but_rests}
 use Rattle.usb_host.proofs.LevelPipes.{level_rests}
 use Rattle.usb_host.proofs.Owners.{but_all, but_above}
 use Rattle.usb_host.proofs.Roots.{rooted_kept, accounted}
 use Rattle.usb_host.proofs.SettledListings.{listed_port, reached_there}
-use Rattle.usb_host.proofs.Stations.{lost_above}
+use Rattle.usb_host.proofs.PortLocations.{lost_above}
 use Rattle.usb_host.proofs.KnowledgeKept.{known_each, known_but_each, truthful_stays, truthful_but_stays}
 
 -- Devices
 
-still_was : (w : World) (j : Spot) (s : State) → Was StaysAs w j s → Was SameSettings w j s
+still_was : (w : World) (j : Location) (s : State) → Was StaysAs w j s → Was SameSettings w j s
 still_was w j s x = record { before = x.before; on = x.on; stands = x.stands; so = (stays-spec x.before s x.so, stays-registers x.before s x.so) }
 
-pub each_still : (w v : World) → KeepsDevices w v → v.shared ≡ false → EachStill w v
-each_still w v k single j s on at = still_was w j s (k.stays single j s on at)
+pub kept_each_still : (w v : World) → KeepsDevices w v → v.shared ≡ false → EachStill w v
+kept_each_still w v k single j s on at = still_was w j s (k.stays single j s on at)
 
 pub each_still_but : (path : List ℕ) (w v : World) → KeepsDevices w v → v.shared ≡ false → EachStillBut path w v
 each_still_but path w v k single j s away on at = still_was w j s (k.stays single j s on at)
@@ -54,7 +54,7 @@ elsewhere_still path w v each j s away on at = still_was w j s (each j s away on
 
 -- What is known everywhere is known elsewhere, and less is known further above
 
-pub but_of_sound : (path : List ℕ) (h : Hosting) → IsSound h → IsSoundBut path h
+pub but_of_sound : (path : List ℕ) (h : HostState) → HostInvariant h → IsSoundBut path h
 but_of_sound path h s = record {
   owned = but_all path _ h.world s.owned;
   rooted = s.rooted;
@@ -64,7 +64,7 @@ but_of_sound path h s = record {
   level = λ still x away. s.level still x;
 }
 
-pub but_of_above : (path below : List ℕ) (h : Hosting) → is_way path below ≡ true → IsSoundBut below h → IsSoundBut path h
+pub but_of_above : (path below : List ℕ) (h : HostState) → is_way path below ≡ true → IsSoundBut below h → IsSoundBut path h
 but_of_above path below h on s = record {
   owned = but_above path below _ h.world on s.owned;
   rooted = s.rooted;
@@ -76,19 +76,19 @@ but_of_above path below h on s = record {
 
 -- The world alone goes on
 
-module _ (n : ℕ) (a b : Hosting) (r : Rests a b) (went : HostWent n a b) (k : KeepsAddresses a.world b.world) where
+module _ (n : ℕ) (a b : HostState) (r : OnlyBusSteps a b) (went : HostSteps n a b) (k : KeepsAddresses a.world b.world) where
   same_entries : b.entries ≡ a.entries
-  same_entries = ap (λ (h : Hosting). h.entries) r
+  same_entries = ap (λ (h : HostState). h.entries) r
 
-  pub sound_rests : KeepsDevices a.world b.world → AllRest a.world b.world → IsSound a → IsSound b
+  pub sound_rests : KeepsDevices a.world b.world → TouchesNoPort a.world b.world → HostInvariant a → HostInvariant b
   sound_rests devices rests s =
       let owned = owned_rests a b r k s.owned in
       record {
         owned = owned;
         rooted = rooted_kept a b same_entries went.spends.roots s.rooted;
         order = went_in_order n a.world b.world went s.order;
-        known = λ still. subst (Known b.world) (sym same_entries) (known_each a.world b.world a.entries went.spends.roots (λ path port. rests path) (s.known (went_sound n a.world b.world went still)));
-        truthful = λ still. subst (Truthful b.world) (sym same_entries) (truthful_stays a.world b.world a.entries (each_still a.world b.world devices owned.single) (s.truthful (went_sound n a.world b.world went still)));
+        known = λ still. subst (PortsListed b.world) (sym same_entries) (known_each a.world b.world a.entries went.spends.roots (λ path port. rests path) (s.known (went_sound n a.world b.world went still)));
+        truthful = λ still. subst (DevicesAccurate b.world) (sym same_entries) (truthful_stays a.world b.world a.entries (kept_each_still a.world b.world devices owned.single) (s.truthful (went_sound n a.world b.world went still)));
         level = λ still x. level_rests a b r devices owned.single x (s.level (went_sound n a.world b.world went still) x);
       }
 
@@ -106,9 +106,9 @@ module _ (n : ℕ) (a b : Hosting) (r : Rests a b) (went : HostWent n a b) (k : 
 
 -- A hub that is lost
 
-hub_some : (o : Option Finding) (below : Bool) (n : ℕ) → IsSome (port_found o below n) → (f : Finding) × (o ≡ Some f)
-hub_some None below n h = absurd (cc h)
-hub_some (Some f) below n h = (f, refl)
+port_found-finding : (o : Option Finding) (below : Bool) (n : ℕ) → IsSome (port_found o below n) → (f : Finding) × (o ≡ Some f)
+port_found-finding None below n h = absurd (cc h)
+port_found-finding (Some f) below n h = (f, refl)
 
 pub occupied_by : (w : World) (path : List ℕ) (f : Finding) → IsKnownAs w path (Some f) → IsOccupied w path
 occupied_by w path f (inl x) = inl x
@@ -116,11 +116,11 @@ occupied_by w path (Device device) (inr x) = let s : _ = reached_there w.roots p
 occupied_by w path (Refused cause) (inr x) = inr (x.0, x.1.0)
 
 -- the hub of a port that is known may be dropped, where what is known elsewhere than at the port is so
-pub droppable_above : (path hub : List ℕ) (h : Hosting) → parent_of path ≡ Some hub → IsSome (known_port path h.entries) → Agrees h.entries h.addresses → IsSoundBut path h → IsDroppable hub h
+pub droppable_above : (path hub : List ℕ) (h : HostState) → parent_of path ≡ Some hub → IsSome (known_port path h.entries) → Agrees h.entries h.addresses → IsSoundBut path h → IsDroppable hub h
 droppable_above path hub h above known agrees s = record { listed = subst IsSome (sym found.1) refl; but = but_of_above hub path h (way_parent path hub above) s; there = there }
   where
     found : (f : Finding) × (finding_at hub h.entries ≡ Some f)
-    found = hub_some (finding_at hub h.entries) (is_below_hub hub) (port_on_hub path) (subst (λ o. IsSome (port_below o (port_on_hub path) h.entries)) above known)
+    found = port_found-finding (finding_at hub h.entries) (is_below_hub hub) (port_on_hub path) (subst (λ o. IsSome (port_below o (port_on_hub path) h.entries)) above known)
 
     away : is_way path hub ≡ false
     away = way_shorter path hub (omega (arith, ap length (rejoined path hub above) ∙ length-append hub (port_on_hub path ∷ [])))
@@ -132,8 +132,8 @@ droppable_above path hub h above known agrees s = record { listed = subst IsSome
 
 -- A request at a port failed
 
-pub lost_sound : (path : List ℕ) (port : KnownPort) (a b : Hosting) (fault : EnumFault) → StandsAt path port a → FaultAt port.port fault b.world → IsSome (known_port path b.entries) → Agrees b.entries b.addresses
-    → (LetsGoOn {A = Unit {0}} (Err fault) → IsSoundBut path b) → PortSound path (Err fault) b
+pub lost_sound : (path : List ℕ) (port : KnownPort) (a b : HostState) (fault : EnumFault) → StandsAt path port a → FaultAllowedAt port.port fault b.world → IsSome (known_port path b.entries) → Agrees b.entries b.addresses
+    → (LetsGoOn {A = Unit {0}} (Err fault) → IsSoundBut path b) → InvariantAfterPort path (Err fault) b
 lost_sound path port a b ParentLost s told known agrees but = by_parent (parent_of path) refl
   where
     by_parent : (o : Option (List ℕ)) → parent_of path ≡ o → IsSomeAnd o (λ hub. IsDroppable hub b)

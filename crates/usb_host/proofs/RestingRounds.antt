@@ -10,10 +10,10 @@ use Rattle.usb_port.proofs.Interface.{rejoined}
 use Rattle.usb_resources.specs.Pool.{Addresses, IsFull}
 use Rattle.usb_device.specs.Tree.{row_of, port_at}
 use Rattle.usb_device.specs.View.{port_there}
-use Rattle.usb_world.specs.Paths.{pend}
+use Rattle.usb_world.specs.Paths.{pending}
 use Rattle.usb_world.specs.World.{World, root_row, roots_of, change_of, changes}
-use Rattle.usb_world.proofs.Interface.{course_joined, course_wider, no, pending_persists}
-use Rattle.usb_hub.specs.Requests.{AllRest}
+use Rattle.usb_world.proofs.Interface.{course_joined, course_wider, false_true, pending_persists}
+use Rattle.usb_hub.specs.Requests.{TouchesNoPort}
 use Rattle.usb_hub.proofs.Interface.{row_port}
 use Rattle.usb_enum.proofs.Interface.{went_sound}
 use Rattle.usb_enum.specs.declared.cause.Cause.TheVariants.{NoAddress}
@@ -26,20 +26,20 @@ use Rattle.usb_table.specs.Listing.{hub_facts_in, hub_facts_at, IsListedPort, Is
 use Rattle.usb_table.specs.NextEntries.{ComesAfter, Stands, IsNext, IsLast}
 use Rattle.usb_table.proofs.Interface.{path_tied}
 use Rattle.usb_host.specs.Agreement.{Agrees}
-use Rattle.usb_host.specs.Hosting.{Hosting}
+use Rattle.usb_host.specs.HostState.{HostState}
 use Rattle.usb_host.specs.Ownership.{IsRooted}
-use Rattle.usb_host.specs.Progress.{HostGoes, Did, Remains, either}
+use Rattle.usb_host.specs.Progress.{HostRuns, Did, Remains, either}
 use Rattle.usb_host.specs.declared.fault.HostFault.{HostFault}
-use Rattle.usb_host.specs.Soundness.{IsSound, IsSilent, IsAtRest, NoneWaiting, StaysSound, RootsRest, HubKeeps, HubsKeep, LooksKeep}
+use Rattle.usb_host.specs.Soundness.{HostInvariant, IsSilent, IsAtRest, NoneWaiting, KeepsInvariant, RootsRest, HubKeeps, HubsKeep, LooksKeep}
 use Rattle.usb_host.specs.declared.host.Round.{Round}
 use Rattle.usb_host.specs.declared.host.Round.TheVariants.{Worked, Quiet}
 use Rattle.usb_host.proofs.Balances.{accounts_listed}
-use Rattle.usb_host.proofs.CalmPorts.{calm_port, pend_below}
+use Rattle.usb_host.proofs.CalmPorts.{calm_port, pend-no_change}
 use Rattle.usb_host.proofs.Polls.{hub_there}
 use Rattle.usb_host.proofs.Roots.{accounted}
 use Rattle.usb_host.proofs.SettledListings.{listed_port}
-use Rattle.usb_host.proofs.RisingEntries.{turned}
-use Rattle.usb_host.proofs.Stations.{root_alone}
+use Rattle.usb_host.proofs.RisingEntries.{path_cmp-greater}
+use Rattle.usb_host.proofs.PortLocations.{root_alone}
 
 -- Rounds that are quiet
 
@@ -57,45 +57,45 @@ pub quiet_second : (r s : Round) → either r s ≡ Quiet → s ≡ Quiet
 quiet_second Worked s h = absurd (cc h)
 quiet_second Quiet s h = h
 
-pub rests_then : (u w v : World) → AllRest u w → AllRest w v → AllRest u v
-rests_then u w v x y p = course_joined (x p) (y p)
+pub all_rest_then : (u w v : World) → TouchesNoPort u w → TouchesNoPort w v → TouchesNoPort u v
+all_rest_then u w v x y p = course_joined (x p) (y p)
 
 -- A port that told of no change tells of none after a course that asks nothing of it, and in which no event came
 
 none_told : (o u : Option PortState) → u ≡ o → IfSome o (λ b. b.connection_changed ≡ false) → IfSome u (λ b. b.connection_changed ≡ false)
 none_told o u e h = subst (λ (x : Option PortState). IfSome x (λ b. b.connection_changed ≡ false)) (sym e) h
 
-pub silent_stays : (hub : List ℕ) (b c : Hosting) → c.entries ≡ b.entries → AllRest b.world c.world → c.world.taken ≡ b.world.taken → IsSilent hub b → IsSilent hub c
+pub silent_stays : (hub : List ℕ) (b c : HostState) → c.entries ≡ b.entries → TouchesNoPort b.world c.world → c.world.taken ≡ b.world.taken → IsSilent hub b → IsSilent hub c
 silent_stays hub b c same rests taken silent facts number at least most =
     none_told (port_there b.world.roots (hub ++ (number ∷ []))) (port_there c.world.roots (hub ++ (number ∷ []))) (calm_port (hub ++ (number ∷ [])) (rests (hub ++ (number ∷ []))) taken)
     (silent facts number (ap (λ (es : Entries). hub_facts_at hub es) (sym same) ∙ at) least most)
 
 -- what does not pend now did not before
-pub pended : (path : List ℕ) (w v : World) → AllRest w v → pend v.roots path ≡ false → pend w.roots path ≡ false
-pended path w v rests none = pick (pend w.roots path) refl
+pub pended : (path : List ℕ) (w v : World) → TouchesNoPort w v → pending v.roots path ≡ false → pending w.roots path ≡ false
+pended path w v rests none = pick (pending w.roots path) refl
   where
-    pick : (b : Bool) → pend w.roots path ≡ b → b ≡ false
-    pick true is = no (sym none ∙ pending_persists path (course_wider (λ s u x. x.spares) (rests path)) is)
+    pick : (b : Bool) → pending w.roots path ≡ b → b ≡ false
+    pick true is = false_true (sym none ∙ pending_persists path (course_wider (λ s u x. x.spares) (rests path)) is)
     pick false is = refl
 
 -- One hub after another
 
 -- a hub that does not come after the last one was polled
-abbrev pub Polled : Option (List ℕ) → Hosting → Type 0
-Polled last h = (hub : List ℕ) → (ComesAfter last hub → ⊥) → pend h.world.roots hub ≡ false → IsSilent hub h
+abbrev pub Polled : Option (List ℕ) → HostState → Type 0
+Polled last h = (hub : List ℕ) → (ComesAfter last hub → ⊥) → pending h.world.roots hub ≡ false → IsSilent hub h
 
 stands_hub : (last : Option (List ℕ)) (hub : List ℕ) (es : Entries) (facts : HubFacts) → hub_facts_at hub es ≡ Some facts → ComesAfter last hub → Stands is_hub last es hub
 stands_hub last hub es facts at after =
     let there = hub_there hub es facts at in
     record { finding = Device there.device; found = there.found; fits = ap is_some there.told; after = after }
 
-hub_some : (f : Finding) → is_hub f ≡ true → IsSome (hub_facts_in (Some f))
-hub_some (Device device) h = h
-hub_some (Refused cause) h = absurd (cc h)
+is_hub-facts : (f : Finding) → is_hub f ≡ true → IsSome (hub_facts_in (Some f))
+is_hub-facts (Device device) h = h
+is_hub-facts (Refused cause) h = absurd (cc h)
 
 -- the next hub is listed
 pub next_listed : (last : Option (List ℕ)) (hub : List ℕ) (es : Entries) → IsNext is_hub last es hub → IsSome (hub_facts_at hub es)
-next_listed last hub es is = subst (λ o. IsSome (hub_facts_in o)) (sym is.stands.found) (hub_some is.stands.finding is.stands.fits)
+next_listed last hub es is = subst (λ o. IsSome (hub_facts_in o)) (sym is.stands.found) (is_hub-facts is.stands.finding is.stands.fits)
 
 after_or_not : (last : Option (List ℕ)) (hub : List ℕ) → ComesAfter last hub ⊎ (ComesAfter last hub → ⊥)
 after_or_not None hub = inl tt
@@ -106,8 +106,8 @@ after_or_not (Some last) hub = pick (path_cmp last hub) refl
     pick Equal is = inr (λ less. cc (less, is))
     pick Greater is = inr (λ less. cc (less, is))
 
-module _ (last : Option (List ℕ)) (next : List ℕ) (b c : Hosting) (is : IsNext is_hub last b.entries next) (same : c.entries ≡ b.entries)
-    (rests : AllRest b.world c.world) (taken : c.world.taken ≡ b.world.taken) (before : Polled last b) (here : pend c.world.roots next ≡ false → IsSilent next c) where
+module _ (last : Option (List ℕ)) (next : List ℕ) (b c : HostState) (is : IsNext is_hub last b.entries next) (same : c.entries ≡ b.entries)
+    (rests : TouchesNoPort b.world c.world) (taken : c.world.taken ≡ b.world.taken) (before : Polled last b) (here : pending c.world.roots next ≡ false → IsSilent next c) where
   pub polled_next : Polled (Some next) c
   polled_next hub not none facts number at least most = pick (path_cmp next hub) refl
     where
@@ -121,20 +121,20 @@ module _ (last : Option (List ℕ)) (next : List ℕ) (b c : Hosting) (is : IsNe
       pick Less less = absurd (not less)
       pick Equal tie =
           let path : next ≡ hub = path_tied next hub (ap is_eq tie) in
-          subst (λ (p : List ℕ). (pend c.world.roots p ≡ false → IsSilent p c) → IfSome (port_there c.world.roots (hub ++ (number ∷ []))) (λ b. b.connection_changed ≡ false)) (sym path)
+          subst (λ (p : List ℕ). (pending c.world.roots p ≡ false → IsSilent p c) → IfSome (port_there c.world.roots (hub ++ (number ∷ []))) (λ b. b.connection_changed ≡ false)) (sym path)
           (λ h. h none facts number at least most) here
       pick Greater greater = elim (after_or_not last hub) [
-        | inl after ↦ absurd (is.least hub (stands_hub last hub b.entries facts was after) (turned next hub greater))
+        | inl after ↦ absurd (is.least hub (stands_hub last hub b.entries facts was after) (path_cmp-greater next hub greater))
         | inr before_last ↦ earlier before_last
       ]
 
 -- two parts, of which the second polled the next hub
-module _ (m n : ℕ) (r s : Round) (a b c : Hosting) (p : HostGoes m a b) (q : HostGoes n b c) (quiet : either r s ≡ Quiet) (still : c.world.fault ≡ None) where
-  pub calm_then : (r ≡ Quiet → b.world.fault ≡ None → AllRest a.world b.world) → (done s ≡ done Quiet → c.world.fault ≡ None → AllRest b.world c.world) → AllRest a.world c.world
-  calm_then x y = rests_then a.world b.world c.world (x (quiet_first r s quiet) (went_sound n b.world c.world q.went still)) (y (ap done (quiet_second r s quiet)) still)
+module _ (m n : ℕ) (r s : Round) (a b c : HostState) (p : HostRuns m a b) (q : HostRuns n b c) (quiet : either r s ≡ Quiet) (still : c.world.fault ≡ None) where
+  pub calm_then : (r ≡ Quiet → b.world.fault ≡ None → TouchesNoPort a.world b.world) → (done s ≡ done Quiet → c.world.fault ≡ None → TouchesNoPort b.world c.world) → TouchesNoPort a.world c.world
+  calm_then x y = all_rest_then a.world b.world c.world (x (quiet_first r s quiet) (went_sound n b.world c.world q.went still)) (y (ap done (quiet_second r s quiet)) still)
 
-  pub polled_then : (last : Option (List ℕ)) (next : List ℕ) → IsNext is_hub last b.entries next → c.world.taken ≡ a.world.taken → IsSound a → StaysSound a b → Did s b c
-      → (IsSound a → r ≡ Quiet → b.world.fault ≡ None → b.world.taken ≡ a.world.taken → Polled last b) → HubKeeps next b (Ok s) c → Polled (Some next) c
+  pub polled_then : (last : Option (List ℕ)) (next : List ℕ) → IsNext is_hub last b.entries next → c.world.taken ≡ a.world.taken → HostInvariant a → KeepsInvariant a b → Did s b c
+      → (HostInvariant a → r ≡ Quiet → b.world.fault ≡ None → b.world.taken ≡ a.world.taken → Polled last b) → HubKeeps next b (Ok s) c → Polled (Some next) c
   polled_then last next is taken sound stays did before hub =
       let first = quiet_first r s quiet in
       let second = quiet_second r s quiet in
@@ -144,11 +144,11 @@ module _ (m n : ℕ) (r s : Round) (a b c : Hosting) (p : HostGoes m a b) (q : H
       let late = q.went.spends.onward in
       let taken_first : b.world.taken ≡ a.world.taken = omega (arith, taken, early, late) in
       let taken_second : c.world.taken ≡ b.world.taken = omega (arith, taken, early, late) in
-      polled_next last next b c is (ap (λ (h : Hosting). h.entries) remains) (hub.calm told still) taken_second
+      polled_next last next b c is (ap (λ (h : HostState). h.entries) remains) (hub.calm told still) taken_second
       (before sound first (went_sound n b.world c.world q.went still) taken_first) (hub.silent (stays.sound sound) told still)
 
 -- after the last of them all were polled
-pub polled_all : (last : Option (List ℕ)) (h : Hosting) → IsLast is_hub last h.entries → Polled last h → (hub : List ℕ) → pend h.world.roots hub ≡ false → IsSilent hub h
+pub polled_all : (last : Option (List ℕ)) (h : HostState) → IsLast is_hub last h.entries → Polled last h → (hub : List ℕ) → pending h.world.roots hub ≡ false → IsSilent hub h
 polled_all last h none polled hub calm facts number at least most = elim (after_or_not last hub) [
   | inl after ↦ absurd (none hub (stands_hub last hub h.entries facts at after))
   | inr before ↦ polled hub before calm facts number at least most
@@ -156,14 +156,14 @@ polled_all last h none polled hub calm facts number at least most = elim (after_
 
 -- Each port that is known
 
-abbrev one_if : Bool → ℕ
-one_if b = if b then 1 else 0
+abbrev one_if_changed : Bool → ℕ
+one_if_changed b = if b then 1 else 0
 
 change_clear : (p : PortState) → change_of p ≡ 0 → p.connection_changed ≡ false
 unfolding change_of
 change_clear p h = pick p.connection_changed h
   where
-    pick : (b : Bool) → one_if b ≡ 0 → b ≡ false
+    pick : (b : Bool) → one_if_changed b ≡ 0 → b ≡ false
     pick true e = absurd (cc e)
     pick false e = refl
 
@@ -177,37 +177,37 @@ root_clear : (w : World) (n : ℕ) → 1 ≤ n → changes (root_row w) ≡ 0 �
 root_clear w zero least none = absurd (omega (arith, least))
 root_clear w (suc i) least none = none_told (slice_get (row_of w.roots) i) (port_at w.roots i []) (row_port w.roots i) (changes_clear (row_of w.roots) i none)
 
-module _ (a c : Hosting) (agrees : Agrees c.entries c.addresses) (rooted : IsRooted c) (rests : AllRest a.world c.world) (taken : c.world.taken ≡ a.world.taken)
-    (none : changes (root_row a.world) ≡ 0) (silent : (hub : List ℕ) → pend c.world.roots hub ≡ false → IsSilent hub c) where
-  root_rests : (n : ℕ) → 1 ≤ n → pend c.world.roots (n ∷ []) ≡ false
+module _ (a c : HostState) (agrees : Agrees c.entries c.addresses) (rooted : IsRooted c) (rests : TouchesNoPort a.world c.world) (taken : c.world.taken ≡ a.world.taken)
+    (none : changes (root_row a.world) ≡ 0) (silent : (hub : List ℕ) → pending c.world.roots hub ≡ false → IsSilent hub c) where
+  root_rests : (n : ℕ) → 1 ≤ n → pending c.world.roots (n ∷ []) ≡ false
   root_rests n least =
-      pend_below c.world.roots [] n least refl
+      pend-no_change c.world.roots [] n least refl
       (none_told (port_there a.world.roots (n ∷ [])) (port_there c.world.roots (n ∷ [])) (calm_port (n ∷ []) (rests (n ∷ [])) taken) (root_clear a.world n least none))
 
-  below_rests : (hub : List ℕ) (n : ℕ) → (IsListedPort (roots_of c.world) c.entries hub → pend c.world.roots hub ≡ false) → IsSomeAnd (hub_facts_at hub c.entries) (λ facts. (1 ≤ n) × (n ≤ facts.ports))
-      → pend c.world.roots (hub ++ (n ∷ [])) ≡ false
+  below_rests : (hub : List ℕ) (n : ℕ) → (IsListedPort (roots_of c.world) c.entries hub → pending c.world.roots hub ≡ false) → IsSomeAnd (hub_facts_at hub c.entries) (λ facts. (1 ≤ n) × (n ≤ facts.ports))
+      → pending c.world.roots (hub ++ (n ∷ [])) ≡ false
   below_rests hub n above port = pick (hub_facts_at hub c.entries) refl port
     where
-      pick : (o : Option HubFacts) → hub_facts_at hub c.entries ≡ o → IsSomeAnd o (λ facts. (1 ≤ n) × (n ≤ facts.ports)) → pend c.world.roots (hub ++ (n ∷ [])) ≡ false
+      pick : (o : Option HubFacts) → hub_facts_at hub c.entries ≡ o → IsSomeAnd o (λ facts. (1 ≤ n) × (n ≤ facts.ports)) → pending c.world.roots (hub ++ (n ∷ [])) ≡ false
       pick None at h = absurd h
       pick (Some facts) at h =
           let there = hub_there hub c.entries facts at in
           let calm = above (listed_port c.world c.entries c.addresses (accounted c agrees rooted) hub (Device there.device) there.found) in
-          pend_below c.world.roots hub n h.0 calm (silent hub calm facts n at h.0 h.1)
+          pend-no_change c.world.roots hub n h.0 calm (silent hub calm facts n at h.0 h.1)
 
-  pends_step : (fuel : ℕ) (path : List ℕ) → length path ≤ suc fuel → ((hub : List ℕ) → length hub ≤ fuel → IsListedPort (roots_of c.world) c.entries hub → pend c.world.roots hub ≡ false) → 1 ≤ length path
-      → (o : Option (List ℕ)) → parent_of path ≡ o → IsPortBelow (roots_of c.world) c.entries o (port_on_hub path) → pend c.world.roots path ≡ false
-  pends_step fuel path short above some None is h = subst (λ (p : List ℕ). pend c.world.roots p ≡ false) (sym (root_alone path some is)) (root_rests (port_on_hub path) h.0)
+  pends_step : (fuel : ℕ) (path : List ℕ) → length path ≤ suc fuel → ((hub : List ℕ) → length hub ≤ fuel → IsListedPort (roots_of c.world) c.entries hub → pending c.world.roots hub ≡ false) → 1 ≤ length path
+      → (o : Option (List ℕ)) → parent_of path ≡ o → IsPortBelow (roots_of c.world) c.entries o (port_on_hub path) → pending c.world.roots path ≡ false
+  pends_step fuel path short above some None is h = subst (λ (p : List ℕ). pending c.world.roots p ≡ false) (sym (root_alone path some is)) (root_rests (port_on_hub path) h.0)
   pends_step fuel path short above some (Some hub) is h =
       let joined : path ≡ hub ++ (port_on_hub path ∷ []) = rejoined path hub is in
       let long : length path ≡ length hub + 1 = ap length joined ∙ length-append hub (port_on_hub path ∷ []) in
-      subst (λ (p : List ℕ). pend c.world.roots p ≡ false) (sym joined) (below_rests hub (port_on_hub path) (above hub (omega (arith, long, short))) h)
+      subst (λ (p : List ℕ). pending c.world.roots p ≡ false) (sym joined) (below_rests hub (port_on_hub path) (above hub (omega (arith, long, short))) h)
 
-  pends_by : (fuel : ℕ) (path : List ℕ) → length path ≤ fuel → IsListedPort (roots_of c.world) c.entries path → pend c.world.roots path ≡ false
+  pends_by : (fuel : ℕ) (path : List ℕ) → length path ≤ fuel → IsListedPort (roots_of c.world) c.entries path → pending c.world.roots path ≡ false
   pends_by zero path short port = absurd (omega (arith, short, port.some))
   pends_by (suc fuel) path short port = pends_step fuel path short (pends_by fuel) port.some (parent_of path) refl port.port
 
-  pub none_pends : (path : List ℕ) → IsListedPort (roots_of c.world) c.entries path → pend c.world.roots path ≡ false
+  pub none_pends : (path : List ℕ) → IsListedPort (roots_of c.world) c.entries path → pending c.world.roots path ≡ false
   none_pends path port = pends_by (length path) path (omega arith) port
 
 -- Devices that wait
@@ -225,16 +225,16 @@ none_waits es addresses agrees (inr none) path at = absurd (none path (record { 
 
 -- The whole round
 
-pub at_rest : (a b c d : Hosting) → RootsRest a b → StaysSound b c → HubsKeep b (Ok Quiet) c → LooksKeep c (Ok Quiet) d → IsSound a → d.world.taken ≡ a.world.taken → d.world.fault ≡ None → IsAtRest d.world d.entries
+pub at_rest : (a b c d : HostState) → RootsRest a b → KeepsInvariant b c → HubsKeep b (Ok Quiet) c → LooksKeep c (Ok Quiet) d → HostInvariant a → d.world.taken ≡ a.world.taken → d.world.fault ≡ None → IsAtRest d.world d.entries
 at_rest a b c d roots sound hubs looks s taken sane =
-    let known : IsSound b = subst IsSound (sym roots.same) s in
+    let known : HostInvariant b = subst HostInvariant (sym roots.same) s in
     let rooted : IsRooted c = (sound.sound known).rooted in
     let looked = looks.rest rooted refl in
-    let working : c.world.fault ≡ None = ap (λ (h : Hosting). h.world.fault) (sym looked.0) ∙ sane in
-    let still : c.world.taken ≡ b.world.taken = ap (λ (h : Hosting). h.world.taken) (sym looked.0) ∙ taken ∙ ap (λ (h : Hosting). h.world.taken) (sym roots.same) in
-    let none : changes (root_row b.world) ≡ 0 = ap (λ (h : Hosting). changes (root_row h.world)) roots.same ∙ roots.none in
+    let working : c.world.fault ≡ None = ap (λ (h : HostState). h.world.fault) (sym looked.0) ∙ sane in
+    let still : c.world.taken ≡ b.world.taken = ap (λ (h : HostState). h.world.taken) (sym looked.0) ∙ taken ∙ ap (λ (h : HostState). h.world.taken) (sym roots.same) in
+    let none : changes (root_row b.world) ≡ 0 = ap (λ (h : HostState). changes (root_row h.world)) roots.same ∙ roots.none in
     let ports = none_pends b c hubs.agrees rooted (hubs.calm refl working) still none (hubs.silent known refl working still) in
     record {
-      none_pending = subst (λ (h : Hosting). (path : List ℕ) → IsListedPort (roots_of h.world) h.entries path → pend h.world.roots path ≡ false) (sym looked.0) ports;
+      none_pending = subst (λ (h : HostState). (path : List ℕ) → IsListedPort (roots_of h.world) h.entries path → pending h.world.roots path ≡ false) (sym looked.0) ports;
       none_waiting = looked.1;
     }

@@ -24,8 +24,8 @@ above_all : (path first : List ℕ) (ks : List (List ℕ)) → path_cmp path fir
 above_all path first [] less h = tt
 above_all path first (k ∷ ks) less h = (nat_list_cmp_total.trans path first k less h.0, above_all path first ks less h.1)
 
-pub turned : (path first : List ℕ) → path_cmp path first ≡ Greater → path_cmp first path ≡ Less
-turned path first is = nat_list_cmp_total.antisymm first path ∙ ap ordering_reverse is
+pub path_cmp-greater : (path first : List ℕ) → path_cmp path first ≡ Greater → path_cmp first path ≡ Less
+path_cmp-greater path first is = nat_list_cmp_total.antisymm first path ∙ ap ordering_reverse is
 
 rises_step : (path : List ℕ) (f : Finding) (e : List ℕ × Finding) (es : Entries) → Rises (e ∷ es) → Rises (insert_entry path_cmp es path f) → (o : Ordering) → path_cmp path e.0 ≡ o
     → Rises (match_ordering o ((path, f) ∷ e ∷ es) ((e.0, f) ∷ es) (e ∷ insert_entry path_cmp es path f))
@@ -34,7 +34,7 @@ rises_step path f e es h more Less is = ((is, above_all path e.0 (keys_of es) is
 rises_step path f e es h more Equal is = h
 rises_step path f e es h more Greater is =
     let P : List ℕ → Type 0 = λ k. path_cmp e.0 k ≡ Less in
-    (recursion_from_All P (keys_of (insert_entry path_cmp es path f)) (All-keys-insert_entry path_cmp path f P es (All-from_recursion P (keys_of es) h.0) (turned path e.0 is)), more)
+    (recursion_from_All P (keys_of (insert_entry path_cmp es path f)) (All-keys-insert_entry path_cmp path f P es (All-from_recursion P (keys_of es) h.0) (path_cmp-greater path e.0 is)), more)
 
 pub rises_entered : (path : List ℕ) (f : Finding) (es : Entries) → Rises es → Rises (insert_entry path_cmp es path f)
 unfolding IsStrictlySortedBy

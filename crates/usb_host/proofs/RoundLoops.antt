@@ -5,7 +5,7 @@ use Rattle.usb_port.specs.Path.{IsPath}
 use Rattle.usb_port.specs.Status.{has_bit}
 use Rattle.usb_world.specs.Steps.{here}
 use Rattle.usb_world.specs.World.{changes, root_port_at, root_row, roots_of}
-use Rattle.usb_hub.specs.Requests.{AllRest}
+use Rattle.usb_hub.specs.Requests.{TouchesNoPort}
 use Rattle.usb_resources.specs.Pool.{IsFull}
 use Rattle.usb_enum.proofs.Interface.{went_sound}
 use Rattle.usb_table.specs.Findings.{is_hub, is_waiting}
@@ -13,42 +13,42 @@ use Rattle.usb_table.specs.NextEntries.{ComesAfter, IsLast, IsNext}
 use Rattle.usb_host.specs.Agreement.{Agrees}
 use Rattle.usb_host.specs.Bounds.{handling_bound, hub_poll_bound, hubs_bound, looks_bound, roots_bound, told_bound}
 use Rattle.usb_host.specs.Budget.{RootsPaid, RoundPaid, ToldPaid, Weights}
-use Rattle.usb_host.specs.Hosting.{Hosting}
+use Rattle.usb_host.specs.HostState.{HostState}
 use Rattle.usb_host.specs.Ownership.{IsRooted}
 use Rattle.usb_host.specs.Ports.{Waits}
 use Rattle.usb_host.specs.Progress.{AddsNoWork, Did, either}
 use Rattle.usb_host.specs.Service.{HandlesNumber, HandlesPort, HubsPolled, LookedAgain, LooksAgain, LooksOnceMore, RootsServed, ServedTold, ServesEach, ServesHub, ServesHubs, ServesPorts, ServesRoots, bit_clear, bit_set, next_hub, no_device, no_hub, no_root, none_yet, root_changed, root_steady}
-use Rattle.usb_host.specs.Soundness.{IsSound, NoneWait, Part}
+use Rattle.usb_host.specs.Soundness.{HostInvariant, NoneWait, Part}
 use Rattle.usb_host.specs.declared.fault.HostFault.{HostFault}
 use Rattle.usb_host.specs.declared.host.Round.{Round}
 use Rattle.usb_host.specs.declared.host.Round.TheVariants.{Quiet, Worked}
 use Rattle.usb_host.proofs.HubPayments.{HubsSoFar, hubs_all, hubs_failed, hubs_next, hubs_none, rank_before}
 use Rattle.usb_host.proofs.IdleRounds.{none_next, none_shows}
-use Rattle.usb_host.proofs.Joins.{did_holds, did_then, holds_then, worked_after}
-use Rattle.usb_host.proofs.Parts.{hubs_fail, looks_fail, part-fails, part-none, part-then, part-wider}
-use Rattle.usb_host.proofs.Payments.{on_err}
+use Rattle.usb_host.proofs.StepSums.{did_holds, did_then, no_work_then, worked_after}
+use Rattle.usb_host.proofs.RoundParts.{hubs_fail, looks_fail, part-fails, part-none, part-then, part-wider}
+use Rattle.usb_host.proofs.Payments.{is_err-if_ok}
 use Rattle.usb_host.proofs.QuietPorts.{none_changed}
 use Rattle.usb_host.proofs.Ranks.{rank_after, rank_after_most, rank_more, rank_most, rank_within}
 use Rattle.usb_host.proofs.RestingRounds.{Polled, calm_then, none_waits, ok_is, polled_all, polled_then, quiet_second}
 use Rattle.usb_host.proofs.Roots.{on_failed}
 use Rattle.usb_host.proofs.RoundPayments.{one_waits}
 use Rattle.usb_host.proofs.RoundServices.{looked_then}
-use Rattle.usb_host.proofs.ToldPayments.{RootsSoFar, ToldSoFar, root_shows, roots_failed, roots_next, roots_none, told_all, told_clear, told_failed, told_next, told_none}
+use Rattle.usb_host.proofs.ToldPayments.{RootsSoFar, ToldSoFar, root_shows, roots_failed, roots_next, roots_none, told_all, told_clear, told_failed, told_next, told_so_far_none}
 
 -- Root ports
 
 -- the root ports below a number were handled
-pub record RootsHandled (n : ℕ) (round : Round) (a b : Hosting) : Type 0 where
+pub record RootsHandled (n : ℕ) (round : Round) (a b : HostState) : Type 0 where
   pub part : Part ((n - 1) * handling_bound) a (Ok round) b
   pub did : Did round a b
   pub same : round ≡ Quiet → b ≡ a
   pub unchanged : round ≡ Quiet → (k : ℕ) → 1 ≤ k → k < n
       → (root_port_at a.world k).connection_changed ≡ false
-  pub served : IsSound a → RootsServed n round a b
+  pub served : HostInvariant a → RootsServed n round a b
   pub pays : RootsSoFar round a b
   pub idle : changes (root_row a.world) ≡ 0 → round ≡ Quiet
 
-pub roots_begin : (h : Hosting) → RootsHandled 1 Quiet h h
+pub roots_begin : (h : HostState) → RootsHandled 1 Quiet h h
 roots_begin h = record {
   part = part-none 0 Quiet h;
   did = refl;
@@ -59,7 +59,7 @@ roots_begin h = record {
   idle = λ none. refl;
 }
 
-module _ (n : ℕ) (round : Round) (a b : Hosting) (x : RootsHandled n round a b)
+module _ (n : ℕ) (round : Round) (a b : HostState) (x : RootsHandled n round a b)
     (least : 1 ≤ n) where
   -- the next one had not changed
   pub roots_steady : (root_port_at b.world n).connection_changed ≡ false
@@ -70,7 +70,7 @@ module _ (n : ℕ) (round : Round) (a b : Hosting) (x : RootsHandled n round a b
     did = x.did;
     same = x.same;
     unchanged = λ quiet k first below.
-        let here = ap (λ (h : Hosting). (root_port_at h.world n).connection_changed)
+        let here = ap (λ (h : HostState). (root_port_at h.world n).connection_changed)
         (sym (x.same quiet)) ∙ steady in
         below_more (λ k. 1 ≤ k → (root_port_at a.world k).connection_changed ≡ false) n
         (λ k lt first. x.unchanged quiet k first lt) (λ first. here) k below first;
@@ -79,7 +79,7 @@ module _ (n : ℕ) (round : Round) (a b : Hosting) (x : RootsHandled n round a b
     idle = x.idle;
   }
 
-  module _ (d : Hosting) (on : (root_port_at b.world n).connection_changed ≡ true) where
+  module _ (d : HostState) (on : (root_port_at b.world n).connection_changed ≡ true) where
     -- it had, and was handled
     pub roots_handled : n ≤ roots_of b.world
         → HandlesPort (n ∷ []) ((root_port_at b.world n).connection_changed ≡ true) b (Ok tt) d
@@ -107,14 +107,14 @@ module _ (n : ℕ) (round : Round) (a b : Hosting) (x : RootsHandled n round a b
       part = part-fails roots_bound (n * handling_bound) a d fault other
           (part-then (n * handling_bound) ((n - 1) * handling_bound) handling_bound a b d round
           _ x.part y.part (omega (arith, least))) e (omega (arith, most));
-      serves = on_err other (λ r. ServesRoots r a d) e;
+      serves = is_err-if_ok other (λ r. ServesRoots r a d) e;
       pays = roots_failed ((n - 1) * handling_bound) handling_bound round n a b d x.part.goes.went
           y.part.goes.went x.part.sound x.pays (Err fault) y.pays other RootsPaid e;
       idle = λ none. absurd (none_shows a b n (x.same (x.idle none)) none on);
     }
 
 -- all of them were
-pub roots_end : (n : ℕ) (round : Round) (a b : Hosting) → RootsHandled n round a b → n ≤ 8
+pub roots_end : (n : ℕ) (round : Round) (a b : HostState) → RootsHandled n round a b → n ≤ 8
     → n ≡ roots_of a.world + 1 → ServesEach a (Ok round) b
 roots_end n round a b x most end = record {
   part = part-wider Round roots_bound ((n - 1) * handling_bound) a b round round x.part
@@ -134,21 +134,21 @@ roots_end n round a b x most end = record {
 -- Ports of which a hub told
 
 -- those below a number were handled
-pub record PortsHandled (hub : List ℕ) (bits n : ℕ) (a b : Hosting) : Type 0 where
+pub record PortsHandled (hub : List ℕ) (bits n : ℕ) (a b : HostState) : Type 0 where
   pub part : Part {A = Unit {0}} ((n - 1) * handling_bound) a (Ok tt) b
   pub holds : AddsNoWork a b
-  pub served : IsSound a → ServedTold hub bits n a b
+  pub served : HostInvariant a → ServedTold hub bits n a b
   pub pays : ToldSoFar hub bits n a b
 
-pub ports_begin : (hub : List ℕ) (bits : ℕ) (h : Hosting) → PortsHandled hub bits 1 h h
+pub ports_begin : (hub : List ℕ) (bits : ℕ) (h : HostState) → PortsHandled hub bits 1 h h
 ports_begin hub bits h = record {
   part = part-none 0 tt h;
   holds = omega arith;
   served = λ s. none_yet h;
-  pays = told_none hub bits h;
+  pays = told_so_far_none hub bits h;
 }
 
-module _ (hub : List ℕ) (bits n : ℕ) (a b : Hosting) (x : PortsHandled hub bits n a b)
+module _ (hub : List ℕ) (bits n : ℕ) (a b : HostState) (x : PortsHandled hub bits n a b)
     (least : 1 ≤ n) where
   -- of the next one it did not tell
   pub ports_clear : has_bit bits n ≡ false → PortsHandled hub bits (n + 1) a b
@@ -160,7 +160,7 @@ module _ (hub : List ℕ) (bits n : ℕ) (a b : Hosting) (x : PortsHandled hub b
     pays = told_clear hub bits n a b off x.pays;
   }
 
-  module _ (most : n ≤ 7) (d : Hosting) where
+  module _ (most : n ≤ 7) (d : HostState) where
     -- it did, and that was handled
     pub ports_handled : (round : Round) → has_bit bits n ≡ true
         → HandlesNumber hub n b (Ok round) d → PortsHandled hub bits (n + 1) a d
@@ -169,7 +169,7 @@ module _ (hub : List ℕ) (bits n : ℕ) (a b : Hosting) (x : PortsHandled hub b
           d tt (Ok tt) x.part
           (part-wider (Unit {0}) handling_bound handling_bound b d round tt y.part (omega arith))
           (omega (arith, least));
-      holds = holds_then a b d x.holds
+      holds = no_work_then a b d x.holds
           (did_holds handling_bound round b d y.part.goes y.handled.did);
       served = λ s. bit_set n (x.served s) on (y.handled.served (x.part.sound.sound.sound s));
       pays = told_next ((n - 1) * handling_bound) handling_bound hub bits n least most a b d
@@ -183,13 +183,13 @@ module _ (hub : List ℕ) (bits n : ℕ) (a b : Hosting) (x : PortsHandled hub b
           (part-then (n * handling_bound) ((n - 1) * handling_bound) handling_bound a b d tt
           _ x.part y.part (omega (arith, least))) e (omega (arith, most));
       holds = on_failed other (AddsNoWork a d) e;
-      served = on_failed other (IsSound a → ServedTold hub bits 8 a d) e;
+      served = on_failed other (HostInvariant a → ServedTold hub bits 8 a d) e;
       pays = told_failed ((n - 1) * handling_bound) handling_bound hub bits n least most a b d
           x.part.goes.went y.part.goes.went x.part.sound x.pays (Err fault) y.pays other
           (λ (c : Weights) done. ToldPaid hub bits c) e;
     }
 
-pub ports_end : (hub : List ℕ) (bits n : ℕ) (a b : Hosting) → PortsHandled hub bits n a b → n ≡ 8
+pub ports_end : (hub : List ℕ) (bits n : ℕ) (a b : HostState) → PortsHandled hub bits n a b → n ≡ 8
     → ServesPorts hub bits a (Ok tt) b
 ports_end hub bits n a b x end = record {
   part = part-wider (Unit {0}) told_bound ((n - 1) * handling_bound) a b tt tt x.part
@@ -202,16 +202,16 @@ ports_end hub bits n a b x end = record {
 -- Hubs
 
 -- those up to a path were polled
-pub record HubsHandled (last : Option (List ℕ)) (round : Round) (a b : Hosting) : Type 0 where
+pub record HubsHandled (last : Option (List ℕ)) (round : Round) (a b : HostState) : Type 0 where
   pub part : Part (rank_after last * hub_poll_bound) a (Ok round) b
   pub did : Did round a b
-  pub calm : round ≡ Quiet → b.world.fault ≡ None → AllRest a.world b.world
-  pub polled : IsSound a → round ≡ Quiet → b.world.fault ≡ None
+  pub calm : round ≡ Quiet → b.world.fault ≡ None → TouchesNoPort a.world b.world
+  pub polled : HostInvariant a → round ≡ Quiet → b.world.fault ≡ None
       → b.world.taken ≡ a.world.taken → Polled last b
-  pub polls : IsSound a → b.world.fault ≡ None → HubsPolled last round a b
+  pub polls : HostInvariant a → b.world.fault ≡ None → HubsPolled last round a b
   pub pays : HubsSoFar last round a b
 
-pub hubs_begin : (h : Hosting) → HubsHandled None Quiet h h
+pub hubs_begin : (h : HostState) → HubsHandled None Quiet h h
 hubs_begin h = record {
   part = part-none 0 Quiet h;
   did = refl;
@@ -221,7 +221,7 @@ hubs_begin h = record {
   pays = hubs_none h;
 }
 
-module _ (last : Option (List ℕ)) (hub : List ℕ) (round : Round) (a b d : Hosting)
+module _ (last : Option (List ℕ)) (hub : List ℕ) (round : Round) (a b d : HostState)
     (x : HubsHandled last round a b) (before : IfSome last IsPath) (path : IsPath hub)
     (next : IsNext is_hub last b.entries hub) where
   pub hubs_handled : (one : Round) → ServesHub hub b (Ok one) d
@@ -262,19 +262,19 @@ module _ (last : Option (List ℕ)) (hub : List ℕ) (round : Round) (a b d : Ho
         hub_poll_bound a b d round _ x.part y.keeps.part
         (rank_more hub_poll_bound last hub before path next.stands.after)) e
         (rank_within hub_poll_bound (rank_after (Some hub)) (rank_most hub path)));
-    did = on_err other (λ r. Did r a d) e;
-    polls = on_err other _ e;
+    did = is_err-if_ok other (λ r. Did r a d) e;
+    polls = is_err-if_ok other _ e;
     pays = hubs_failed (rank_after last * hub_poll_bound) hub_poll_bound last hub round a b d
         x.part.goes.went y.keeps.part.goes.went x.part.sound x.pays (Err fault) y.pays other
         RoundPaid e;
     idle = λ none. absurd (none_next is_hub last a b hub (idle none) none next);
   }
 
-pub hubs_end : (last : Option (List ℕ)) (round : Round) (a b : Hosting)
+pub hubs_all_handled : (last : Option (List ℕ)) (round : Round) (a b : HostState)
     → HubsHandled last round a b → IfSome last IsPath → IsLast is_hub last b.entries
     → Agrees b.entries b.addresses → (a.entries ≡ [] → (round ≡ Quiet) × (b ≡ a))
     → ServesHubs a (Ok round) b
-hubs_end last round a b x path none agrees idle = record {
+hubs_all_handled last round a b x path none agrees idle = record {
   keeps = record {
     part = part-wider Round hubs_bound (rank_after last * hub_poll_bound) a b round round x.part
         (rank_within hub_poll_bound (rank_after last) (rank_after_most last path));
@@ -292,13 +292,13 @@ hubs_end last round a b x path none agrees idle = record {
 -- Devices that wait
 
 -- those up to a path were looked at
-pub record WaitingHandled (last : Option (List ℕ)) (round : Round) (a b : Hosting) : Type 0 where
+pub record WaitingHandled (last : Option (List ℕ)) (round : Round) (a b : HostState) : Type 0 where
   pub part : Part (rank_after last * handling_bound) a (Ok round) b
   pub did : Did round a b
   pub none : IsRooted a → round ≡ Quiet → (b ≡ a) × (last ≡ None)
-  pub looked : IsSound a → LookedAgain last round a b
+  pub looked : HostInvariant a → LookedAgain last round a b
 
-pub waiting_begin : (h : Hosting) → WaitingHandled None Quiet h h
+pub waiting_begin : (h : HostState) → WaitingHandled None Quiet h h
 waiting_begin h = record {
   part = part-none 0 Quiet h;
   did = refl;
@@ -306,7 +306,7 @@ waiting_begin h = record {
   looked = λ s. no_device h;
 }
 
-module _ (last : Option (List ℕ)) (path : List ℕ) (round : Round) (a b d : Hosting)
+module _ (last : Option (List ℕ)) (path : List ℕ) (round : Round) (a b d : HostState)
     (x : WaitingHandled last round a b) (before : IfSome last IsPath) (is : IsPath path)
     (waits : Waits path b) (after : ComesAfter last path) where
   pub waiting_handled : (one : Round) → LooksOnceMore path b (Ok one) d
@@ -334,11 +334,11 @@ module _ (last : Option (List ℕ)) (path : List ℕ) (round : Round) (a b d : H
         (rank_more handling_bound last path before is after)) e
         (rank_within handling_bound (rank_after (Some path)) (rank_most path is)))
         (λ none. one_waits a b path (idle none) waits none);
-    did = on_err other (λ r. Did r a d) e;
-    looked = on_err other _ e;
+    did = is_err-if_ok other (λ r. Did r a d) e;
+    looked = is_err-if_ok other _ e;
   }
 
-pub waiting_end : (last : Option (List ℕ)) (round : Round) (a b : Hosting)
+pub waiting_end : (last : Option (List ℕ)) (round : Round) (a b : HostState)
     → WaitingHandled last round a b → IfSome last IsPath → Agrees b.entries b.addresses
     → (IsFull b.addresses ⊎ IsLast is_waiting last b.entries)
     → (NoneWait a.entries → (round ≡ Quiet) × (b ≡ a)) → LooksAgain a (Ok round) b

@@ -7,17 +7,17 @@ use Rattle.usb_world.specs.World.{changes, root_row}
 use Rattle.usb_enum.proofs.Interface.{went_sound}
 use Rattle.usb_host.specs.Bounds.{hubs_bound, looks_bound, roots_bound, round_bound}
 use Rattle.usb_host.specs.Budget.{Affords, PaysRound, Weights}
-use Rattle.usb_host.specs.Hosting.{Hosting}
+use Rattle.usb_host.specs.HostState.{HostState}
 use Rattle.usb_host.specs.Ports.{Waits}
-use Rattle.usb_host.specs.Progress.{Advances, Did, Remains, either}
+use Rattle.usb_host.specs.Progress.{HostProgress, Did, Remains, either}
 use Rattle.usb_host.specs.Service.{DidParts, LookedAgain, LookedOnce, LooksAgain, ServesEach, ServesHubs, WentByParts, next_device}
 use Rattle.usb_host.specs.Soundness.{Part}
 use Rattle.usb_host.specs.declared.fault.HostFault.{HostFault}
 use Rattle.usb_host.specs.declared.host.Round.{Round}
 use Rattle.usb_host.specs.declared.host.Round.TheVariants.{Worked, Quiet}
 use Rattle.usb_host.proofs.IdleRounds.{all_idle, hubs_idle, looks_idle, roots_idle}
-use Rattle.usb_host.proofs.Joins.{did_then}
-use Rattle.usb_host.proofs.Parts.{part-fails, part-then, parts_fail, parts_keep}
+use Rattle.usb_host.proofs.StepSums.{did_then}
+use Rattle.usb_host.proofs.RoundParts.{part-fails, part-then, parts_fail, parts_keep}
 use Rattle.usb_host.proofs.RestingRounds.{ok_is, quiet_first}
 use Rattle.usb_host.proofs.RoundPayments.{hubs_fail, looks_fail, parts_pay, roots_fail}
 
@@ -27,14 +27,14 @@ either_worked : (r : Round) → either r Worked ≡ Worked
 either_worked Worked = refl
 either_worked Quiet = refl
 
-pub looked_then : (last : Option (List ℕ)) (path : List ℕ) (before round : Round) (a b c : Hosting) → LookedAgain last before a b → Waits path b → ComesAfter last path → round ≡ Worked → LookedOnce path b c → LookedAgain (Some path) (either before round) a c
+pub looked_then : (last : Option (List ℕ)) (path : List ℕ) (before round : Round) (a b c : HostState) → LookedAgain last before a b → Waits path b → ComesAfter last path → round ≡ Worked → LookedOnce path b c → LookedAgain (Some path) (either before round) a c
 looked_then last path before round a b c looked waits after is once =
     let worked : either before round ≡ Worked = ap (either before) is ∙ either_worked before in
     subst (λ (r : Round). LookedAgain (Some path) r a c) (sym worked) (next_device last path before looked waits after once)
 
 -- The parts
 
-parts_failed : (result : Result Round HostFault) (a b : Hosting) → IsErr result
+parts_failed : (result : Result Round HostFault) (a b : HostState) → IsErr result
     → Part round_bound a result b
     → ((c : Weights) (plan : PlanData) → Affords c plan a → PaysRound c plan a result b)
     → (a.entries ≡ [] → changes (root_row a.world) ≡ 0 → ⊥) → WentByParts a result b
@@ -48,7 +48,7 @@ parts_failed (Err fault) a b e part pays idle = record {
   idle = λ entries none. absurd (idle entries none);
 }
 
-module _ (a b : Hosting) where
+module _ (a b : HostState) where
   -- the root ports failed
   pub parts_rootless : (fault : HostFault) (other : Result Round HostFault) → IsErr other
       → ServesEach a (Err fault) b → WentByParts a other b
@@ -57,7 +57,7 @@ module _ (a b : Hosting) where
       (omega arith)) (λ c plan w. roots_fail c plan a b (Err fault) other e x.pays w)
       (λ entries none. roots_idle a entries none b fault x.idle)
 
-  module _ (roots : Round) (x : ServesEach a (Ok roots) b) (d : Hosting) where
+  module _ (roots : Round) (x : ServesEach a (Ok roots) b) (d : HostState) where
     -- the hubs failed
     pub parts_hubless : (fault : HostFault) (other : Result Round HostFault) → IsErr other
         → ServesHubs b (Err fault) d → WentByParts a other d
@@ -69,7 +69,7 @@ module _ (a b : Hosting) where
         d y.keeps.part.goes.went c plan (Err fault) other e y.pays w)
         (λ entries none. hubs_idle a entries none b roots x.idle d fault y.idle)
 
-    module _ (hubs : Round) (y : ServesHubs b (Ok hubs) d) (f : Hosting) where
+    module _ (hubs : Round) (y : ServesHubs b (Ok hubs) d) (f : HostState) where
       both_served : Part (roots_bound + hubs_bound) a (Ok hubs) d
       both_served = part-then (roots_bound + hubs_bound) roots_bound hubs_bound a b d roots
           (Ok hubs) x.part y.keeps.part (omega arith)
@@ -123,16 +123,16 @@ module _ (a b : Hosting) where
             all_idle a entries none b roots x.idle d hubs y.idle f looks z.keeps.idle;
       }
 
-did_worked : (r : Round) (a b : Hosting) → Did r a b → r ≡ Worked → Advances a b
+did_worked : (r : Round) (a b : HostState) → Did r a b → r ≡ Worked → HostProgress a b
 did_worked Worked a b did is = did
 did_worked Quiet a b did is = absurd (cc is)
 
-did_quiet : (r : Round) (a b : Hosting) → Did r a b → r ≡ Quiet → Remains a b
+did_quiet : (r : Round) (a b : HostState) → Did r a b → r ≡ Quiet → Remains a b
 did_quiet Worked a b did is = absurd (cc is)
 did_quiet Quiet a b did is = did
 
 -- a host that has not stopped goes on
-pub parts_done : (result : Result Round HostFault) (a b : Hosting) (stopped : Bool)
+pub parts_done : (result : Result Round HostFault) (a b : HostState) (stopped : Bool)
     → a.stopped ≡ false → stopped ≡ is_err result → WentByParts a result b
     → IfOk result (λ round. DidParts round a (record b { stopped = stopped }))
 parts_done (Ok round) a b stopped going is went =

@@ -7,59 +7,59 @@ use Rattle.usb_hub.specs.declared.port.HubPort.{HubPort}
 use Rattle.usb_hub.specs.declared.port.HubPort.TheVariants.{Root, External}
 use Rattle.usb_enum.specs.declared.fault.EnumFault.{EnumFault}
 use Rattle.usb_enum.specs.declared.fault.EnumFault.TheVariants.{ParentLost, Bus, Memory}
-use Rattle.usb_host.specs.Hosting.{Hosting}
-use Rattle.usb_enum.specs.Stop.{FaultAt}
-use Rattle.usb_host.specs.Ports.{Gained, Gains, IsDue, Served, Shown}
-use Rattle.usb_host.specs.Progress.{AddsNoWork, Advances, HostGoes, Rests, waiting}
-use Rattle.usb_host.proofs.Joins.{advances_after, advances_then}
-use Rattle.usb_host.proofs.Looks.{served_any}
+use Rattle.usb_host.specs.HostState.{HostState}
+use Rattle.usb_enum.specs.Stop.{FaultAllowedAt}
+use Rattle.usb_host.specs.Ports.{Gained, ProgressOnOk, IsDue, ProgressOrLost, Shown}
+use Rattle.usb_host.specs.Progress.{AddsNoWork, HostProgress, HostRuns, OnlyBusSteps, waiting}
+use Rattle.usb_host.proofs.StepSums.{advances_after, advances_then}
+use Rattle.usb_host.proofs.HostProgress.{served_any}
 
-pub rests_holds : (n : ℕ) (a b : Hosting) → HostGoes n a b → Rests a b → AddsNoWork a b
+pub rests_holds : (n : ℕ) (a b : HostState) → HostRuns n a b → OnlyBusSteps a b → AddsNoWork a b
 rests_holds n a b g r =
-    let same : waiting b.entries ≡ waiting a.entries = ap (λ (h : Hosting). waiting h.entries) r in
+    let same : waiting b.entries ≡ waiting a.entries = ap (λ (h : HostState). waiting h.entries) r in
     omega (arith, same, g.went.spends.served, g.went.spends.later)
 
-gained_on : (a b : Hosting) → Rests a b → Gained a.world b.world → Advances a b
+gained_on : (a b : HostState) → OnlyBusSteps a b → Gained a.world b.world → HostProgress a b
 gained_on a b r gained =
-    let same : waiting b.entries ≡ waiting a.entries = ap (λ (h : Hosting). waiting h.entries) r in
+    let same : waiting b.entries ≡ waiting a.entries = ap (λ (h : HostState). waiting h.entries) r in
     omega (arith, same, gained)
 
-pub served_after : (result : Result (Unit {0}) EnumFault) (a b c : Hosting) → AddsNoWork a b → Served result b c → Served result a c
+pub served_after : (result : Result (Unit {0}) EnumFault) (a b c : HostState) → AddsNoWork a b → ProgressOrLost result b c → ProgressOrLost result a c
 served_after (Ok done) a b c holds on = advances_after a b c holds on
 served_after (Err ParentLost) a b c holds on = advances_after a b c holds on
 served_after (Err (Bus fault)) a b c holds on = tt
 served_after (Err Memory) a b c holds on = tt
 
 -- a request for the status failed: a hub was asked
-pub status_lost_on : (port : HubPort) (a b : Hosting) → Rests a b → (fault : EnumFault) → Shown port (Err fault) a.world b.world → Served (Err fault) a b
+pub status_lost_on : (port : HubPort) (a b : HostState) → OnlyBusSteps a b → (fault : EnumFault) → Shown port (Err fault) a.world b.world → ProgressOrLost (Err fault) a b
 status_lost_on (Root number) a b r fault shown = absurd (cc (shown.0))
 status_lost_on (External hub number) a b r ParentLost shown = gained_on a b r shown
 status_lost_on (External hub number) a b r (Bus fault) shown = tt
 status_lost_on (External hub number) a b r Memory shown = tt
 
 -- a request failed that had gained
-pub failed_on_way : (A : Type 0) (a b : Hosting) (fault : EnumFault) → Rests a b
-    → Gains {A = A} (Err fault) a.world b.world → Served (Err fault) a b
+pub failed_on_way : (A : Type 0) (a b : HostState) (fault : EnumFault) → OnlyBusSteps a b
+    → ProgressOnOk {A = A} (Err fault) a.world b.world → ProgressOrLost (Err fault) a b
 failed_on_way A a b ParentLost r gains = gained_on a b r gains
 failed_on_way A a b (Bus fault) r gains = tt
 failed_on_way A a b Memory r gains = tt
 
 -- a port whose hub is lost is that hub's
-pub lost_on : (A : Type 0) (port : HubPort) (a b : Hosting) (fault : EnumFault) → Rests a b
-    → (IsDue a.world port → Gains {A = A} (Err fault) a.world b.world)
-    → FaultAt port fault b.world → Served (Err fault) a b
+pub lost_on : (A : Type 0) (port : HubPort) (a b : HostState) (fault : EnumFault) → OnlyBusSteps a b
+    → (IsDue a.world port → ProgressOnOk {A = A} (Err fault) a.world b.world)
+    → FaultAllowedAt port fault b.world → ProgressOrLost (Err fault) a b
 lost_on A (Root number) a b ParentLost r gains told = absurd told
 lost_on A (External hub number) a b ParentLost r gains told = gained_on a b r (gains tt)
 lost_on A port a b (Bus fault) r gains told = tt
 lost_on A port a b Memory r gains told = tt
 
-due_on : (port : HubPort) (a b : Hosting) (status : PortStatus) → Shown port (Ok status) a.world b.world → IsDue a.world port → IsDue b.world port
+due_on : (port : HubPort) (a b : HostState) (status : PortStatus) → Shown port (Ok status) a.world b.world → IsDue a.world port → IsDue b.world port
 due_on (Root number) a b status shown due = subst (λ (w : World). (root_port_at w number).connection_changed ≡ true) (sym shown.1) due
 due_on (External hub number) a b status shown due = tt
 
 -- a status told of a change, and the port was looked at
-pub looked_on : (n : ℕ) (port : HubPort) (a b c : Hosting) (result : Result (Unit {0}) EnumFault) (status : PortStatus) → Rests a b → Shown port (Ok status) a.world b.world → HostGoes n a b → {Waits : Type 0} → (IsDue b.world port ⊎ Waits → Served result b c)
-    → IsDue a.world port → Served result a c
+pub looked_on : (n : ℕ) (port : HubPort) (a b c : HostState) (result : Result (Unit {0}) EnumFault) (status : PortStatus) → OnlyBusSteps a b → Shown port (Ok status) a.world b.world → HostRuns n a b → {Waits : Type 0} → (IsDue b.world port ⊎ Waits → ProgressOrLost result b c)
+    → IsDue a.world port → ProgressOrLost result a c
 looked_on n port a b c result status r shown g looks due = served_after result a b c (rests_holds n a b g r) (looks (inl (due_on port a b status shown due)))
 
 off_absurd : {A : Type 0} (w : World) (number : ℕ) (status : PortStatus) → status ≡ seen (root_port_at w number) → status.connection_changed ≡ false → (root_port_at w number).connection_changed ≡ true → A
@@ -68,7 +68,7 @@ off_absurd w number status is off due =
     absurd (cc (told, off, due))
 
 -- it told of none: then a root port was not due, and a hub was asked
-pub tidied_on : (n : ℕ) (port : HubPort) (a b c : Hosting) (result : Result (Unit {0}) EnumFault) (status : PortStatus) → Rests a b → Rests b c → Shown port (Ok status) a.world b.world → HostGoes n b c → status.connection_changed ≡ false
-    → IsDue a.world port → Served result a c
+pub tidied_on : (n : ℕ) (port : HubPort) (a b c : HostState) (result : Result (Unit {0}) EnumFault) (status : PortStatus) → OnlyBusSteps a b → OnlyBusSteps b c → Shown port (Ok status) a.world b.world → HostRuns n b c → status.connection_changed ≡ false
+    → IsDue a.world port → ProgressOrLost result a c
 tidied_on n (Root number) a b c result status r q shown g off due = off_absurd a.world number status (cc (shown.0)) off due
 tidied_on n (External hub number) a b c result status r q shown g off due = served_any result a c (advances_then a b c (gained_on a b r shown) (rests_holds n b c g q))

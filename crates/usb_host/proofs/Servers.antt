@@ -9,12 +9,12 @@ use Rattle.usb_resources.specs.Power.{supply_of}
 use Rattle.usb_descriptor.specs.Config.{configuration_value}
 use Rattle.usb_device.specs.Spec.{Spec, Hub}
 use Rattle.usb_device.specs.Tree.{reach}
-use Rattle.usb_world.specs.Paths.{address_of, is_way, pend}
+use Rattle.usb_world.specs.Paths.{address_of, is_way, pending}
 use Rattle.usb_world.specs.AttemptPackets.{deep_at}
 use Rattle.usb_world.specs.PluggedDevices.{hub_ports}
-use Rattle.usb_world.specs.Steps.{IsBetween}
+use Rattle.usb_world.specs.Steps.{WorldInvariant}
 use Rattle.usb_world.specs.World.{World}
-use Rattle.usb_world.proofs.Interface.{and_of, no, sane_spec, way_shorter}
+use Rattle.usb_world.proofs.Interface.{and_of, false_true, sane_spec, way_shorter}
 use Rattle.usb_hub.specs.declared.port.HubPort.TheVariants.{External}
 use Rattle.usb_enum.specs.declared.finding.Accepted.{Accepted}
 use Rattle.usb_enum.specs.declared.finding.Finding.TheVariants.{Device}
@@ -30,26 +30,26 @@ use Rattle.usb_table.specs.Keys.{address_in}
 use Rattle.usb_table.specs.KnownPorts.{IsAskable, root_port, port_below, is_below_hub}
 use Rattle.usb_table.specs.Listing.{finding_at, tier_of}
 use Rattle.usb_table.proofs.Interface.{FoundPort, port_found-some}
-use Rattle.usb_host.specs.Hosting.{Hosting}
+use Rattle.usb_host.specs.HostState.{HostState}
 use Rattle.usb_host.specs.Ports.{StandsAt}
-use Rattle.usb_host.specs.Soundness.{IsToldAt, known_supply, IsSoundBut}
-use Rattle.usb_enum.proofs.Interface.{Accepts, accepts, chosen_some, has_chosen}
+use Rattle.usb_host.specs.Soundness.{IsAccurateAt, known_supply, IsSoundBut}
+use Rattle.usb_enum.proofs.Interface.{AcceptsChosen, accepts, chosen_some, has_chosen}
 use Rattle.usb_host.proofs.Roots.{accounted}
 use Rattle.usb_host.proofs.SettledListings.{listed_port, listed_address, port_number, reached_there}
 
 -- A hub that is accepted hears its target
 
-pub hears_by : (low own deep pre : Bool) → low ≡ own → (low ≡ true → deep ≡ true → pre ≡ true) → (if low then own && (not deep || pre) else not own) ≡ true
-hears_by true own deep pre e f = subst (λ x. (x && (not deep || pre)) ≡ true) e (by_deep deep (f refl))
+pub server_hears : (low own deep pre : Bool) → low ≡ own → (low ≡ true → deep ≡ true → pre ≡ true) → (if low then own && (not deep || pre) else not own) ≡ true
+server_hears true own deep pre e f = subst (λ x. (x && (not deep || pre)) ≡ true) e (by_deep deep (f refl))
   where
     by_deep : (d : Bool) → (d ≡ true → pre ≡ true) → (true && (not d || pre)) ≡ true
     by_deep true g = g refl
     by_deep false g = refl
-hears_by false own deep pre e f = subst (λ x. not x ≡ true) e refl
+server_hears false own deep pre e f = subst (λ x. not x ≡ true) e refl
 
-pub below_of : (j : ℕ) (p : List ℕ) → deep_at false p ≡ true → is_below_hub (suc j ∷ p) ≡ true
-below_of j [] h = no h
-below_of j (n ∷ p) h = lt-ltb 1 (length (suc j ∷ n ∷ p)) (omega arith)
+pub is_below_hub-deep : (j : ℕ) (p : List ℕ) → deep_at false p ≡ true → is_below_hub (suc j ∷ p) ≡ true
+is_below_hub-deep j [] h = false_true h
+is_below_hub-deep j (n ∷ p) h = lt-ltb 1 (length (suc j ∷ n ∷ p)) (omega arith)
 
 facts_port : (spec : Spec) (facts : HubFacts) (n : ℕ) → facts_of spec ≡ Some facts → 1 ≤ n → n ≤ facts.ports → (hub : Hub) × (spec.hub ≡ Some hub) × (n ≤ hub.ports)
 facts_port spec facts n e least most = pick (is_hub_device spec.descriptor) e
@@ -62,17 +62,17 @@ facts_port spec facts n e least most = pick (is_hub_device spec.descriptor) e
     pick true h = let same : record { ports = hub_ports spec.hub; supply = supply_of false spec.self_powered } ≡ facts = cc h in by_hub spec.hub refl (ap (λ (f : HubFacts). f.ports) (sym same))
     pick false h = absurd (cc h)
 
-module _ (w : World) (entries : Entries) (device : Accepted) (facts : HubFacts) (n : ℕ) (told : device.hub ≡ Some facts) (least : 1 ≤ n) (most : n ≤ facts.ports) (address : IsAddress device.address) (between : IsBetween w) where
-  hub_serves : (hub : List ℕ) → finding_at hub entries ≡ Some (Device device) → reach w.roots hub ≡ true → IsToldAt w entries hub → 8 ≤ (target_of device (is_below_hub hub)).max → ServesAt (target_of device (is_below_hub hub)) n hub w
-  hub_serves [] at on knows wide = no on
-  hub_serves (zero ∷ p) at on knows wide = no on
+module _ (w : World) (entries : Entries) (device : Accepted) (facts : HubFacts) (n : ℕ) (told : device.hub ≡ Some facts) (least : 1 ≤ n) (most : n ≤ facts.ports) (address : IsAddress device.address) (between : WorldInvariant w) where
+  hub_serves : (hub : List ℕ) → finding_at hub entries ≡ Some (Device device) → reach w.roots hub ≡ true → IsAccurateAt w entries hub → 8 ≤ (target_of device (is_below_hub hub)).max → ServesAt (target_of device (is_below_hub hub)) n hub w
+  hub_serves [] at on knows wide = false_true on
+  hub_serves (zero ∷ p) at on knows wide = false_true on
   hub_serves (suc j ∷ p) at on knows wide =
       let s : _ = reached_there w.roots (suc j ∷ p) on in
       let t = knows device s.0 (ap accepted_device_of at) on s.1 in
       let port : _ = facts_port s.0.spec facts n (sym t.found.1.hub ∙ told) least most in
       let tier = tier_of (suc j ∷ p) in
       let supply = known_supply (suc j ∷ p) entries in
-      let is : Accepts s.0.spec supply device.chosen = accepts s.0.spec tier supply device.chosen t.found.0 in
+      let is : AcceptsChosen s.0.spec supply device.chosen = accepts s.0.spec tier supply device.chosen t.found.0 in
       let value : 1 ≤ configuration_value (configuration_of device) = subst (λ (texts : List (List ℕ)). 1 ≤ configuration_value (slice_index_or texts device.chosen [])) (sym t.found.1.configs) (chosen_some s.0.spec device.chosen (has_chosen s.0.spec supply device.chosen is)) in
       record {
         serves = record {
@@ -83,7 +83,7 @@ module _ (w : World) (entries : Entries) (device : Accepted) (facts : HubFacts) 
           listens = record {
             at = eq-eqb (address_of s.0) device.address t.set.address;
             loud = is.loud;
-            hears = hears_by device.low s.0.spec.low (deep_at false p) (device.low && is_below_hub (suc j ∷ p)) t.found.1.low (λ low deep. and_of device.low (is_below_hub (suc j ∷ p)) low (below_of j p deep));
+            hears = server_hears device.low s.0.spec.low (deep_at false p) (device.low && is_below_hub (suc j ∷ p)) t.found.1.low (λ low deep. and_of device.low (is_below_hub (suc j ∷ p)) low (is_below_hub-deep j p deep));
           };
           addressed = λ e. absurd (omega (arith, e, address.0));
           configured = λ e. absurd (omega (arith, e, value, t.set.configuration));
@@ -102,9 +102,9 @@ module _ (w : World) (entries : Entries) (device : Accepted) (facts : HubFacts) 
 
 -- The port's hub
 
-module _ (path : List ℕ) (port : KnownPort) (h : Hosting) (s : StandsAt path port h) (i : IsSoundBut path h) (still : h.world.fault ≡ None) where
+module _ (path : List ℕ) (port : KnownPort) (h : HostState) (s : StandsAt path port h) (i : IsSoundBut path h) (still : h.world.fault ≡ None) where
   server_of : (hub : List ℕ) (device : Accepted) (facts : HubFacts) → parent_of path ≡ Some hub → finding_at hub h.entries ≡ Some (Device device) → device.hub ≡ Some facts → port_on_hub path ≤ facts.ports → 8 ≤ (target_of device (is_below_hub hub)).max → HasServer (External (target_of device (is_below_hub hub)) (port_on_hub path)) path h.world
-  server_of hub device facts above at told most wide = subst (λ o. IsSomeAnd o (λ q. (pend h.world.roots q ≡ true) ⊎ ServesAt (target_of device (is_below_hub hub)) (port_on_hub path) q h.world)) (sym above) (pick known)
+  server_of hub device facts above at told most wide = subst (λ o. IsSomeAnd o (λ q. (pending h.world.roots q ≡ true) ⊎ ServesAt (target_of device (is_below_hub hub)) (port_on_hub path) q h.world)) (sym above) (pick known)
     where
       away : is_way path hub ≡ false
       away = way_shorter path hub (omega (arith, ap length (rejoined path hub above) ∙ length-append hub (port_on_hub path ∷ [])))
@@ -115,7 +115,7 @@ module _ (path : List ℕ) (port : KnownPort) (h : Hosting) (s : StandsAt path p
       address : IsAddress device.address
       address = listed_address h.world h.entries h.addresses (accounted h s.agrees i.rooted) hub device.address (ap address_in at)
 
-      pick : IsKnownAs h.world hub (Some (Device device)) → (pend h.world.roots hub ≡ true) ⊎ ServesAt (target_of device (is_below_hub hub)) (port_on_hub path) hub h.world
+      pick : IsKnownAs h.world hub (Some (Device device)) → (pending h.world.roots hub ≡ true) ⊎ ServesAt (target_of device (is_below_hub hub)) (port_on_hub path) hub h.world
       pick (inl x) = inl x
       pick (inr x) = inr (hub_serves h.world h.entries device facts (port_on_hub path) told (port_number path s.is).0 most address (i.order still) hub at x.1 (i.truthful still hub away) wide)
 

@@ -11,11 +11,11 @@ use Rattle.usb_port.specs.declared.status.PortStatus.{PortStatus}
 use Rattle.usb_world.specs.Paths.{is_way}
 use Rattle.usb_world.specs.World.{World}
 use Rattle.usb_world.proofs.Interface.{at_or_below_way, way_parent, way_trans}
-use Rattle.usb_address.specs.Claims.{Claims}
-use Rattle.usb_address.specs.Ownership.{Owned, TillFault}
+use Rattle.usb_address.specs.Claims.{AddressMap}
+use Rattle.usb_address.specs.Ownership.{MapHolds, WhileBusWorks}
 use Rattle.usb_hub.specs.declared.port.HubPort.{HubPort}
 use Rattle.usb_hub.specs.Addresses.{IsAt}
-use Rattle.usb_hub.specs.Moments.{CallsPort, PortDone, PortTold}
+use Rattle.usb_hub.specs.Moments.{CommandsPort, PortCallDone, PortStatusAt}
 use Rattle.usb_enum.specs.declared.fault.EnumFault.{EnumFault}
 use Rattle.usb_enum.specs.declared.fault.EnumFault.TheVariants.{ParentLost, Bus, Memory}
 use Rattle.usb_enum.specs.declared.cause.Cause.TheVariants.{Lost}
@@ -23,27 +23,27 @@ use Rattle.usb_enum.specs.declared.finding.Finding.{Finding}
 use Rattle.usb_enum.specs.declared.finding.Finding.TheVariants.{Refused}
 use Rattle.usb_table.specs.declared.known.KnownPort.{KnownPort}
 use Rattle.usb_table.specs.Entries.{Entries, is_at_or_below, without}
-use Rattle.usb_host.specs.Hosting.{Hosting}
+use Rattle.usb_host.specs.HostState.{HostState}
 use Rattle.usb_host.specs.Ownership.{claims, HasLost, IsOwned}
 use Rattle.usb_host.specs.PortHandling.{Watches}
 use Rattle.usb_host.specs.Ports.{EndsAs, EntersOne, StandsAt}
-use Rattle.usb_host.specs.Progress.{Advances, HostWent, Rests}
-use Rattle.usb_host.specs.Soundness.{IsSound}
+use Rattle.usb_host.specs.Progress.{HostProgress, HostSteps, OnlyBusSteps}
+use Rattle.usb_host.specs.Soundness.{HostInvariant}
 use Rattle.usb_host.specs.Service.{DoneWhere, EndsAt, HandlesAt, LookedAt, LookedOnce, LookedOrLost, LosesParent, Renews, ServedAt, ServedOrLost, StaysOrForgets, TidiesTold, was_tidied, was_looked_at, was_lost, looked_once, lost_once}
 use Rattle.usb_host.specs.declared.fault.HostFault.{HostFault}
-use Rattle.usb_host.proofs.Handlings.{owned_rests}
-use Rattle.usb_host.proofs.Joins.{rests_then}
+use Rattle.usb_host.proofs.OwnedPorts.{owned_rests}
+use Rattle.usb_host.proofs.StepSums.{host_rests_then}
 use Rattle.usb_host.proofs.ServedPorts.{rests_stands}
 use Rattle.usb_host.proofs.SettledListings.{port_number}
-use Rattle.usb_host.proofs.Stations.{stands_at}
+use Rattle.usb_host.proofs.PortLocations.{stands_at-claim}
 
 -- Requests
 
 -- a call that succeeded was done at its port
-pub call_done : (port : HubPort) (c : PortCall) (old new : World) → (is_reset c ≡ true → ⊥) → CallsPort port (Some c) old (Ok tt) new → (f : Claims) (p : List ℕ) → IsAt f port p → TillFault (Owned f) old → PortDone p c old new
+pub call_done : (port : HubPort) (c : PortCall) (old new : World) → (is_reset c ≡ true → ⊥) → CommandsPort port (Some c) old (Ok tt) new → (f : AddressMap) (p : List ℕ) → IsAt f port p → WhileBusWorks (MapHolds f) old → PortCallDone p c old new
 call_done port c old new other calls f p at owned = calls.done f p c (record { at = at; is = refl; alone = λ resets. absurd (other resets); owned = owned }) refl
 
-pub done_so : (b : Bool) (p : List ℕ) (c : PortCall) (old new : World) → b ≡ true → PortDone p c old new → DoneWhere b p c old new
+pub done_so : (b : Bool) (p : List ℕ) (c : PortCall) (old new : World) → b ≡ true → PortCallDone p c old new → DoneWhere b p c old new
 done_so b p c old new is done = subst (λ (x : Bool). DoneWhere x p c old new) (sym is) done
 
 pub done_not : (b : Bool) (p : List ℕ) (c : PortCall) (old new : World) → b ≡ false → new ≡ old → DoneWhere b p c old new
@@ -52,16 +52,16 @@ done_not b p c old new is same = subst (λ (x : Bool). DoneWhere x p c old new) 
 -- Entries
 
 -- what is taken out below a path goes with the path
-without_step : (lost path : List ℕ) (e : List ℕ × Finding) (es : Entries) → (is_at_or_below e.0 path ≡ true → is_at_or_below e.0 lost ≡ true) → without lost (without path es) ≡ without lost es → (b c : Bool) → is_at_or_below e.0 path ≡ b → is_at_or_below e.0 lost ≡ c
+without-without_by : (lost path : List ℕ) (e : List ℕ × Finding) (es : Entries) → (is_at_or_below e.0 path ≡ true → is_at_or_below e.0 lost ≡ true) → without lost (without path es) ≡ without lost es → (b c : Bool) → is_at_or_below e.0 path ≡ b → is_at_or_below e.0 lost ≡ c
     → without lost (cond (not b) (e ∷ without path es) (without path es)) ≡ cond (not c) (e ∷ without lost es) (without lost es)
-without_step lost path e es goes same true true is at = same
-without_step lost path e es goes same true false is at = absurd (cc (goes is, at))
-without_step lost path e es goes same false true is at = rw at same
-without_step lost path e es goes same false false is at = rw at (ap (λ (l : Entries). e ∷ l) same)
+without-without_by lost path e es goes same true true is at = same
+without-without_by lost path e es goes same true false is at = absurd (cc (goes is, at))
+without-without_by lost path e es goes same false true is at = rw at same
+without-without_by lost path e es goes same false false is at = rw at (ap (λ (l : Entries). e ∷ l) same)
 
 pub without-way : (lost path : List ℕ) → is_way lost path ≡ true → (es : Entries) → without lost (without path es) ≡ without lost es
 without-way lost path way [] = refl
-without-way lost path way (e ∷ es) = without_step lost path e es goes (without-way lost path way es) (is_at_or_below e.0 path) (is_at_or_below e.0 lost) refl refl
+without-way lost path way (e ∷ es) = without-without_by lost path e es goes (without-way lost path way es) (is_at_or_below e.0 path) (is_at_or_below e.0 lost) refl refl
   where
     goes : is_at_or_below e.0 path ≡ true → is_at_or_below e.0 lost ≡ true
     goes at = at_or_below_way e.0 lost ∙ way_trans lost path e.0 way (sym (at_or_below_way e.0 path) ∙ at)
@@ -79,7 +79,7 @@ loses_then path old mid new (inr gone) x =
     }
 
 -- one finding was entered
-pub renews_one : (path : List ℕ) (old : Entries) (c d : Hosting) → c.entries ≡ without path old → EntersOne path c d → Renews true path old d.entries
+pub renews_one : (path : List ℕ) (old : Entries) (c d : HostState) → c.entries ≡ without path old → EntersOne path c d → Renews true path old d.entries
 renews_one path old c d gone one = (one.finding, one.entries ∙ ap (λ (es : Entries). insert_entry path_cmp es path one.finding) gone)
 
 pub renews_by : (b : Bool) (path : List ℕ) (old new : Entries) (c : Bool) → b ≡ c → Renews c path old new → Renews b path old new
@@ -87,9 +87,9 @@ renews_by b path old new c is x = subst (λ (y : Bool). Renews y path old new) (
 
 -- A port
 
-module _ (path : List ℕ) (port : KnownPort) (a b : Hosting) (s : StandsAt path port a) (r : Rests a b) (n : ℕ) (went : HostWent n a b) (o : IsOwned a) where
+module _ (path : List ℕ) (port : KnownPort) (a b : HostState) (s : StandsAt path port a) (r : OnlyBusSteps a b) (n : ℕ) (went : HostSteps n a b) (o : IsOwned a) where
   stays : b.entries ≡ a.entries
-  stays = ap (λ (h : Hosting). h.entries) r
+  stays = ap (λ (h : HostState). h.entries) r
 
   -- the hub was lost as it was asked for the status
   pub status_failed : (fault : EnumFault) → ServedOrLost path a (Err fault) b
@@ -103,42 +103,42 @@ module _ (path : List ℕ) (port : KnownPort) (a b : Hosting) (s : StandsAt path
   cleared_failed Memory = tt
 
   module _ (status : PortStatus) (x : Watches port.port a.world (Ok status) b.world) where
-    told_now : PortTold path status a.world b.world
-    told_now = x.told (claims a.entries) path (stands_at path port a s) o status refl
+    told_now : PortStatusAt path status a.world b.world
+    told_now = x.told (claims a.entries) path (stands_at-claim path port a s) o status refl
 
     owned_now : IsOwned b
     owned_now = owned_rests a b r x.addresses o
 
     -- no change of connection was told
-    pub serves_tidied : status.connection_changed ≡ false → (result : Result (Unit {0}) EnumFault) (c : Hosting) → Rests b c → TidiesTold port.port status b result c → ServedOrLost path a result c
+    pub serves_tidied : status.connection_changed ≡ false → (result : Result (Unit {0}) EnumFault) (c : HostState) → OnlyBusSteps b c → TidiesTold port.port status b result c → ServedOrLost path a result c
     serves_tidied off (Ok done) c q t = was_tidied (record {
       status = status;
       mid = b.world;
       told = told_now;
       steady = off;
-      clears = t.clears (claims b.entries) path (stands_at path port b (rests_stands n path port a b s r went)) owned_now;
-      rests = rests_then a b c r q;
+      clears = t.clears (claims b.entries) path (stands_at-claim path port b (rests_stands n path port a b s r went)) owned_now;
+      rests = host_rests_then a b c r q;
     })
-    serves_tidied off (Err ParentLost) c q t = inl (ap (λ (h : Hosting). h.entries) (rests_then a b c r q))
+    serves_tidied off (Err ParentLost) c q t = inl (ap (λ (h : HostState). h.entries) (host_rests_then a b c r q))
     serves_tidied off (Err (Bus fault)) c q t = tt
     serves_tidied off (Err Memory) c q t = tt
 
     -- one was
-    pub serves_looked : status.connection_changed ≡ true → (result : Result (Unit {0}) EnumFault) (c : Hosting) → (IsOwned b → LookedOrLost path b result c) → ServedOrLost path a result c
+    pub serves_looked : status.connection_changed ≡ true → (result : Result (Unit {0}) EnumFault) (c : HostState) → (IsOwned b → LookedOrLost path b result c) → ServedOrLost path a result c
     serves_looked on (Ok done) c x = was_looked_at status b told_now on r (x owned_now)
     serves_looked on (Err ParentLost) c x = subst (λ (es : Entries). StaysOrForgets path es c.entries) stays (x owned_now)
     serves_looked on (Err (Bus fault)) c x = tt
     serves_looked on (Err Memory) c x = tt
 
 -- the hub was lost after what stood there was forgotten
-pub found_failed : (path : List ℕ) (a c d : Hosting) (fault : EnumFault) → c.entries ≡ without path a.entries → d.entries ≡ c.entries → LookedOrLost path a (Err fault) d
+pub found_failed : (path : List ℕ) (a c d : HostState) (fault : EnumFault) → c.entries ≡ without path a.entries → d.entries ≡ c.entries → LookedOrLost path a (Err fault) d
 found_failed path a c d ParentLost gone same = inr (same ∙ gone)
 found_failed path a c d (Bus fault) gone same = tt
 found_failed path a c d Memory gone same = tt
 
 -- A port was handled
 
-pub handled_at : (path : List ℕ) (served : Result (Unit {0}) EnumFault) (result : Result (Unit {0}) HostFault) (a b c : Hosting) → EndsAs served result → EndsAt path served b result c → ServedOrLost path a served b → OnOk result (ServedAt path a c)
+pub handled_at : (path : List ℕ) (served : Result (Unit {0}) EnumFault) (result : Result (Unit {0}) HostFault) (a b c : HostState) → EndsAs served result → EndsAt path served b result c → ServedOrLost path a served b → OnOk result (ServedAt path a c)
 handled_at path (Ok done) (Ok x) a b c ends left s = subst (ServedAt path a) (sym left) s
 handled_at path (Ok done) (Err fault) a b c ends left s = tt
 handled_at path (Err ParentLost) (Ok x) a b c ends left s = was_lost (loses_then path a.entries b.entries c.entries s left)
@@ -148,13 +148,13 @@ handled_at path (Err (Bus fault)) (Err other) a b c ends left s = tt
 handled_at path (Err Memory) (Ok x) a b c ends left s = absurd (cc ends)
 handled_at path (Err Memory) (Err other) a b c ends left s = tt
 
-pub handled_once : (path : List ℕ) (looked : Result (Unit {0}) EnumFault) (a b c : Hosting) → EndsAs looked (Ok tt) → EndsAt path looked b (Ok tt) c → LookedOrLost path a looked b → LookedOnce path a c
+pub handled_once : (path : List ℕ) (looked : Result (Unit {0}) EnumFault) (a b c : HostState) → EndsAs looked (Ok tt) → EndsAt path looked b (Ok tt) c → LookedOrLost path a looked b → LookedOnce path a c
 handled_once path (Ok done) a b c ends left s = looked_once (subst (LookedAt path a) (sym left) s)
 handled_once path (Err ParentLost) a b c ends left s = lost_once (loses_then path a.entries b.entries c.entries s left)
 handled_once path (Err (Bus fault)) a b c ends left s = absurd (cc ends)
 handled_once path (Err Memory) a b c ends left s = absurd (cc ends)
 
-pub handles_at : (path : List ℕ) (due : Type 0) (result : Result (Unit {0}) HostFault) (a c : Hosting) → OnOk result (due → Advances a c) → (IsSound a → OnOk result (ServedAt path a c)) → OnOk result (HandlesAt path due a c)
+pub handles_at : (path : List ℕ) (due : Type 0) (result : Result (Unit {0}) HostFault) (a c : HostState) → OnOk result (due → HostProgress a c) → (HostInvariant a → OnOk result (ServedAt path a c)) → OnOk result (HandlesAt path due a c)
 handles_at path due (Ok done) a c x y = record { advances = x; served = y }
 handles_at path due (Err fault) a c x y = tt
 

@@ -11,11 +11,11 @@ use Rattle.usb_device.specs.Rows.{State}
 use Rattle.usb_device.specs.Spec.{Spec}
 use Rattle.usb_device.specs.Tree.{Ports, ended, vacant, taken, reach, reach_at, state_at}
 use Rattle.usb_device.specs.View.{state_there}
-use Rattle.usb_world.specs.Paths.{pend}
+use Rattle.usb_world.specs.Paths.{pending}
 use Rattle.usb_world.specs.PlanCourses.{spec_of}
 use Rattle.usb_world.specs.PluggedDevices.{hub_ports}
 use Rattle.usb_world.specs.World.{World, roots_of}
-use Rattle.usb_world.proofs.Interface.{both, no, same_is}
+use Rattle.usb_world.proofs.Interface.{both, false_true, same_is}
 use Rattle.usb_enum.specs.declared.cause.Cause.{Cause}
 use Rattle.usb_enum.specs.declared.finding.Accepted.{Accepted}
 use Rattle.usb_enum.specs.declared.finding.Finding.{Finding}
@@ -30,24 +30,24 @@ use Rattle.usb_table.specs.KnownPorts.{port_below, port_found, port_of_hub, is_b
 use Rattle.usb_table.specs.Listing.{tree_in, finding_at, entry_address, hub_facts_in, IsPortBelow, IsListedPort, tier_of, supply_below, supply_at, ListsEach, Matches}
 use Rattle.usb_table.proofs.Interface.{FoundPort, port_found-some}
 use Rattle.usb_enum.specs.Places.{IsThere, IsKnownAs}
-use Rattle.usb_host.specs.Soundness.{Known, known_supply, IsTruthOf, Truthful, Causes, Accounted, IsAtRest}
+use Rattle.usb_host.specs.Soundness.{PortsListed, known_supply, IsTruthOf, DevicesAccurate, RefusalsJustified, Accounted, IsAtRest}
 use Rattle.usb_host.proofs.EntryClaims.{claims_distinct, claims_taken}
 
 -- A reachable device stands
 
 reached_at : (k : Ports) (j : ℕ) (p : List ℕ) → reach_at k j p ≡ true → (s : State) × (state_at k j p ≡ Some s)
 unfolding reach_at state_at
-reached_at ended j p h = no h
-reached_at (vacant b k) zero p h = no h
+reached_at ended j p h = false_true h
+reached_at (vacant b k) zero p h = false_true h
 reached_at (vacant b k) (suc j) p h = reached_at k j p h
 reached_at (taken b s a k) zero [] h = (s, refl)
-reached_at (taken b s a k) zero (zero ∷ p) h = no h
+reached_at (taken b s a k) zero (zero ∷ p) h = false_true h
 reached_at (taken b s a k) zero (suc j ∷ p) h = reached_at a j p (both b.enable (reach_at a j p) h).1
 reached_at (taken b s a k) (suc j) p h = reached_at k j p h
 
 pub reached_there : (k : Ports) (p : List ℕ) → reach k p ≡ true → (s : State) × (state_there k p ≡ Some s)
-reached_there k [] h = no h
-reached_there k (zero ∷ p) h = no h
+reached_there k [] h = false_true h
+reached_there k (zero ∷ p) h = false_true h
 reached_there k (suc i ∷ p) h = reached_at k i p h
 
 -- Entries stand at listed ports
@@ -56,8 +56,8 @@ pub port_number : (path : List ℕ) → IsPath path → IsPortNumber (port_on_hu
 unfolding port_on_hub
 port_number path is = let some = is.0 in All-get_or IsPortNumber path (length path - 1) 0 (omega (arith, some)) is.2
 
-hub_port : (o : Option Finding) (below : Bool) (n : ℕ) → 1 ≤ n → IsSome (port_found o below n) → IsSomeAnd (hub_facts_in o) (λ facts. (1 ≤ n) × (n ≤ facts.ports))
-hub_port o below n least h = pick (port_found o below n) refl h
+port_found-facts : (o : Option Finding) (below : Bool) (n : ℕ) → 1 ≤ n → IsSome (port_found o below n) → IsSomeAnd (hub_facts_in o) (λ facts. (1 ≤ n) × (n ≤ facts.ports))
+port_found-facts o below n least h = pick (port_found o below n) refl h
   where
     pick : (found : Option KnownPort) → port_found o below n ≡ found → IsSome found → IsSomeAnd (hub_facts_in o) (λ facts. (1 ≤ n) × (n ≤ facts.ports))
     pick None e h = absurd cc
@@ -67,7 +67,7 @@ hub_port o below n least h = pick (port_found o below n) refl h
 
 pub port_below_hub : (roots : ℕ) (entries : Entries) (n : ℕ) (o : Option (List ℕ)) → 1 ≤ n → (o ≡ None → n ≤ roots) → IsSome (port_below o n entries) → IsPortBelow roots entries o n
 port_below_hub roots entries n None least most h = (least, most refl)
-port_below_hub roots entries n (Some hub) least most h = hub_port (finding_at hub entries) (is_below_hub hub) n least h
+port_below_hub roots entries n (Some hub) least most h = port_found-facts (finding_at hub entries) (is_below_hub hub) n least h
 
 module _ (w : World) (entries : Entries) (addresses : Addresses) (accounted : Accounted (roots_of w) entries addresses) where
   pub listed_port : (path : List ℕ) (f : Finding) → finding_at path entries ≡ Some f → IsListedPort (roots_of w) entries path
@@ -89,12 +89,12 @@ device_is None device h = absurd cc
 device_is (Some (Device d)) device h = cc h
 device_is (Some (Refused cause)) device h = absurd cc
 
-there : (w : World) (path : List ℕ) (o : Option Finding) → pend w.roots path ≡ false → IsKnownAs w path o → IsThere w path o
-there w path o none (inl pends) = no (sym none ∙ pends)
+there : (w : World) (path : List ℕ) (o : Option Finding) → pending w.roots path ≡ false → IsKnownAs w path o → IsThere w path o
+there w path o none (inl pends) = false_true (sym none ∙ pends)
 there w path o none (inr h) = h.1
 
-plugged : (w : World) (path : List ℕ) (s : State) → state_there w.roots path ≡ Some s → tree_in w path ≡ Some s.spec
-plugged w path s h = ap (option_map spec_of) h
+tree_in-spec : (w : World) (path : List ℕ) (s : State) → state_there w.roots path ≡ Some s → tree_in w path ≡ Some s.spec
+tree_in-spec w path s h = ap (option_map spec_of) h
 
 -- What a hub's ports give
 
@@ -111,10 +111,10 @@ record IsHubAt (o : Option Finding) (below : Bool) (n : ℕ) : Type 0 where
   told : device.hub ≡ Some facts
   gives : unwrap_or (option_map (λ (known : KnownPort). known.supply) (port_found o below n)) 0 ≡ facts.supply
 
-hub_found : (o : Option Finding) (below : Bool) (n : ℕ) → IsSomeAnd (hub_facts_in o) (λ facts. (1 ≤ n) × (n ≤ facts.ports)) → IsHubAt o below n
-hub_found None below n h = absurd h
-hub_found (Some (Refused cause)) below n h = absurd h
-hub_found (Some (Device d)) below n h = let x : _ = supply_of_hub d below n d.hub h in record { device = d; facts = x.0; found = refl; told = x.1; gives = x.2 }
+facts_are_hub : (o : Option Finding) (below : Bool) (n : ℕ) → IsSomeAnd (hub_facts_in o) (λ facts. (1 ≤ n) × (n ≤ facts.ports)) → IsHubAt o below n
+facts_are_hub None below n h = absurd h
+facts_are_hub (Some (Refused cause)) below n h = absurd h
+facts_are_hub (Some (Device d)) below n h = let x : _ = supply_of_hub d below n d.hub h in record { device = d; facts = x.0; found = refl; told = x.1; gives = x.2 }
 
 facts_supply : (spec : Spec) (facts : HubFacts) → facts_of spec ≡ Some facts → facts.supply ≡ supply_of false spec.self_powered
 facts_supply spec facts h = pick (is_hub_device spec.descriptor) h
@@ -129,7 +129,7 @@ right_moved : (full : Type 0) (a b : Spec) (tier m n : ℕ) (f : Finding) → a 
 right_moved full a b tier m n f e g x = subst (λ n. IsRight full b tier n f) g (subst (λ s. IsRight full s tier m f) e x)
 
 module _ (w : World) (entries : Entries) (addresses : Addresses) (accounted : Accounted (roots_of w) entries addresses)
-    (known : Known w entries) (truthful : Truthful w entries) (causes : Causes w entries) (rest : IsAtRest w entries) where
+    (known : PortsListed w entries) (truthful : DevicesAccurate w entries) (causes : RefusalsJustified w entries) (rest : IsAtRest w entries) where
   there_at : (path : List ℕ) → IsListedPort (roots_of w) entries path → IsThere w path (finding_at path entries)
   there_at path port = there w path (finding_at path entries) (rest.none_pending path port) (known path port)
 
@@ -147,10 +147,10 @@ module _ (w : World) (entries : Entries) (addresses : Addresses) (accounted : Ac
       → unwrap_or (option_map (λ (known : KnownPort). known.supply) (port_below o n entries)) 0 ≡ supply_below (tree_in w) o
   supply_known None n h = refl
   supply_known (Some hub) n h =
-      let x = hub_found (finding_at hub entries) (is_below_hub hub) n h in
+      let x = facts_are_hub (finding_at hub entries) (is_below_hub hub) n h in
       let t : _ = told hub x.device x.found in
       let given = facts_supply t.0.spec x.facts (sym t.2.found.1.hub ∙ x.told) in
-      x.gives ∙ given ∙ sym (ap (λ o. supply_of false (unwrap_or (option_map (λ (spec : Spec). spec.self_powered) o) false)) (plugged w hub t.0 t.1))
+      x.gives ∙ given ∙ sym (ap (λ o. supply_of false (unwrap_or (option_map (λ (spec : Spec). spec.self_powered) o) false)) (tree_in-spec w hub t.0 t.1))
 
   same_supply : (path : List ℕ) → IsListedPort (roots_of w) entries path → known_supply path entries ≡ supply_at (tree_in w) path
   same_supply path port = supply_known (parent_of path) (port_on_hub path) port.port
@@ -160,9 +160,9 @@ module _ (w : World) (entries : Entries) (addresses : Addresses) (accounted : Ac
       → IsRight (ListsEach entries) s.spec (tier_of path) (known_supply path entries) (Refused cause)
   right_cause path cause s at stands = pick (causes path cause s at stands)
     where
-      pick : (pend w.roots path ≡ true) ⊎ IsRight ⊤ s.spec (tier_of path) (known_supply path entries) (Refused cause)
+      pick : (pending w.roots path ≡ true) ⊎ IsRight ⊤ s.spec (tier_of path) (known_supply path entries) (Refused cause)
           → IsRight (ListsEach entries) s.spec (tier_of path) (known_supply path entries) (Refused cause)
-      pick (inl pends) = no (sym (rest.none_pending path (listed_port w entries addresses accounted path (Refused cause) at)) ∙ pends)
+      pick (inl pends) = false_true (sym (rest.none_pending path (listed_port w entries addresses accounted path (Refused cause) at)) ∙ pends)
       pick (inr (inl x)) = inl x
       pick (inr (inr x)) = inr (record { none = rest.none_waiting path (at ∙ ap (λ f. Some f) x.refused); head = x.head; refused = x.refused })
 
@@ -173,7 +173,7 @@ module _ (w : World) (entries : Entries) (addresses : Addresses) (accounted : Ac
       moved : (s : State) (f : Finding) → state_there w.roots path ≡ Some s → IsRight (ListsEach entries) s.spec (tier_of path) (known_supply path entries) f
           → IsRight (ListsEach entries) spec (tier_of path) (supply_at (tree_in w) path) f
       moved s f stands right =
-          let same : s.spec ≡ spec = cc (plugged w path s stands, is) in
+          let same : s.spec ≡ spec = cc (tree_in-spec w path s stands, is) in
           right_moved (ListsEach entries) s.spec spec (tier_of path) (known_supply path entries) (supply_at (tree_in w) path) f same (same_supply path port) right
 
       pick : (o : Option Finding) → finding_at path entries ≡ o → IsSomeAnd o (IsRight (ListsEach entries) spec (tier_of path) (supply_at (tree_in w) path))

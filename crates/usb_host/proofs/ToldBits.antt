@@ -17,8 +17,8 @@ use Rattle.usb_device.specs.View.{port_there, state_there}
 use Rattle.usb_world.specs.Paths.{is_way}
 use Rattle.usb_world.specs.PluggedDevices.{hub_ports}
 use Rattle.usb_world.specs.PortRequests.{row_reached}
-use Rattle.usb_world.specs.SanePorts.{IsSane}
-use Rattle.usb_world.specs.Steps.{ready}
+use Rattle.usb_world.specs.SanePorts.{Consistent}
+use Rattle.usb_world.specs.Steps.{at_attempt}
 use Rattle.usb_world.proofs.Interface.{course_taken, ports_counted, ready_taken, stands, way_parent}
 use Rattle.usb_world.proofs.Ways.{reach_on_way}
 use Rattle.usb_hub.proofs.Interface.{port_of_place, sane_there, state_of_place}
@@ -41,16 +41,16 @@ use Rattle.usb_table.specs.Listing.{finding_at, tier_of}
 use Rattle.usb_table.proofs.Interface.{FoundPort, port_found-some}
 use Rattle.usb_host.specs.Agreement.{Agrees}
 use Rattle.usb_host.specs.Budget.{ShowsChange, ShowsTold}
-use Rattle.usb_host.specs.Hosting.{Hosting}
-use Rattle.usb_host.specs.Soundness.{IsSound, IsTruthOf, known_supply}
-use Rattle.usb_host.proofs.Backlogs.{full_of, place_of, steady_place}
+use Rattle.usb_host.specs.HostState.{HostState}
+use Rattle.usb_host.specs.Soundness.{HostInvariant, IsTruthOf, known_supply}
+use Rattle.usb_host.proofs.Backlogs.{full_of, port_of-place, steady_place}
 use Rattle.usb_host.proofs.CalmPorts.{ready_none}
-use Rattle.usb_host.proofs.Climbs.{parent_length}
+use Rattle.usb_host.proofs.ParentPaths.{parent_length}
 use Rattle.usb_host.proofs.Polls.{HubThere, facts_ports}
 use Rattle.usb_host.proofs.SettledListings.{reached_there}
 use Rattle.usb_host.proofs.Services.{same_last}
-use Rattle.usb_host.proofs.Silences.{port_of_row}
-use Rattle.usb_host.proofs.Stations.{root_alone}
+use Rattle.usb_host.proofs.UnchangedHubs.{port_of_row}
+use Rattle.usb_host.proofs.PortLocations.{root_alone}
 use Rattle.usb_host.proofs.ToldPayments.{shows_on}
 
 -- Bits
@@ -183,21 +183,21 @@ deep_row false false false false false true h r n e = absurd (cc e)
 deep_row false false false false false false true r n e = absurd (cc e)
 deep_row false false false false false false false r n e = refl
 
-hub_by : (spec : Spec) (facts : HubFacts) → facts_of spec ≡ Some facts → is_hub_device spec.descriptor ≡ true
-hub_by spec facts is = pick (is_hub_device spec.descriptor) refl is
+facts_of-hub : (spec : Spec) (facts : HubFacts) → facts_of spec ≡ Some facts → is_hub_device spec.descriptor ≡ true
+facts_of-hub spec facts is = pick (is_hub_device spec.descriptor) refl is
   where
     pick : (x : Bool) → is_hub_device spec.descriptor ≡ x → facts_of spec ≡ Some facts → x ≡ true
     pick true hub e = refl
     pick false hub e = let none : facts_of spec ≡ None = rw hub refl in absurd (cc (none, e))
 
-shallow : (spec : Spec) (tier supply chosen : ℕ) (facts : HubFacts) → verdict spec tier supply ≡ Ok chosen → facts_of spec ≡ Some facts → tier ≡ 7 → ⊥
+verdict-not_deep : (spec : Spec) (tier supply chosen : ℕ) (facts : HubFacts) → verdict spec tier supply ≡ Ok chosen → facts_of spec ≡ Some facts → tier ≡ 7 → ⊥
 unfolding verdict
-shallow spec tier supply chosen facts e hub last =
+verdict-not_deep spec tier supply chosen facts e hub last =
     let row : (is_hub_device spec.descriptor && tier == 7) ≡ false =
     deep_row spec.silent spec.busy spec.stalls.device (not (is_ok (device_head_of spec.low (take 8 spec.descriptor)))) spec.stalls.address
     (not (is_device spec.low (take 18 spec.descriptor))) (is_hub_device spec.descriptor && tier == 7)
     (read_verdict spec supply (first_fault spec (configuration_count spec.descriptor))) chosen e in
-    let on : (is_hub_device spec.descriptor && tier == 7) ≡ true = rw (hub_by spec facts hub, eq-eqb tier 7 last) refl in
+    let on : (is_hub_device spec.descriptor && tier == 7) ≡ true = rw (facts_of-hub spec facts hub, eq-eqb tier 7 last) refl in
     cc (row, on)
 
 -- the port of a number
@@ -208,11 +208,11 @@ row_port_of [] k b s below i e = absurd (cc e)
 row_port_of (zero ∷ q) k b s below i e = absurd (cc e)
 row_port_of (suc j ∷ q) k b s below i e = port_of_row k j q b s below i e
 
-ports_there : (hub : List ℕ) (k : Ports) (b : PortState) (s : State) (below : Ports) → IsSane k → place k hub ≡ Some (full b s below)
+row_of-hub_ports : (hub : List ℕ) (k : Ports) (b : PortState) (s : State) (below : Ports) → Consistent k → place k hub ≡ Some (full b s below)
     → length (row_of below) ≡ hub_ports s.spec.hub
-ports_there [] k b s below sane e = absurd (cc e)
-ports_there (zero ∷ q) k b s below sane e = absurd (cc e)
-ports_there (suc j ∷ q) k b s below sane e = ports_counted k j q b s below sane e
+row_of-hub_ports [] k b s below sane e = absurd (cc e)
+row_of-hub_ports (zero ∷ q) k b s below sane e = absurd (cc e)
+row_of-hub_ports (suc j ∷ q) k b s below sane e = ports_counted k j q b s below sane e
 
 no_enable : (c e r : Bool) → e ≡ false → (c || e || r) ≡ true → (c ≡ true) ⊎ (r ≡ true)
 no_enable true e r off h = inl refl
@@ -233,7 +233,7 @@ up_on k (m ∷ p) hub some way on = reach_on_way k m p hub way on
 
 -- each port of which it told
 
-module _ (hub : List ℕ) (a b : Hosting) (agrees : Agrees b.entries b.addresses) (s : IsSound a) (t : IsSound b) (before : a.world.fault ≡ None)
+module _ (hub : List ℕ) (a b : HostState) (agrees : Agrees b.entries b.addresses) (s : HostInvariant a) (t : HostInvariant b) (before : a.world.fault ≡ None)
     (still : b.world.fault ≡ None) (facts : HubFacts) (there : HubThere hub b.entries facts) (reached : reach b.world.roots hub ≡ true)
     (bits : ℕ) (x : BitsOf hub a.world b.world bits) where
   abbrev device_at : State
@@ -248,10 +248,10 @@ module _ (hub : List ℕ) (a b : Hosting) (agrees : Agrees b.entries b.addresses
   so_many : facts.ports ≡ hub_ports device_at.spec.hub
   so_many = facts_ports device_at.spec facts (sym truth.found.1.hub ∙ there.told)
 
-  sane : IsSane b.world.roots
+  sane : Consistent b.world.roots
   sane = (t.order still).sane
 
-  sane_then : IsSane x.mid.roots
+  sane_then : Consistent x.mid.roots
   sane_then = (orderly_on (s.order before) (x.rests [])).sane
 
   path : IsPath hub
@@ -268,7 +268,7 @@ module _ (hub : List ℕ) (a b : Hosting) (agrees : Agrees b.entries b.addresses
       let on : reach b.world.roots up ≡ true = up_on b.world.roots up hub shorter.1 (way_parent hub up is) reached in
       let st : _ = reached_there b.world.roots up on in
       let told : IsTruthOf b.entries up f.device st.0 = t.truthful still up f.device st.0 (ap accepted_device_of f.stands) on st.1 in
-      shallow st.0.spec (tier_of up) (known_supply up b.entries) f.device.chosen f.facts told.found.0 (sym told.found.1.hub ∙ f.told)
+      verdict-not_deep st.0.spec (tier_of up) (known_supply up b.entries) f.device.chosen f.facts told.found.0 (sym told.found.1.hub ∙ f.told)
       (omega (arith, shorter.0, long))
 
   -- no hub stands in the last tier
@@ -283,18 +283,18 @@ module _ (hub : List ℕ) (a b : Hosting) (agrees : Agrees b.entries b.addresses
       let long : length (hub ++ (suc i ∷ [])) ≡ length hub + 1 = length-append hub (suc i ∷ []) in
       (omega (arith, long), omega (arith, long, above_last), All-append IsPortNumber hub (suc i ∷ []) path.2 (All-cons IsPortNumber (suc i) [] (omega arith, omega (arith, less)) (All-nil IsPortNumber)))
 
-  module _ (same : (ready x.mid).roots ≡ x.mid.roots) (i : ℕ) (less : i < 7) (set : has_bit bits (suc i) ≡ true) where
+  module _ (same : (at_attempt x.mid).roots ≡ x.mid.roots) (i : ℕ) (less : i < 7) (set : has_bit bits (suc i) ≡ true) where
     changed : HasChange (row_of x.ports) i
     changed = bit_changed (row_of x.ports) i less (subst (λ n. has_bit n (suc i) ≡ true) x.told set)
 
     port_then : port_there x.mid.roots (hub ++ (suc i ∷ [])) ≡ Some changed.0
     port_then =
         subst (λ (k : Ports). port_there k (hub ++ (suc i ∷ [])) ≡ Some changed.0) same
-        (row_port_of hub (ready x.mid).roots x.port x.state x.ports i x.stood ∙ changed.1)
+        (row_port_of hub (at_attempt x.mid).roots x.port x.state x.ports i x.stood ∙ changed.1)
 
     steady : changed.0.enable_changed ≡ false
     steady =
-        let q : _ = place_of (place x.mid.roots (hub ++ (suc i ∷ []))) changed.0 (sym (port_of_place x.mid.roots (hub ++ (suc i ∷ []))) ∙ port_then) in
+        let q : _ = port_of-place (place x.mid.roots (hub ++ (suc i ∷ []))) changed.0 (sym (port_of_place x.mid.roots (hub ++ (suc i ∷ []))) ∙ port_then) in
         ap (λ (y : PortState). y.enable_changed) (sym q.2) ∙ steady_place q.0 (sane_there x.mid.roots (hub ++ (suc i ∷ [])) q.0 sane_then q.1)
 
     -- it shows its change
@@ -308,7 +308,7 @@ module _ (hub : List ℕ) (a b : Hosting) (agrees : Agrees b.entries b.addresses
     within =
         let f : _ = full_of (place b.world.roots hub) (ap is_some (sym (state_of_place b.world.roots hub) ∙ stood_at)) in
         let is : f.1 ≡ device_at = same_Some f.1 device_at (ap stands (sym f.3) ∙ sym (state_of_place b.world.roots hub) ∙ stood_at) in
-        let counted : length (row_of f.2) ≡ hub_ports f.1.spec.hub = ports_there hub b.world.roots f.0 f.1 f.2 sane f.3 in
+        let counted : length (row_of f.2) ≡ hub_ports f.1.spec.hub = row_of-hub_ports hub b.world.roots f.0 f.1 f.2 sane f.3 in
         let stood : slice_get (row_of f.2) i ≡ Some shows_port.port = sym (row_port_of hub b.world.roots f.0 f.1 f.2 i f.3) ∙ shows_port.there in
         let most : i < length (row_of f.2) = slice_get_within (row_of f.2) i shows_port.port stood in
         omega (arith, most, counted, so_many, ap (λ (d : State). hub_ports d.spec.hub) is)
@@ -322,7 +322,7 @@ module _ (hub : List ℕ) (a b : Hosting) (agrees : Agrees b.entries b.addresses
         known_by (finding_at hub b.entries) there.device facts (is_below_hub hub) (suc i) there.found there.told within in
         (path_of_port i less, subst (λ (p : Option (List ℕ)). IsSome (port_below p (port_on_hub (hub ++ (suc i ∷ []))) b.entries)) (sym above) (subst (λ n. IsSome (port_below (Some hub) n b.entries)) number some))
 
-  module _ (same : (ready x.mid).roots ≡ x.mid.roots) where
+  module _ (same : (at_attempt x.mid).roots ≡ x.mid.roots) where
     shows_each : (n : ℕ) → 1 ≤ n → n ≤ 7 → has_bit bits n ≡ true → ShowsChange b.world (hub ++ (n ∷ []))
     shows_each zero least most set = absurd (omega (arith, least))
     shows_each (suc i) least most set = shows_port same i (omega (arith, most)) set
@@ -344,7 +344,7 @@ module _ (hub : List ℕ) (a b : Hosting) (agrees : Agrees b.entries b.addresses
         }
 
   -- so it is, where no event came since the poll began
-  pub poll_shows : (ready x.mid).taken ≤ b.world.taken → bits ≢ 0 → ShowsTold hub bits b ⊎ (a.world.taken + 1 ≤ b.world.taken)
+  pub poll_shows : (at_attempt x.mid).taken ≤ b.world.taken → bits ≢ 0 → ShowsTold hub bits b ⊎ (a.world.taken + 1 ≤ b.world.taken)
   poll_shows came some = elim (cases_lt a.world.taken b.world.taken) [
     | inl less ↦ inr (omega (arith, less))
     | inr none ↦ inl (shows_told (ready_none x.mid (omega (arith, none, came, course_taken (x.rests []), ready_taken x.mid))) some)

@@ -7,13 +7,13 @@ use Rattle.usb_device.specs.Tree.{empty, place}
 use Rattle.usb_device.specs.View.{port_there, state_there}
 use Rattle.usb_world.specs.PlanCourses.{AtPorts}
 use Rattle.usb_world.specs.World.{World}
-use Rattle.usb_address.specs.Claims.{Claims}
-use Rattle.usb_address.specs.Ownership.{Owned, TillFault}
+use Rattle.usb_address.specs.Claims.{AddressMap}
+use Rattle.usb_address.specs.Ownership.{MapHolds, WhileBusWorks}
 use Rattle.usb_backlog.specs.Marks.{KeepsAll}
 use Rattle.usb_backlog.specs.Units.{KeepsPlain, PaysBare, PaysLook, PaysStray}
 use Rattle.usb_hub.specs.declared.port.HubPort.{HubPort}
 use Rattle.usb_hub.specs.Addresses.{IsAt}
-use Rattle.usb_hub.specs.Moments.{PortTold}
+use Rattle.usb_hub.specs.Moments.{PortStatusAt}
 use Rattle.usb_enum.specs.declared.fault.EnumFault.{EnumFault}
 use Rattle.usb_enum.specs.declared.fault.EnumFault.TheVariants.{ParentLost, Bus, Memory}
 use Rattle.usb_enum.specs.Bounds.{read_bound}
@@ -22,9 +22,9 @@ use Rattle.usb_enum.specs.TextLengths.{HasPlanWithin}
 use Rattle.usb_table.specs.Entries.{Entries}
 use Rattle.usb_table.specs.Findings.{is_hub}
 use Rattle.usb_host.specs.Bounds.{clearing_bound, deciding_bound}
-use Rattle.usb_host.specs.Hosting.{Hosting}
-use Rattle.usb_host.specs.Progress.{HostWent}
-use Rattle.usb_host.specs.Soundness.{IsSound}
+use Rattle.usb_host.specs.HostState.{HostState}
+use Rattle.usb_host.specs.Progress.{HostSteps}
+use Rattle.usb_host.specs.Soundness.{HostInvariant}
 
 -- how many hubs are listed
 abbrev pub hubs : Entries → ℕ
@@ -38,7 +38,7 @@ pub record ResetCleared (p : List ℕ) (old new : World) : Type 0 where
   pub rested : KeepsAll mid new
 
 abbrev pub ClearsReset : HubPort → World → World → Type 0
-ClearsReset port old new = (f : Claims) (p : List ℕ) → IsAt f port p → TillFault (Owned f) old → ResetCleared p old new
+ClearsReset port old new = (f : AddressMap) (p : List ℕ) → IsAt f port p → WhileBusWorks (MapHolds f) old → ResetCleared p old new
 
 -- the port's change of connection was cleared at a moment of the call, and at a later one it showed this status
 pub record ChangeCleared (p : List ℕ) (status : PortStatus) (old new : World) : Type 0 where
@@ -53,53 +53,53 @@ pub record ChangeCleared (p : List ℕ) (status : PortStatus) (old new : World) 
   pub stood : IsOrderly old → status.connected ≡ true → is_some (state_there now.roots p) ≡ true
 
 abbrev pub ClearsConnection : HubPort → PortStatus → World → World → Type 0
-ClearsConnection port status old new = (f : Claims) (p : List ℕ) → IsAt f port p → TillFault (Owned f) old → ChangeCleared p status old new
+ClearsConnection port status old new = (f : AddressMap) (p : List ℕ) → IsAt f port p → WhileBusWorks (MapHolds f) old → ChangeCleared p status old new
 
 -- where a status tells of no change but of the connection, nothing is done
-abbrev pub RestsCalm : PortStatus → Hosting → Result (Unit {0}) EnumFault → Hosting → Type 0
+abbrev pub RestsCalm : PortStatus → HostState → Result (Unit {0}) EnumFault → HostState → Type 0
 RestsCalm status old result new = status.enable_changed ≡ false → status.reset_changed ≡ false → (result ≡ Ok tt) × (new ≡ old)
 
 -- nothing is found: few attempts were made, and no more hubs are listed
-pub record FindsNone (most : ℕ) (old new : Hosting) : Type 0 where
-  pub went : HostWent most old new
+pub record FindsNone (most : ℕ) (old new : HostState) : Type 0 where
+  pub went : HostSteps most old new
   pub hubs : hubs new.entries ≤ hubs old.entries
 
 -- Looks
 
 -- a look at a port was paid, counted from where its change was told: a device was seen there; or none was, and few attempts were made
-pub data LookPaid (before : World) (old new : Hosting) : Type 0 where
+pub data LookPaid (before : World) (old new : HostState) : Type 0 where
   seen : PaysLook before new.world → LookPaid before old new
   unseen : PaysBare before new.world → FindsNone clearing_bound old new → LookPaid before old new
 
 -- a hub that is lost may be so before the change is cleared: few attempts were made, and no more is left to do
-abbrev pub LookPays : World → Hosting → Result (Unit {0}) EnumFault → Hosting → Type 0
+abbrev pub LookPays : World → HostState → Result (Unit {0}) EnumFault → HostState → Type 0
 LookPays before old (Ok done) new = LookPaid before old new
 LookPays before old (Err ParentLost) new = LookPaid before old new ⊎ (KeepsPlain before new.world × FindsNone clearing_bound old new)
 LookPays before old (Err (Bus fault)) new = ⊤
 LookPays before old (Err Memory) new = ⊤
 
 -- so it is where a status told of the change, as long as the bus is at work
-pub record PaysAtLook (path : List ℕ) (old : Hosting) (result : Result (Unit {0}) EnumFault) (new : Hosting) : Type 0 where
-  pub pays : IsSound old → new.world.fault ≡ None → (before : World) (status : PortStatus) → AtPorts before.left → PortTold path status before old.world → status.connection_changed ≡ true → LookPays before old result new
+pub record PaysAtLook (path : List ℕ) (old : HostState) (result : Result (Unit {0}) EnumFault) (new : HostState) : Type 0 where
+  pub pays : HostInvariant old → new.world.fault ≡ None → (before : World) (status : PortStatus) → AtPorts before.left → PortStatusAt path status before old.world → status.connection_changed ≡ true → LookPays before old result new
   -- where the plan plugs no device whose texts say more bytes, so few attempts are made, whatever the answer is
-  pub few : IsSound old → (most : ℕ) → (old.world.fault ≡ None → HasPlanWithin most old.world) → new.world.attempts ≤ old.world.attempts + (clearing_bound + 250000 + 100 * most)
+  pub few : HostInvariant old → (most : ℕ) → (old.world.fault ≡ None → HasPlanWithin most old.world) → new.world.attempts ≤ old.world.attempts + (clearing_bound + 250000 + 100 * most)
 
 -- Ports that are served
 
 -- a port was served: a look was paid; or few attempts were made, and something less was paid; or its status told of no change, and nothing else was done
-pub data ServePaid (path : List ℕ) (old new : Hosting) : Type 0 where
+pub data ServePaid (path : List ℕ) (old new : HostState) : Type 0 where
   found : PaysLook old.world new.world → ServePaid path old new
   bare : PaysBare old.world new.world → FindsNone deciding_bound old new → ServePaid path old new
   tidied : PaysStray old.world new.world → FindsNone deciding_bound old new → ServePaid path old new
-  calm : (status : PortStatus) (mid : World) → PortTold path status old.world mid → status.connection_changed ≡ false → status.reset_changed ≡ false → KeepsPlain old.world new.world → FindsNone (read_bound 4) old new → ServePaid path old new
+  calm : (status : PortStatus) (mid : World) → PortStatusAt path status old.world mid → status.connection_changed ≡ false → status.reset_changed ≡ false → KeepsPlain old.world new.world → FindsNone (read_bound 4) old new → ServePaid path old new
 
-abbrev pub ServePays : List ℕ → Hosting → Result (Unit {0}) EnumFault → Hosting → Type 0
+abbrev pub ServePays : List ℕ → HostState → Result (Unit {0}) EnumFault → HostState → Type 0
 ServePays path old (Ok done) new = ServePaid path old new
 ServePays path old (Err ParentLost) new = ServePaid path old new ⊎ (KeepsPlain old.world new.world × FindsNone deciding_bound old new)
 ServePays path old (Err (Bus fault)) new = ⊤
 ServePays path old (Err Memory) new = ⊤
 
 -- so it is as long as the bus is at work, where the events to come are at ports
-pub record PaysAtServe (path : List ℕ) (old : Hosting) (result : Result (Unit {0}) EnumFault) (new : Hosting) : Type 0 where
-  pub pays : IsSound old → AtPorts old.world.left → new.world.fault ≡ None → ServePays path old result new
-  pub few : IsSound old → (most : ℕ) → (old.world.fault ≡ None → HasPlanWithin most old.world) → new.world.attempts ≤ old.world.attempts + (deciding_bound + 250000 + 100 * most)
+pub record PaysAtServe (path : List ℕ) (old : HostState) (result : Result (Unit {0}) EnumFault) (new : HostState) : Type 0 where
+  pub pays : HostInvariant old → AtPorts old.world.left → new.world.fault ≡ None → ServePays path old result new
+  pub few : HostInvariant old → (most : ℕ) → (old.world.fault ≡ None → HasPlanWithin most old.world) → new.world.attempts ≤ old.world.attempts + (deciding_bound + 250000 + 100 * most)

@@ -2,7 +2,7 @@
 use Rattle.std.specs.Prelude.{◌≡◌, ◌⊎◌, ℕ, List, true, false, Some}
 use Rattle.usb_device.specs.Bulk.{rested}
 use Rattle.usb_device.specs.Rows.{State}
-use Rattle.usb_device.specs.Tree.{Spot, path_to, reach, reach_on, state_on}
+use Rattle.usb_device.specs.Tree.{Location, path_to, reach, reach_on, state_on}
 use Rattle.usb_world.specs.Devices.{Was}
 use Rattle.usb_world.specs.Steps.{AnyStep, Course}
 use Rattle.usb_world.specs.World.{World}
@@ -14,7 +14,7 @@ use Rattle.usb_table.specs.KnownPorts.{is_below_hub}
 use Rattle.usb_table.specs.Levels.{SparesBulk}
 use Rattle.usb_table.specs.Pipes.{new_pipes_to}
 use Rattle.usb_table.specs.Table.{pipes_at}
-use Rattle.usb_host.specs.Hosting.{Hosting}
+use Rattle.usb_host.specs.HostState.{HostState}
 use Rattle.usb_host.specs.Transfers.{table_in}
 
 -- of the pipes to a device the bulk ones are the same
@@ -26,22 +26,22 @@ pub record SameBulk (pipes others : Pipes) : Type 0 where
 
 -- it was reached there before, and nothing of it changed but where its control transfer and its status endpoint stand
 abbrev pub EndpointsStayed : List ℕ → World → World → Type 0
-EndpointsStayed path old new = (x : Spot) (s : State) → path ≡ path_to x → reach_on new.roots x ≡ true → state_on new.roots x ≡ Some s → Was SparesBulk old x s
+EndpointsStayed path old new = (x : Location) (s : State) → path ≡ path_to x → reach_on new.roots x ≡ true → state_on new.roots x ≡ Some s → Was SparesBulk old x s
 
 -- its bulk endpoints have begun again
 abbrev pub EndpointsBegan : List ℕ → World → Type 0
-EndpointsBegan path w = (x : Spot) (s : State) → path ≡ path_to x → reach_on w.roots x ≡ true → state_on w.roots x ≡ Some s → (s.bulk_out ≡ rested) × (s.bulk_in ≡ rested)
+EndpointsBegan path w = (x : Location) (s : State) → path ≡ path_to x → reach_on w.roots x ≡ true → state_on w.roots x ≡ Some s → (s.bulk_out ≡ rested) × (s.bulk_in ≡ rested)
 
 -- An accepted device that is listed at a path
 
 -- it was listed there before; its bulk pipes and their endpoints are as they were
-pub record StayedAt (path : List ℕ) (device : Accepted) (old new : Hosting) : Type 0 where
+pub record StayedAt (path : List ℕ) (device : Accepted) (old new : HostState) : Type 0 where
   pub listed : accepted_device_at path old.entries ≡ Some device
   pub pipes : SameBulk (pipes_at path (table_in old)) (pipes_at path (table_in new))
   pub endpoints : EndpointsStayed path old.world new.world
 
 -- it was found anew: at a moment of the call none was reached there; its bulk pipes are new, and their endpoints have begun again
-pub record RenewedAt (path : List ℕ) (device : Accepted) (old new : Hosting) : Type 0 where
+pub record RenewedAt (path : List ℕ) (device : Accepted) (old new : HostState) : Type 0 where
   pub moment : World
   pub before : Course AnyStep old.world moment
   pub none : reach moment.roots path ≡ false
@@ -50,5 +50,5 @@ pub record RenewedAt (path : List ℕ) (device : Accepted) (old new : Hosting) :
   pub endpoints : EndpointsBegan path new.world
 
 -- each accepted device has the bulk pipes and the endpoints that it had, or was found anew
-pub record KeepsBulk (old new : Hosting) : Type 0 where
+pub record KeepsBulk (old new : HostState) : Type 0 where
   pub each : (path : List ℕ) (device : Accepted) → accepted_device_at path new.entries ≡ Some device → StayedAt path device old new ⊎ RenewedAt path device old new

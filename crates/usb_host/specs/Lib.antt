@@ -6,7 +6,7 @@ pub mod Budget
 pub mod BulkPipes
 pub mod PortHandling
 pub mod HostCalls
-pub mod Hosting
+pub mod HostState
 pub mod Ownership
 pub mod Plugs
 pub mod Ports

@@ -13,7 +13,7 @@ use Rattle.usb_enum.specs.declared.finding.Accepted.{Accepted}
 use Rattle.usb_enum.specs.declared.finding.Finding.TheVariants.{Refused}
 use Rattle.usb_table.specs.Findings.{accepted_device_at}
 use Rattle.usb_table.specs.Listing.{finding_at}
-use Rattle.usb_host.specs.Hosting.{Hosting}
+use Rattle.usb_host.specs.HostState.{HostState}
 
 -- a device is plugged at the path
 abbrev pub PlugsAt : List ℕ → Action → Type 0
@@ -35,11 +35,11 @@ abbrev pub WasPlugged : List Event → ℕ → List ℕ → Type 0
 WasPlugged events came path = Any (λ e. PlugsAt path e.action) (take came events)
 
 -- each accepted device stands where one was plugged; and where at most 127 are plugged, none waits for an address
-pub record HasPlugs (events : List Event) (h : Hosting) : Type 0 where
+pub record HasPlugs (events : List Event) (h : HostState) : Type 0 where
   pub each : (path : List ℕ) (device : Accepted) → accepted_device_at path h.entries ≡ Some device → WasPlugged events h.world.taken path
   pub none_waits : plug_events events ≤ 127 → (path : List ℕ) → finding_at path h.entries ≢ Some (Refused NoAddress)
 
 -- so it stays, in a course of a plan
-abbrev pub KeepsPlugs : Hosting → Hosting → Type 0
+abbrev pub KeepsPlugs : HostState → HostState → Type 0
 KeepsPlugs old new = (plan : PlanData) → IsPlan plan → AtPorts plan.events → Course AnyStep (opening plan) old.world
     → HasPlugs plan.events old → HasPlugs plan.events new

@@ -3,20 +3,20 @@ use Rattle.usb_device.specs.Tree.{path_to}
 use Rattle.std.specs.Prelude.{◌≡◌, ◌⊎◌, ◌≤◌, ◌+◌, ◌*◌, ⊤, ℕ, List, [], ◌∷◌, ◌++◌, Bool, true, false, None, Some, IsSomeAnd, Result, Ok, Err, Option, OnOk, IfOk}
 use Rattle.usb_port.specs.Order.{parent_of}
 use Rattle.usb_port.specs.declared.status.PortStatus.{PortStatus}
-use Rattle.usb_world.specs.Paths.{live, pend, is_way}
-use Rattle.usb_world.specs.RestingPorts.{AsksNothingOf, StandsOrPends}
+use Rattle.usb_world.specs.Paths.{has_power, pending, is_way}
+use Rattle.usb_world.specs.RestingPorts.{LeavesPortAlone, SameDeviceOrPending}
 use Rattle.usb_world.specs.Steps.{Course}
 use Rattle.usb_world.specs.World.{World}
-use Rattle.usb_address.specs.Claims.{Claims}
-use Rattle.usb_address.specs.Ownership.{Owned, TillFault, KeepsAddresses}
+use Rattle.usb_address.specs.Claims.{AddressMap}
+use Rattle.usb_address.specs.Ownership.{MapHolds, WhileBusWorks, KeepsAddresses}
 use Rattle.usb_transaction.specs.declared.target.Target.{Target}
 use Rattle.usb_transaction.specs.Failures.{NoThreeDamaged}
 use Rattle.usb_hub.specs.declared.port.HubPort.{HubPort}
 use Rattle.usb_hub.specs.declared.port.HubPort.TheVariants.{External}
-use Rattle.usb_hub.specs.CallFailures.{Serves}
+use Rattle.usb_hub.specs.CallFailures.{HubServes}
 use Rattle.usb_hub.specs.Addresses.{IsAt, KeepsDevices}
-use Rattle.usb_hub.specs.Moments.{PortTold}
-use Rattle.usb_hub.specs.Requests.{AllRest}
+use Rattle.usb_hub.specs.Moments.{PortStatusAt}
+use Rattle.usb_hub.specs.Requests.{TouchesNoPort}
 use Rattle.usb_backlog.specs.Marks.{KeepsAll, KeepsFound}
 use Rattle.usb_enum.specs.declared.cause.Cause.TheVariants.{Lost}
 use Rattle.usb_enum.specs.declared.fault.EnumFault.{EnumFault}
@@ -30,11 +30,11 @@ use Rattle.usb_enum.specs.TextLengths.{HasPlanWithin}
 use Rattle.usb_pipe.specs.Control.{write_bound}
 use Rattle.usb_host.specs.Bounds.{drop_bound}
 use Rattle.usb_host.specs.BulkPipes.{KeepsBulk}
-use Rattle.usb_host.specs.Hosting.{Hosting}
+use Rattle.usb_host.specs.HostState.{HostState}
 use Rattle.usb_host.specs.Plugs.{KeepsPlugs}
-use Rattle.usb_host.specs.Progress.{HostGoes}
+use Rattle.usb_host.specs.Progress.{HostRuns}
 use Rattle.usb_host.specs.Ownership.{IsOwned, FinishesPort, BaresPort, BaresUpward, KeepsDisabled}
-use Rattle.usb_host.specs.Soundness.{IsSound, IsSoundBut, IsDroppable, IsFairTo, Causes, CausesBut}
+use Rattle.usb_host.specs.Soundness.{HostInvariant, IsSoundBut, IsDroppable, IsFairTo, RefusalsJustified, CausesBut}
 use Rattle.usb_host.specs.declared.fault.HostFault.{HostFault}
 
 -- Requests to a port
@@ -48,24 +48,24 @@ LetsGoOn (Err Memory) = ⊥
 
 -- nothing is asked of the ports that are not at a path nor below it
 abbrev pub RestElsewhere : List ℕ → World → World → Type 0
-RestElsewhere p w v = (x : List ℕ) → is_way p x ≡ false → Course (AsksNothingOf x) w v
+RestElsewhere p w v = (x : List ℕ) → is_way p x ≡ false → Course (LeavesPortAlone x) w v
 
 -- the port has power on its whole way, or a change of connection is pending above it
 abbrev pub HasWay : World → List ℕ → Type 0
-HasWay w p = (live w.roots p ≡ true) ⊎ ((hub : List ℕ) × (number : ℕ) × (p ≡ hub ++ number ∷ []) × (pend w.roots hub ≡ true))
+HasWay w p = (has_power w.roots p ≡ true) ⊎ ((hub : List ℕ) × (number : ℕ) × (p ≡ hub ++ number ∷ []) × (pending w.roots hub ≡ true))
 
 -- where its hub serves a port in the end, a change of connection is pending at the hub
 abbrev pub IsLost : HubPort → List ℕ → World → Type 0
-IsLost port p w = (hub : Target) (number : ℕ) → port ≡ External hub number → 8 ≤ hub.max → (serves : Serves hub number w) → p ≡ path_to serves.spot ++ (number ∷ [])
-    → pend w.roots (path_to serves.spot) ≡ true
+IsLost port p w = (hub : Target) (number : ℕ) → port ≡ External hub number → 8 ≤ hub.max → (serves : HubServes hub number w) → p ≡ path_to serves.spot ++ (number ∷ [])
+    → pending w.roots (path_to serves.spot) ≡ true
 
 -- a status was asked: each device stays as it was, nothing is asked of any port, and the status is the port's at a moment of the call; no more is left to do, but by events
 pub record Watches (port : HubPort) (old : World) (result : Result PortStatus EnumFault) (new : World) : Type 0 where
   pub addresses : KeepsAddresses old new
   pub devices : KeepsDevices old new
-  pub rests : LetsGoOn result → AllRest old new
+  pub rests : LetsGoOn result → TouchesNoPort old new
   pub backlog : LetsGoOn result → KeepsAll old new
-  pub told : (f : Claims) (p : List ℕ) → IsAt f port p → TillFault (Owned f) old → (status : PortStatus) → result ≡ Ok status → PortTold p status old new
+  pub told : (f : AddressMap) (p : List ℕ) → IsAt f port p → WhileBusWorks (MapHolds f) old → (status : PortStatus) → result ≡ Ok status → PortStatusAt p status old new
   -- a hub answers only while the bus is at work
   pub still : CanFail port → OnOk result (old.fault ≡ None)
   pub lost : (p : List ℕ) → HasWay old p → NoThreeDamaged old → new.fault ≡ None → new.shared ≡ false → result ≡ Err ParentLost → IsLost port p new
@@ -73,18 +73,18 @@ pub record Watches (port : HubPort) (old : World) (result : Result PortStatus En
 -- what is known of a port stays so; what pends there pends; and where it is powered on its whole way, it stands as it stood, or a change is pending
 pub record HoldsAt (x : List ℕ) (w v : World) : Type 0 where
   pub known : (listed : Option Finding) → IsKnownAs w x listed → IsKnownAs v x listed
-  pub pends : pend w.roots x ≡ true → pend v.roots x ≡ true
-  pub stands : live w.roots x ≡ true → StandsOrPends w v x
+  pub pends : pending w.roots x ≡ true → pending v.roots x ≡ true
+  pub stands : has_power w.roots x ≡ true → SameDeviceOrPending w v x
 
 -- what an earlier reset or error left of a port is cleared: whatever was known of it and of the ports below it is so
 pub record Tidies (port : HubPort) (old : World) (result : Result (Unit {0}) EnumFault) (new : World) : Type 0 where
   pub addresses : KeepsAddresses old new
   pub devices : KeepsDevices old new
-  pub others : (f : Claims) (p : List ℕ) → IsAt f port p → TillFault (Owned f) old → LetsGoOn result → RestElsewhere p old new
-  pub stays : (f : Claims) (p : List ℕ) → IsAt f port p → TillFault (Owned f) old → result ≡ Ok tt
+  pub others : (f : AddressMap) (p : List ℕ) → IsAt f port p → WhileBusWorks (MapHolds f) old → LetsGoOn result → RestElsewhere p old new
+  pub stays : (f : AddressMap) (p : List ℕ) → IsAt f port p → WhileBusWorks (MapHolds f) old → result ≡ Ok tt
       → (x : List ℕ) → is_way p x ≡ true → HoldsAt x old new
   -- no more is left to do, but by events
-  pub backlog : (f : Claims) (p : List ℕ) → IsAt f port p → TillFault (Owned f) old → LetsGoOn result → KeepsAll old new
+  pub backlog : (f : AddressMap) (p : List ℕ) → IsAt f port p → WhileBusWorks (MapHolds f) old → LetsGoOn result → KeepsAll old new
   pub lost : (p : List ℕ) → NoThreeDamaged old → new.fault ≡ None → new.shared ≡ false → result ≡ Err ParentLost → IsLost port p new
 
 -- what a status decides: a device stands there, or none; or a change of connection is pending
@@ -96,45 +96,45 @@ Decides false w p = IsKnownAs w p None
 pub record ClearsChange (port : HubPort) (old : World) (result : Result PortStatus EnumFault) (new : World) : Type 0 where
   pub bares : BaresPort port old result new
   pub devices : KeepsDevices old new
-  pub others : (f : Claims) (p : List ℕ) → IsAt f port p → TillFault (Owned f) old → LetsGoOn result → RestElsewhere p old new
-  pub decides : (f : Claims) (p : List ℕ) → IsAt f port p → TillFault (Owned f) old → HasWay old p → IsInOrder old → new.fault ≡ None
+  pub others : (f : AddressMap) (p : List ℕ) → IsAt f port p → WhileBusWorks (MapHolds f) old → LetsGoOn result → RestElsewhere p old new
+  pub decides : (f : AddressMap) (p : List ℕ) → IsAt f port p → WhileBusWorks (MapHolds f) old → HasWay old p → IsInOrder old → new.fault ≡ None
       → IfOk result (λ status. Decides status.connected new p)
   -- no more is left to do, but by events
-  pub backlog : (f : Claims) (p : List ℕ) → IsAt f port p → TillFault (Owned f) old → LetsGoOn result → KeepsAll old new
-  pub lost : (f : Claims) (p : List ℕ) → IsAt f port p → TillFault (Owned f) old → HasWay old p → NoThreeDamaged old → new.fault ≡ None → new.shared ≡ false → result ≡ Err ParentLost → IsLost port p new
+  pub backlog : (f : AddressMap) (p : List ℕ) → IsAt f port p → WhileBusWorks (MapHolds f) old → LetsGoOn result → KeepsAll old new
+  pub lost : (f : AddressMap) (p : List ℕ) → IsAt f port p → WhileBusWorks (MapHolds f) old → HasWay old p → NoThreeDamaged old → new.fault ≡ None → new.shared ≡ false → result ≡ Err ParentLost → IsLost port p new
 
 -- At a port whose hub may be lost
 
 -- what is known is so; where the hub is lost, it may be dropped
-abbrev pub PortSound : List ℕ → Result (Unit {0}) EnumFault → Hosting → Type 0
-PortSound path (Ok done) new = IsSound new
-PortSound path (Err ParentLost) new = IsSomeAnd (parent_of path) (λ hub. IsDroppable hub new)
-PortSound path (Err (Bus fault)) new = ⊤
-PortSound path (Err Memory) new = ⊤
+abbrev pub InvariantAfterPort : List ℕ → Result (Unit {0}) EnumFault → HostState → Type 0
+InvariantAfterPort path (Ok done) new = HostInvariant new
+InvariantAfterPort path (Err ParentLost) new = IsSomeAnd (parent_of path) (λ hub. IsDroppable hub new)
+InvariantAfterPort path (Err (Bus fault)) new = ⊤
+InvariantAfterPort path (Err Memory) new = ⊤
 
 -- each refused device has its cause; where the hub is lost, a change is pending there
-abbrev pub PortCaused : List ℕ → Result (Unit {0}) EnumFault → Hosting → Type 0
-PortCaused path (Ok done) new = Causes new.world new.entries
-PortCaused path (Err ParentLost) new = IsSomeAnd (parent_of path) (λ hub. (pend new.world.roots hub ≡ true) × CausesBut hub new.world new.entries)
+abbrev pub PortCaused : List ℕ → Result (Unit {0}) EnumFault → HostState → Type 0
+PortCaused path (Ok done) new = RefusalsJustified new.world new.entries
+PortCaused path (Err ParentLost) new = IsSomeAnd (parent_of path) (λ hub. (pending new.world.roots hub ≡ true) × CausesBut hub new.world new.entries)
 PortCaused path (Err (Bus fault)) new = ⊤
 PortCaused path (Err Memory) new = ⊤
 
 -- a port is served
-pub record ServesSound (path : List ℕ) (old : Hosting) (result : Result (Unit {0}) EnumFault) (new : Hosting) : Type 0 where
-  pub sound : IsSound old → PortSound path result new
-  pub bulk : IsSound old → LetsGoOn result → new.world.fault ≡ None → KeepsBulk old new
-  pub plugs : IsSound old → new.world.fault ≡ None → KeepsPlugs old new
-  pub caused : IsSound old → IsFairTo old.world new.world → Causes old.world old.entries → PortCaused path result new
+pub record ServesSound (path : List ℕ) (old : HostState) (result : Result (Unit {0}) EnumFault) (new : HostState) : Type 0 where
+  pub sound : HostInvariant old → InvariantAfterPort path result new
+  pub bulk : HostInvariant old → LetsGoOn result → new.world.fault ≡ None → KeepsBulk old new
+  pub plugs : HostInvariant old → new.world.fault ≡ None → KeepsPlugs old new
+  pub caused : HostInvariant old → IsFairTo old.world new.world → RefusalsJustified old.world old.entries → PortCaused path result new
 
 -- a port of which nothing is listed, and where a device stands or a change is pending
-pub record IsOpen (path : List ℕ) (h : Hosting) : Type 0 where
+pub record IsOpen (path : List ℕ) (h : HostState) : Type 0 where
   pub owned : IsOwned h
   pub but : IsSoundBut path h
   pub there : h.world.fault ≡ None → IsOccupied h.world path
 
 -- what is there is found and entered
-pub record FindsSound (path : List ℕ) (old : Hosting) (result : Result (Unit {0}) EnumFault) (new : Hosting) : Type 0 where
-  pub sound : IsOpen path old → PortSound path result new
+pub record FindsSound (path : List ℕ) (old : HostState) (result : Result (Unit {0}) EnumFault) (new : HostState) : Type 0 where
+  pub sound : IsOpen path old → InvariantAfterPort path result new
   pub bulk : IsOpen path old → LetsGoOn result → new.world.fault ≡ None → KeepsBulk old new
   -- no more is left to do, but by events, where the ports of the device and the port's reset are marked
   pub backlog : IsOpen path old → new.world.fault ≡ None → KeepsFound path old.world new.world
@@ -143,46 +143,46 @@ pub record FindsSound (path : List ℕ) (old : Hosting) (result : Result (Unit {
   pub caused : IsOpen path old → IsFairTo old.world new.world → CausesBut path old.world old.entries → PortCaused path result new
 
 -- the hub of a port that was served is dropped, where it is lost
-pub record DropsLost (path : List ℕ) (served : Result (Unit {0}) EnumFault) (old : Hosting) (result : Result (Unit {0}) HostFault) (new : Hosting) : Type 0 where
+pub record DropsLost (path : List ℕ) (served : Result (Unit {0}) EnumFault) (old : HostState) (result : Result (Unit {0}) HostFault) (new : HostState) : Type 0 where
   pub owned : FinishesPort path served old result new
-  pub sound : PortSound path served old → OnOk result (IsSound new)
+  pub sound : InvariantAfterPort path served old → OnOk result (HostInvariant new)
   -- no more is left to do, but by events
-  pub backlog : PortSound path served old → OnOk result (new.world.fault ≡ None → KeepsAll old.world new.world)
-  pub bulk : PortSound path served old → OnOk result (new.world.fault ≡ None → KeepsBulk old new)
+  pub backlog : InvariantAfterPort path served old → OnOk result (new.world.fault ≡ None → KeepsAll old.world new.world)
+  pub bulk : InvariantAfterPort path served old → OnOk result (new.world.fault ≡ None → KeepsBulk old new)
   pub plugs : OnOk result (KeepsPlugs old new)
-  pub caused : PortSound path served old → IsFairTo old.world new.world → PortCaused path served old → OnOk result (Causes new.world new.entries)
+  pub caused : InvariantAfterPort path served old → IsFairTo old.world new.world → PortCaused path served old → OnOk result (RefusalsJustified new.world new.entries)
 
 -- Where a hub is dropped
 
 -- a port passes nothing on: what is known elsewhere is so, and a refused device stands there, or a change is pending
-pub record IsDroppedAt (path : List ℕ) (h : Hosting) : Type 0 where
+pub record IsDroppedAt (path : List ℕ) (h : HostState) : Type 0 where
   pub but : IsSoundBut path h
   pub there : h.world.fault ≡ None → IsKnownAs h.world path (Some (Refused Lost))
 
 -- what pends where a port was told to pass nothing on, and where it could not be told
-abbrev pub Disabled : Bool → List ℕ → Hosting → Type 0
-Disabled true path new = (pend new.world.roots path ≡ true) × CausesBut path new.world new.entries
-Disabled false path new = IsSomeAnd (parent_of path) (λ hub. (pend new.world.roots hub ≡ true) × CausesBut hub new.world new.entries)
+abbrev pub Disabled : Bool → List ℕ → HostState → Type 0
+Disabled true path new = (pending new.world.roots path ≡ true) × CausesBut path new.world new.entries
+Disabled false path new = IsSomeAnd (parent_of path) (λ hub. (pending new.world.roots hub ≡ true) × CausesBut hub new.world new.entries)
 
 -- a port on the way is told to pass nothing on: it does; or, where it could not be told, the hub above it may be dropped
-pub record DisablesOnWay (path : List ℕ) (old : Hosting) (result : Result Bool HostFault) (new : Hosting) : Type 0 where
-  pub goes : HostGoes write_bound old new
+pub record DisablesOnWay (path : List ℕ) (old : HostState) (result : Result Bool HostFault) (new : HostState) : Type 0 where
+  pub goes : HostRuns write_bound old new
   pub owned : KeepsDisabled path old result new
   pub devices : KeepsDevices old.world new.world
   pub done : IsDroppable path old → result ≡ Ok true → IsDroppedAt path new
   pub failed : IsDroppable path old → result ≡ Ok false → IsSomeAnd (parent_of path) (λ hub. IsDroppable hub new)
   -- no more is left to do, but by events
   pub backlog : IsDroppable path old → new.world.fault ≡ None → KeepsAll old.world new.world
-  pub caused : IsDroppable path old → IsFairTo old.world new.world → pend old.world.roots path ≡ true → CausesBut path old.world old.entries
+  pub caused : IsDroppable path old → IsFairTo old.world new.world → pending old.world.roots path ≡ true → CausesBut path old.world old.entries
       → IfOk result (λ done. Disabled done path new)
 
 -- the first port on the way up that can be told passes nothing on
-pub record Climbs (first : List ℕ) (old : Hosting) (result : Result (List ℕ) HostFault) (new : Hosting) : Type 0 where
-  pub goes : HostGoes drop_bound old new
+pub record Climbs (first : List ℕ) (old : HostState) (result : Result (List ℕ) HostFault) (new : HostState) : Type 0 where
+  pub goes : HostRuns drop_bound old new
   pub bares : BaresUpward first old result new
   pub devices : KeepsDevices old.world new.world
   pub sound : IsDroppable first old → IfOk result (λ path. IsDroppedAt path new)
   -- no more is left to do, but by events
   pub backlog : IsDroppable first old → new.world.fault ≡ None → KeepsAll old.world new.world
-  pub caused : IsDroppable first old → IsFairTo old.world new.world → pend old.world.roots first ≡ true → CausesBut first old.world old.entries
-      → IfOk result (λ path. (pend new.world.roots path ≡ true) × CausesBut path new.world new.entries)
+  pub caused : IsDroppable first old → IsFairTo old.world new.world → pending old.world.roots first ≡ true → CausesBut first old.world old.entries
+      → IfOk result (λ path. (pending new.world.roots path ≡ true) × CausesBut path new.world new.entries)

@@ -9,7 +9,7 @@ use Rattle.usb_hub.specs.declared.port.HubPort.{HubPort}
 use Rattle.usb_hub.specs.declared.port.HubPort.TheVariants.{Root, External}
 use Rattle.usb_hub.specs.Port.{IsAsked, IsPort}
 use Rattle.usb_resources.specs.Pool.{IsFull}
-use Rattle.usb_enum.specs.Stop.{FaultAt}
+use Rattle.usb_enum.specs.Stop.{FaultAllowedAt}
 use Rattle.usb_enum.specs.declared.cause.Cause.TheVariants.{NoAddress}
 use Rattle.usb_enum.specs.declared.fault.EnumFault.{EnumFault}
 use Rattle.usb_enum.specs.declared.fault.EnumFault.TheVariants.{ParentLost, Bus, Memory}
@@ -26,14 +26,14 @@ use Rattle.usb_port.specs.declared.status.PortStatus.{PortStatus}
 use Rattle.usb_host.specs.declared.fault.HostFault.{HostFault}
 use Rattle.usb_host.specs.Agreement.{Agrees}
 use Rattle.usb_host.specs.declared.fault.HostFault.TheVariants as host
-use Rattle.usb_host.specs.Hosting.{Hosting, work}
+use Rattle.usb_host.specs.HostState.{HostState, work}
 use Rattle.usb_host.specs.Ownership.{IsRooted}
-use Rattle.usb_host.specs.Progress.{Advances, Did, HostGoes}
+use Rattle.usb_host.specs.Progress.{HostProgress, Did, HostRuns}
 use Rattle.usb_host.specs.declared.host.Round.{Round}
 use Rattle.usb_host.specs.declared.host.Round.TheVariants.{Quiet}
 
 -- the port at a path, as the table knows it and the bus has it; the table agrees with the pool
-pub record StandsAt (path : List ℕ) (port : KnownPort) (h : Hosting) : Type 0 where
+pub record StandsAt (path : List ℕ) (port : KnownPort) (h : HostState) : Type 0 where
   pub is : IsPath path
   pub known : known_port path h.entries ≡ Some port
   pub there : IsPort h.world port.port
@@ -41,7 +41,7 @@ pub record StandsAt (path : List ℕ) (port : KnownPort) (h : Hosting) : Type 0 
   pub agrees : Agrees h.entries h.addresses
 
 -- the same, where what the bus has is said of one that does what its world does
-pub record IsPortAt (modelled : Bool) (path : List ℕ) (port : KnownPort) (h : Hosting) : Type 0 where
+pub record IsPortAt (modelled : Bool) (path : List ℕ) (port : KnownPort) (h : HostState) : Type 0 where
   pub is : IsPath path
   pub known : known_port path h.entries ≡ Some port
   pub asked : IsAsked modelled h.world port.port
@@ -49,21 +49,21 @@ pub record IsPortAt (modelled : Bool) (path : List ℕ) (port : KnownPort) (h : 
   pub agrees : Agrees h.entries h.addresses
 
 -- a path of no port: of a hub that is not known to have it, or of a root port that the root has not; the table agrees with the pool
-pub record StandsNowhere (path : List ℕ) (h : Hosting) : Type 0 where
+pub record StandsNowhere (path : List ℕ) (h : HostState) : Type 0 where
   pub is : IsPath path
   pub beyond : parent_of path ≡ None → roots_of h.world < port_on_hub path
   pub unknown : IsSome (parent_of path) → known_port path h.entries ≡ None
   pub agrees : Agrees h.entries h.addresses
 
 -- requests at a port: so many attempts at most, and a fault has its cause
-pub record Requested {A : Type 0} (port : HubPort) (most : ℕ) (old : Hosting)
-    (result : Result A EnumFault) (new : Hosting) : Type 0 where
-  pub goes : HostGoes most old new
-  pub told : IfErr result (λ fault. FaultAt port fault new.world)
+pub record Requested {A : Type 0} (port : HubPort) (most : ℕ) (old : HostState)
+    (result : Result A EnumFault) (new : HostState) : Type 0 where
+  pub goes : HostRuns most old new
+  pub told : IfErr result (λ fault. FaultAllowedAt port fault new.world)
 
 -- what stood at a path and below it was forgotten: an address is free where one went, and the
 -- pipes to others are as they were; the table agrees with the pool
-pub record Forgets (path : List ℕ) (old new : Hosting) : Type 0 where
+pub record Forgets (path : List ℕ) (old new : HostState) : Type 0 where
   pub others : new ≡ record old {
     entries = new.entries;
     pipes = new.pipes;
@@ -82,36 +82,36 @@ IsDue w (Root number) = (root_port_at w number).connection_changed ≡ true
 IsDue w (External hub port) = ⊤
 
 -- a device waits there for an address, and one is free
-pub record Waits (path : List ℕ) (h : Hosting) : Type 0 where
+pub record Waits (path : List ℕ) (h : HostState) : Type 0 where
   pub entry : lookup (is_at (path_cmp path)) h.entries ≡ Some (Refused NoAddress)
   pub free : IsFull h.addresses → ⊥
 
 -- what a second look did: it got on, where entries stand below the ports of the root
-pub record Looked (round : Round) (old new : Hosting) : Type 0 where
+pub record Looked (round : Round) (old new : HostState) : Type 0 where
   pub did : Did round old new
   pub some : IsRooted old → round ≢ Quiet
 
 -- a port was served, or its hub is lost: either way the host got on
-abbrev pub Served : Result (Unit {0}) EnumFault → Hosting → Hosting → Type 0
-Served (Ok done) old new = Advances old new
-Served (Err ParentLost) old new = Advances old new
-Served (Err (Bus fault)) old new = ⊤
-Served (Err Memory) old new = ⊤
+abbrev pub ProgressOrLost : Result (Unit {0}) EnumFault → HostState → HostState → Type 0
+ProgressOrLost (Ok done) old new = HostProgress old new
+ProgressOrLost (Err ParentLost) old new = HostProgress old new
+ProgressOrLost (Err (Bus fault)) old new = ⊤
+ProgressOrLost (Err Memory) old new = ⊤
 
 -- a change is served, or an attempt was made
 abbrev pub Gained : World → World → Type 0
 Gained old new = work new + old.attempts < work old + new.attempts
 
-abbrev pub Gains : {A : Type 0} → Result A EnumFault → World → World → Type 0
-Gains (Ok done) old new = Gained old new
-Gains (Err ParentLost) old new = Gained old new
-Gains (Err (Bus fault)) old new = ⊤
-Gains (Err Memory) old new = ⊤
+abbrev pub ProgressOnOk : {A : Type 0} → Result A EnumFault → World → World → Type 0
+ProgressOnOk (Ok done) old new = Gained old new
+ProgressOnOk (Err ParentLost) old new = Gained old new
+ProgressOnOk (Err (Bus fault)) old new = ⊤
+ProgressOnOk (Err Memory) old new = ⊤
 
 -- a root port shows what it is; a hub is asked
 abbrev pub Shown : HubPort → Result PortStatus EnumFault → World → World → Type 0
 Shown (Root number) result old new = (result ≡ Ok (seen (root_port_at old number))) × (new ≡ old)
-Shown (External hub port) result old new = Gains result old new
+Shown (External hub port) result old new = ProgressOnOk result old new
 
 -- the bus tells its fault, and the port has a hub that is lost
 abbrev pub Broke : List ℕ → EnumFault → World → Type 0
@@ -127,10 +127,10 @@ EndsAs (Err (Bus fault)) result = result ≡ Err (host.Bus fault)
 EndsAs (Err Memory) result = result ≡ Err host.Memory
 
 -- a finding is entered; a device waits only where no address was free
-pub record EntersOne (path : List ℕ) (old new : Hosting) : Type 0 where
+pub record EntersOne (path : List ℕ) (old new : HostState) : Type 0 where
   pub finding : Finding
   pub entries : new.entries ≡ insert_entry path_cmp old.entries path finding
   pub waits : finding ≡ Refused NoAddress → IsFull old.addresses
 
-abbrev pub Entered : List ℕ → Hosting → Result (Unit {0}) EnumFault → Hosting → Type 0
+abbrev pub Entered : List ℕ → HostState → Result (Unit {0}) EnumFault → HostState → Type 0
 Entered path old result new = MatchResult result (λ _. EntersOne path old new) (λ _. new.entries ≡ old.entries)

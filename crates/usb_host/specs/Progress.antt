@@ -2,10 +2,10 @@
 use Rattle.std.specs.Prelude.{◌≡◌, ℕ, ◌+◌, ◌*◌, ◌<◌, ◌≤◌}
 use Rattle.std.specs.List.{count_by}
 use Rattle.usb_world.specs.World.{root_row, changes}
-use Rattle.usb_bus.specs.Traces.{WentOn}
+use Rattle.usb_bus.specs.Traces.{StepRun}
 use Rattle.usb_table.specs.Entries.{Entries}
 use Rattle.usb_table.specs.Findings.{is_waiting}
-use Rattle.usb_host.specs.Hosting.{Hosting, work}
+use Rattle.usb_host.specs.HostState.{HostState, work}
 use Rattle.usb_host.specs.Ownership.{IsRooted}
 use Rattle.usb_host.specs.declared.host.Round.{Round}
 use Rattle.usb_host.specs.declared.host.Round.TheVariants.{Worked, Quiet}
@@ -15,37 +15,37 @@ abbrev pub waiting : Entries → ℕ
 waiting entries = count_by (λ e. is_waiting e.1) entries
 
 -- what is left to do without an attempt; a change that is served may leave one device more that waits
-abbrev pub idle_work : Hosting → ℕ
+abbrev pub idle_work : HostState → ℕ
 idle_work h = 2 * work h.world + waiting h.entries
 
 -- no more is left to do than before, but by attempts: each attempt may leave two things more
-abbrev pub AddsNoWork : Hosting → Hosting → Type 0
+abbrev pub AddsNoWork : HostState → HostState → Type 0
 AddsNoWork old new = idle_work new + 2 * old.world.attempts ≤ idle_work old + 2 * new.world.attempts
 
 -- the same, and something was done: an attempt was made, or less is left to do
-abbrev pub Advances : Hosting → Hosting → Type 0
-Advances old new = idle_work new + 2 * old.world.attempts < idle_work old + 2 * new.world.attempts
+abbrev pub HostProgress : HostState → HostState → Type 0
+HostProgress old new = idle_work new + 2 * old.world.attempts < idle_work old + 2 * new.world.attempts
 
 -- nothing that the host keeps has changed
-abbrev pub Rests : Hosting → Hosting → Type 0
-Rests old new = new ≡ record old { world = new.world; trace = new.trace }
+abbrev pub OnlyBusSteps : HostState → HostState → Type 0
+OnlyBusSteps old new = new ≡ record old { world = new.world; trace = new.trace }
 
 -- nothing that is known of the ports has changed; hubs may have been polled
-abbrev pub Remains : Hosting → Hosting → Type 0
+abbrev pub Remains : HostState → HostState → Type 0
 Remains old new = new ≡ record old { world = new.world; trace = new.trace; pipes = new.pipes }
 
 -- at most so many attempts were made, and what was written is the text of the bus's steps
-abbrev pub HostWent : ℕ → Hosting → Hosting → Type 0
-HostWent most old new = WentOn most old.world old.trace new.world new.trace
+abbrev pub HostSteps : ℕ → HostState → HostState → Type 0
+HostSteps most old new = StepRun most old.world old.trace new.world new.trace
 
 -- so it went, and the host goes on
-pub record HostGoes (most : ℕ) (old new : Hosting) : Type 0 where
-  pub went : HostWent most old new
+pub record HostRuns (most : ℕ) (old new : HostState) : Type 0 where
+  pub went : HostSteps most old new
   pub going : new.stopped ≡ old.stopped
 
 -- what a part of a round did
-abbrev pub Did : Round → Hosting → Hosting → Type 0
-Did Worked old new = Advances old new
+abbrev pub Did : Round → HostState → HostState → Type 0
+Did Worked old new = HostProgress old new
 Did Quiet old new = Remains old new
 
 abbrev pub either : Round → Round → Round
@@ -53,7 +53,7 @@ either Worked other = Worked
 either Quiet other = other
 
 -- what a round did: it got on, or no port had changed; and entries still stand below the ports of the root
-pub record DidRound (round : Round) (old new : Hosting) : Type 0 where
-  pub worked : round ≡ Worked → Advances old new
+pub record DidRound (round : Round) (old new : HostState) : Type 0 where
+  pub worked : round ≡ Worked → HostProgress old new
   pub quiet : round ≡ Quiet → Remains old new × (changes (root_row old.world) ≡ 0)
   pub rooted : IsRooted old → IsRooted new

@@ -10,14 +10,14 @@ use Rattle.usb_port.specs.declared.call.PortCall.TheVariants.{ClearEnable, Clear
 use Rattle.usb_port.specs.declared.status.PortStatus.{PortStatus}
 use Rattle.usb_world.specs.PlanData.{PlanData}
 use Rattle.usb_world.specs.World.{World, changes, root_port_at, root_row, roots_of}
-use Rattle.usb_address.specs.Claims.{Claims}
-use Rattle.usb_address.specs.Ownership.{Owned, TillFault}
+use Rattle.usb_address.specs.Claims.{AddressMap}
+use Rattle.usb_address.specs.Ownership.{MapHolds, WhileBusWorks}
 use Rattle.usb_transaction.specs.Failures.{NoThreeDamaged}
 use Rattle.usb_pipe.specs.declared.fault.PipeFault.{PipeFault}
 use Rattle.usb_pipe.specs.Leaves.{ByteTold}
 use Rattle.usb_hub.specs.declared.port.HubPort.{HubPort}
 use Rattle.usb_hub.specs.Addresses.{IsAt}
-use Rattle.usb_hub.specs.Moments.{PortDone, PortTold}
+use Rattle.usb_hub.specs.Moments.{PortCallDone, PortStatusAt}
 use Rattle.usb_enum.specs.Bounds.{widest_enumeration}
 use Rattle.usb_enum.specs.Stop.{CanFail}
 use Rattle.usb_enum.specs.declared.fault.EnumFault.{EnumFault}
@@ -28,7 +28,7 @@ use Rattle.usb_table.specs.Entries.{Entries, Replaced, without}
 use Rattle.usb_table.specs.Findings.{is_hub, is_waiting, accepted_device_at}
 use Rattle.usb_table.specs.declared.known.KnownPort.{KnownPort}
 use Rattle.usb_table.specs.KnownPorts.{known_port}
-use Rattle.usb_table.specs.Levels.{BitsOf, Heard}
+use Rattle.usb_table.specs.Levels.{BitsOf, IsListening}
 use Rattle.usb_table.specs.NextEntries.{ComesAfter, IsNext, IsLast}
 use Rattle.usb_table.specs.Listing.{hub_facts_at}
 use Rattle.usb_table.specs.Table.{pipes_at}
@@ -37,12 +37,12 @@ use Rattle.usb_resources.specs.Pool.{IsFull}
 use Rattle.usb_host.specs.Backlog.{hubs, ClearsReset, PaysAtLook, PaysAtServe, RestsCalm}
 use Rattle.usb_host.specs.Bounds.{drop_bound, handling_bound, look_bound, roots_bound, serving_bound, told_bound}
 use Rattle.usb_host.specs.Budget.{Affords, HubPaid, NumberPaid, PaysPart, PaysRound, PortPaid, RootsPaid, RoundPaid, ToldPaid, Weights, handling_most, hubs_most, poll_most, told_most}
-use Rattle.usb_host.specs.Hosting.{Hosting}
+use Rattle.usb_host.specs.HostState.{HostState}
 use Rattle.usb_host.specs.Ownership.{DropsHub, HasLost, IsOwned, KeepsOwned, KeepsPort}
 use Rattle.usb_host.specs.PortHandling.{DropsLost, FindsSound, ServesSound}
-use Rattle.usb_host.specs.Ports.{Entered, Forgets, IsDue, Looked, Requested, Served, Waits}
-use Rattle.usb_host.specs.Progress.{AddsNoWork, Advances, Did, DidRound, HostGoes, Remains, Rests, either}
-use Rattle.usb_host.specs.Soundness.{DropsSound, HubKeeps, HubsKeep, IsSound, LooksKeep, Part, PartsKeep, RootsRest}
+use Rattle.usb_host.specs.Ports.{Entered, Forgets, IsDue, Looked, Requested, ProgressOrLost, Waits}
+use Rattle.usb_host.specs.Progress.{AddsNoWork, HostProgress, Did, DidRound, HostRuns, Remains, OnlyBusSteps, either}
+use Rattle.usb_host.specs.Soundness.{DropsSound, HubKeeps, HubsKeep, HostInvariant, LooksKeep, Part, PartsKeep, RootsRest}
 use Rattle.usb_host.specs.Transfers.{table_in}
 use Rattle.usb_host.specs.declared.fault.HostFault.{HostFault}
 use Rattle.usb_host.specs.declared.host.Round.{Round}
@@ -52,7 +52,7 @@ use Rattle.usb_host.specs.declared.host.Round.TheVariants.{Worked, Quiet}
 
 -- a request was done at a port where it was asked for; where it was not, nothing was done
 abbrev pub DoneWhere : Bool → List ℕ → PortCall → World → World → Type 0
-DoneWhere true path call old new = PortDone path call old new
+DoneWhere true path call old new = PortCallDone path call old new
 DoneWhere false path call old new = new ≡ old
 
 -- ClearPortFeature (11.24.2.2) for each change of enable and of reset that a status told, and for no other
@@ -64,21 +64,21 @@ pub record ClearsTold (path : List ℕ) (status : PortStatus) (old new : World) 
 -- the change of connection was cleared, then the status was read, and a port that was enabled was disabled
 pub record ClearsAndReads (path : List ℕ) (status : PortStatus) (old new : World) : Type 0 where
   pub mid : World
-  pub cleared : PortDone path ClearConnectionChange old mid
+  pub cleared : PortCallDone path ClearConnectionChange old mid
   pub now : World
-  pub told : PortTold path status mid now
+  pub told : PortStatusAt path status mid now
   pub disabled : DoneWhere status.enabled path ClearEnable now new
 
 -- A port
 
 -- its status told of no change of connection: each other change that it told was cleared, and what is known of the ports stays
-pub record Tidied (path : List ℕ) (old new : Hosting) : Type 0 where
+pub record Tidied (path : List ℕ) (old new : HostState) : Type 0 where
   pub status : PortStatus
   pub mid : World
-  pub told : PortTold path status old.world mid
+  pub told : PortStatusAt path status old.world mid
   pub steady : status.connection_changed ≡ false
   pub clears : ClearsTold path status mid new.world
-  pub rests : Rests old new
+  pub rests : OnlyBusSteps old new
 
 -- what was found at a port and below it is forgotten; where a device is connected, one finding is entered
 abbrev pub Renews : Bool → List ℕ → Entries → Entries → Type 0
@@ -86,7 +86,7 @@ Renews true path old new = (finding : Finding) × (new ≡ insert_entry path_cmp
 Renews false path old new = new ≡ without path old
 
 -- its change of connection was cleared, and what a status then showed was found
-pub record LookedAt (path : List ℕ) (old new : Hosting) : Type 0 where
+pub record LookedAt (path : List ℕ) (old new : HostState) : Type 0 where
   pub status : PortStatus
   pub mid : World
   pub cleared : ClearsAndReads path status old.world mid
@@ -99,13 +99,13 @@ pub record LosesParent (path : List ℕ) (old new : Entries) : Type 0 where
   pub loses : HasLost hub old new
 
 -- a port was served: tidied, looked at where its status told of a change of connection, or its hub was lost
-pub data ServedAt (path : List ℕ) (old new : Hosting) : Type 0 where
+pub data ServedAt (path : List ℕ) (old new : HostState) : Type 0 where
   was_tidied : Tidied path old new → ServedAt path old new
-  was_looked_at : (status : PortStatus) (mid : Hosting) → PortTold path status old.world mid.world → status.connection_changed ≡ true → Rests old mid → LookedAt path mid new → ServedAt path old new
+  was_looked_at : (status : PortStatus) (mid : HostState) → PortStatusAt path status old.world mid.world → status.connection_changed ≡ true → OnlyBusSteps old mid → LookedAt path mid new → ServedAt path old new
   was_lost : LosesParent path old.entries new.entries → ServedAt path old new
 
 -- a device that waits was looked at again, or its hub was lost
-pub data LookedOnce (path : List ℕ) (old new : Hosting) : Type 0 where
+pub data LookedOnce (path : List ℕ) (old new : HostState) : Type 0 where
   looked_once : LookedAt path old new → LookedOnce path old new
   lost_once : LosesParent path old.entries new.entries → LookedOnce path old new
 
@@ -117,69 +117,69 @@ first_byte [] = 0
 first_byte (byte ∷ rest) = byte
 
 -- a port of a hub was served, where one that is known has that path; else nothing was done
-pub data ServedBelow (hub : List ℕ) (number : ℕ) (old new : Hosting) : Type 0 where
+pub data ServedBelow (hub : List ℕ) (number : ℕ) (old new : HostState) : Type 0 where
   port_known : ServedAt (hub ++ (number ∷ [])) old new → ServedBelow hub number old new
   port_unknown : (IsPath (hub ++ (number ∷ [])) → known_port (hub ++ (number ∷ [])) old.entries ≡ None) → new ≡ old → ServedBelow hub number old new
 
 -- by rising number, each port of a hub below a number whose bit is set was served, and no other
-pub data ServedTold (hub : List ℕ) (bits : ℕ) : ℕ → Hosting → Hosting → Type 0 where
-  none_yet : (h : Hosting) → ServedTold hub bits 1 h h
-  bit_set : (n : ℕ) {old mid new : Hosting} → ServedTold hub bits n old mid → has_bit bits n ≡ true → ServedBelow hub n mid new → ServedTold hub bits (n + 1) old new
-  bit_clear : (n : ℕ) {old new : Hosting} → ServedTold hub bits n old new → has_bit bits n ≡ false → ServedTold hub bits (n + 1) old new
+pub data ServedTold (hub : List ℕ) (bits : ℕ) : ℕ → HostState → HostState → Type 0 where
+  none_yet : (h : HostState) → ServedTold hub bits 1 h h
+  bit_set : (n : ℕ) {old mid new : HostState} → ServedTold hub bits n old mid → has_bit bits n ≡ true → ServedBelow hub n mid new → ServedTold hub bits (n + 1) old new
+  bit_clear : (n : ℕ) {old new : HostState} → ServedTold hub bits n old new → has_bit bits n ≡ false → ServedTold hub bits (n + 1) old new
 
 -- where no three attempts running are damaged, no accepted device at the path heard the poll
-abbrev pub NoneHears : List ℕ → Hosting → World → Type 0
-NoneHears hub old mid = NoThreeDamaged old.world → (device : Accepted) → accepted_device_at hub old.entries ≡ Some device → Heard hub device mid → ⊥
+abbrev pub NoneHears : List ℕ → HostState → World → Type 0
+NoneHears hub old mid = NoThreeDamaged old.world → (device : Accepted) → accepted_device_at hub old.entries ≡ Some device → IsListening hub device mid → ⊥
 
 -- one poll of the hub through its status pipe, with its answer; nothing else that is known changed
-pub record PolledOnce (hub : List ℕ) (old : Hosting) (answer : Result (Option (ArrayVec ℕ)) PipeFault) (new : Hosting) : Type 0 where
+pub record PolledOnce (hub : List ℕ) (old : HostState) (answer : Result (Option (ArrayVec ℕ)) PipeFault) (new : HostState) : Type 0 where
   pub through : PipesPolled (pipes_at hub (table_in old)) old.world answer (pipes_at hub (table_in new)) new.world
   pub remains : Remains old new
 
 -- a hub was polled: none of its ports had changed; or they told these bits, of which one at least is set, and each port of which they tell was served;
 -- or it did not answer, and was dropped
-pub data HubPolled (hub : List ℕ) (old new : Hosting) : Round → Type 0 where
+pub data HubPolled (hub : List ℕ) (old new : HostState) : Round → Type 0 where
   told_none : PolledOnce hub old (Ok None) new → BitsOf hub old.world new.world 0 → HubPolled hub old new Quiet
-  told_some : (packet : ArrayVec ℕ) (mid : Hosting) → PolledOnce hub old (Ok (Some packet)) mid → (byte : ByteTold (BitsOf hub old.world mid.world) packet.items) → ServedTold hub byte.bits 8 mid new → HubPolled hub old new Worked
-  not_heard : (fault : PipeFault) (mid : Hosting) → PolledOnce hub old (Err fault) mid → NoneHears hub old mid.world → HasLost hub mid.entries new.entries → HubPolled hub old new Worked
+  told_some : (packet : ArrayVec ℕ) (mid : HostState) → PolledOnce hub old (Ok (Some packet)) mid → (byte : ByteTold (BitsOf hub old.world mid.world) packet.items) → ServedTold hub byte.bits 8 mid new → HubPolled hub old new Worked
+  not_heard : (fault : PipeFault) (mid : HostState) → PolledOnce hub old (Err fault) mid → NoneHears hub old mid.world → HasLost hub mid.entries new.entries → HubPolled hub old new Worked
 
 -- A round
 
 -- by rising number, each root port below a number whose connection had changed was served, and no other
-pub data RootsServed : ℕ → Round → Hosting → Hosting → Type 0 where
-  no_root : (h : Hosting) → RootsServed 1 Quiet h h
-  root_changed : (n : ℕ) (round : Round) {old mid new : Hosting} → RootsServed n round old mid → (root_port_at mid.world n).connection_changed ≡ true → ServedAt (n ∷ []) mid new → RootsServed (n + 1) Worked old new
-  root_steady : (n : ℕ) (round : Round) {old new : Hosting} → RootsServed n round old new → (root_port_at new.world n).connection_changed ≡ false → RootsServed (n + 1) round old new
+pub data RootsServed : ℕ → Round → HostState → HostState → Type 0 where
+  no_root : (h : HostState) → RootsServed 1 Quiet h h
+  root_changed : (n : ℕ) (round : Round) {old mid new : HostState} → RootsServed n round old mid → (root_port_at mid.world n).connection_changed ≡ true → ServedAt (n ∷ []) mid new → RootsServed (n + 1) Worked old new
+  root_steady : (n : ℕ) (round : Round) {old new : HostState} → RootsServed n round old new → (root_port_at new.world n).connection_changed ≡ false → RootsServed (n + 1) round old new
 
 -- hubs were polled up to a path, each the next one that was known, by rising path
-pub data HubsPolled : Option (List ℕ) → Round → Hosting → Hosting → Type 0 where
-  no_hub : (h : Hosting) → HubsPolled None Quiet h h
-  next_hub : (last : Option (List ℕ)) (hub : List ℕ) (before round : Round) {old mid new : Hosting} → HubsPolled last before old mid → IsNext is_hub last mid.entries hub → HubPolled hub mid new round → HubsPolled (Some hub) (either before round) old new
+pub data HubsPolled : Option (List ℕ) → Round → HostState → HostState → Type 0 where
+  no_hub : (h : HostState) → HubsPolled None Quiet h h
+  next_hub : (last : Option (List ℕ)) (hub : List ℕ) (before round : Round) {old mid new : HostState} → HubsPolled last before old mid → IsNext is_hub last mid.entries hub → HubPolled hub mid new round → HubsPolled (Some hub) (either before round) old new
 
 -- devices that wait were looked at up to a path, by rising path
-pub data LookedAgain : Option (List ℕ) → Round → Hosting → Hosting → Type 0 where
-  no_device : (h : Hosting) → LookedAgain None Quiet h h
-  next_device : (last : Option (List ℕ)) (path : List ℕ) (before : Round) {old mid new : Hosting} → LookedAgain last before old mid → Waits path mid → ComesAfter last path → LookedOnce path mid new → LookedAgain (Some path) Worked old new
+pub data LookedAgain : Option (List ℕ) → Round → HostState → HostState → Type 0 where
+  no_device : (h : HostState) → LookedAgain None Quiet h h
+  next_device : (last : Option (List ℕ)) (path : List ℕ) (before : Round) {old mid new : HostState} → LookedAgain last before old mid → Waits path mid → ComesAfter last path → LookedOnce path mid new → LookedAgain (Some path) Worked old new
 
 -- each hub that is known, once
-pub record EachPolled (round : Round) (old new : Hosting) : Type 0 where
+pub record EachPolled (round : Round) (old new : HostState) : Type 0 where
   pub last : Option (List ℕ)
   pub polled : HubsPolled last round old new
   pub all : IsLast is_hub last new.entries
 
 -- each device that waits, once, while an address is free
-pub record EachLookedAgain (round : Round) (old new : Hosting) : Type 0 where
+pub record EachLookedAgain (round : Round) (old new : HostState) : Type 0 where
   pub last : Option (List ℕ)
   pub looked : LookedAgain last round old new
   pub all : IsFull new.addresses ⊎ IsLast is_waiting last new.entries
 
 -- the root ports, then the hubs, then the devices that wait
-pub record RoundParts (round : Round) (old new : Hosting) : Type 0 where
+pub record RoundParts (round : Round) (old new : HostState) : Type 0 where
   pub roots : Round
-  pub first : Hosting
+  pub first : HostState
   pub served : RootsServed (roots_of old.world + 1) roots old first
   pub hubs : Round
-  pub second : Hosting
+  pub second : HostState
   pub polled : EachPolled hubs first second
   pub looks : Round
   pub looked : EachLookedAgain looks second new
@@ -188,57 +188,57 @@ pub record RoundParts (round : Round) (old new : Hosting) : Type 0 where
 -- What the calls of a host tell of it, where it is as it knows
 
 -- the changes of a port that a status told were cleared
-pub record TidiesTold (port : HubPort) (status : PortStatus) (old : Hosting) (result : Result (Unit {0}) EnumFault) (new : Hosting) : Type 0 where
+pub record TidiesTold (port : HubPort) (status : PortStatus) (old : HostState) (result : Result (Unit {0}) EnumFault) (new : HostState) : Type 0 where
   pub reset : OnOk result (status.reset_changed ≡ true → ClearsReset port old.world new.world)
   pub calm : RestsCalm status old result new
-  pub clears : (f : Claims) (p : List ℕ) → IsAt f port p → TillFault (Owned f) old.world → OnOk result (ClearsTold p status old.world new.world)
+  pub clears : (f : AddressMap) (p : List ℕ) → IsAt f port p → WhileBusWorks (MapHolds f) old.world → OnOk result (ClearsTold p status old.world new.world)
 
 -- what is known stays, or what was found at the port and below it is forgotten
 abbrev pub StaysOrForgets : List ℕ → Entries → Entries → Type 0
 StaysOrForgets path old new = (new ≡ old) ⊎ (new ≡ without path old)
 
 -- a port was looked at, or its hub is lost
-abbrev pub LookedOrLost : List ℕ → Hosting → Result (Unit {0}) EnumFault → Hosting → Type 0
+abbrev pub LookedOrLost : List ℕ → HostState → Result (Unit {0}) EnumFault → HostState → Type 0
 LookedOrLost path old (Ok done) new = LookedAt path old new
 LookedOrLost path old (Err ParentLost) new = StaysOrForgets path old.entries new.entries
 LookedOrLost path old (Err (Bus fault)) new = ⊤
 LookedOrLost path old (Err Memory) new = ⊤
 
 -- a port was served, or its hub is lost
-abbrev pub ServedOrLost : List ℕ → Hosting → Result (Unit {0}) EnumFault → Hosting → Type 0
+abbrev pub ServedOrLost : List ℕ → HostState → Result (Unit {0}) EnumFault → HostState → Type 0
 ServedOrLost path old (Ok done) new = ServedAt path old new
 ServedOrLost path old (Err ParentLost) new = StaysOrForgets path old.entries new.entries
 ServedOrLost path old (Err (Bus fault)) new = ⊤
 ServedOrLost path old (Err Memory) new = ⊤
 
 -- after a port was served nothing more is done, but where its hub is lost
-abbrev pub EndsAt : List ℕ → Result (Unit {0}) EnumFault → Hosting → Result (Unit {0}) HostFault → Hosting → Type 0
+abbrev pub EndsAt : List ℕ → Result (Unit {0}) EnumFault → HostState → Result (Unit {0}) HostFault → HostState → Type 0
 EndsAt path (Ok done) old result new = new ≡ old
 EndsAt path (Err ParentLost) old result new = OnOk result (LosesParent path old.entries new.entries)
 EndsAt path (Err (Bus fault)) old result new = ⊤
 EndsAt path (Err Memory) old result new = ⊤
 
 -- what is there was found
-pub record Discovers (path : List ℕ) (port : KnownPort) (old : Hosting)
-    (result : Result (Unit {0}) EnumFault) (new : Hosting) : Type 0 where
+pub record Discovers (path : List ℕ) (port : KnownPort) (old : HostState)
+    (result : Result (Unit {0}) EnumFault) (new : HostState) : Type 0 where
   pub requested : Requested port.port widest_enumeration old result new
   pub owned : KeepsPort path old result new
   pub sound : FindsSound path old result new
 
 -- what was found there and below it is forgotten, and where a device is connected, it was found
-pub record RenewsPort (path : List ℕ) (port : KnownPort) (connected : Bool) (old : Hosting)
-    (result : Result (Unit {0}) EnumFault) (new : Hosting) : Type 0 where
-  pub mid : Hosting
+pub record RenewsPort (path : List ℕ) (port : KnownPort) (connected : Bool) (old : HostState)
+    (result : Result (Unit {0}) EnumFault) (new : HostState) : Type 0 where
+  pub mid : HostState
   pub forgot : Forgets path old mid
   pub none : connected ≡ false → (result ≡ Ok tt) × (new ≡ mid)
   pub entered : connected ≡ true → Entered path mid result new
   pub found : connected ≡ true → Discovers path port mid result new
 
 -- what a look leaves; where it was due or a device waits, the host got on
-pub record LooksAt (path : List ℕ) (port : KnownPort) (old : Hosting)
-    (result : Result (Unit {0}) EnumFault) (new : Hosting) : Type 0 where
+pub record LooksAt (path : List ℕ) (port : KnownPort) (old : HostState)
+    (result : Result (Unit {0}) EnumFault) (new : HostState) : Type 0 where
   pub requested : Requested port.port look_bound old result new
-  pub on : IsDue old.world port.port ⊎ Waits path old → Served result old new
+  pub on : IsDue old.world port.port ⊎ Waits path old → ProgressOrLost result old new
   pub owned : KeepsPort path old result new
   pub sound : ServesSound path old result new
   pub renewed : OnOk result (Replaced path (without path old.entries) new.entries)
@@ -247,27 +247,27 @@ pub record LooksAt (path : List ℕ) (port : KnownPort) (old : Hosting)
   pub looked : IsOwned old → LookedOrLost path old result new
 
 -- what one leaves after an error
-pub record LooksAfterError (path : List ℕ) (port : KnownPort) (old : Hosting)
-    (result : Result (Unit {0}) EnumFault) (new : Hosting) : Type 0 where
+pub record LooksAfterError (path : List ℕ) (port : KnownPort) (old : HostState)
+    (result : Result (Unit {0}) EnumFault) (new : HostState) : Type 0 where
   pub requested : Requested port.port look_bound old result new
-  pub on : CanFail port.port → Served result old new
+  pub on : CanFail port.port → ProgressOrLost result old new
   pub owned : KeepsPort path old result new
 
 -- what the serving of a port leaves; where it was due, the host got on
-pub record ServesPort (path : List ℕ) (port : KnownPort) (old : Hosting)
-    (result : Result (Unit {0}) EnumFault) (new : Hosting) : Type 0 where
+pub record ServesPort (path : List ℕ) (port : KnownPort) (old : HostState)
+    (result : Result (Unit {0}) EnumFault) (new : HostState) : Type 0 where
   pub requested : Requested port.port serving_bound old result new
-  pub on : IsDue old.world port.port → Served result old new
+  pub on : IsDue old.world port.port → ProgressOrLost result old new
   pub owned : KeepsPort path old result new
   pub sound : ServesSound path old result new
   pub pays : PaysAtServe path old result new
   pub hubs : hubs new.entries ≤ hubs old.entries + 1
-  pub served : IsSound old → ServedOrLost path old result new
+  pub served : HostInvariant old → ServedOrLost path old result new
 
 -- the changes of a hub itself were cleared, or it was dropped
-pub record ServesOwn (old : Hosting) (result : Result (Unit {0}) HostFault) (new : Hosting)
+pub record ServesOwn (old : HostState) (result : Result (Unit {0}) HostFault) (new : HostState)
     : Type 0 where
-  pub goes : HostGoes handling_bound old new
+  pub goes : HostRuns handling_bound old new
   pub holds : AddsNoWork old new
   pub owned : KeepsOwned old result new
 
@@ -276,111 +276,111 @@ abbrev pub HasHub : List ℕ → Entries → Type 0
 HasHub path entries = IsSomeAnd (parent_of path) (λ hub. IsSome (hub_facts_at hub entries))
 
 -- how the handling of a port ends; where its hub was lost, one hub fewer is listed
-pub record FinishesAt (path : List ℕ) (served : Result (Unit {0}) EnumFault) (old : Hosting) (result : Result (Unit {0}) HostFault) (new : Hosting) : Type 0 where
-  pub goes : HostGoes drop_bound old new
+pub record FinishesAt (path : List ℕ) (served : Result (Unit {0}) EnumFault) (old : HostState) (result : Result (Unit {0}) HostFault) (new : HostState) : Type 0 where
+  pub goes : HostRuns drop_bound old new
   pub holds : AddsNoWork old new
   pub drops : DropsLost path served old result new
   pub left : EndsAt path served old result new
   pub fewer : served ≡ Err ParentLost → HasHub path old.entries → OnOk result (hubs new.entries + 1 ≤ hubs old.entries)
 
 -- a hub is dropped: no more is left to do, and where it was listed, one hub fewer is
-pub record DropsOne (hub : List ℕ) (old : Hosting) (result : Result (Unit {0}) HostFault) (new : Hosting) : Type 0 where
-  pub goes : HostGoes drop_bound old new
+pub record DropsOne (hub : List ℕ) (old : HostState) (result : Result (Unit {0}) HostFault) (new : HostState) : Type 0 where
+  pub goes : HostRuns drop_bound old new
   pub holds : AddsNoWork old new
   pub hubs : OnOk result (IsSome (hub_facts_at hub old.entries) → hubs new.entries + 1 ≤ hubs old.entries)
   pub owned : DropsHub hub old result new
   pub sound : DropsSound hub old result new
 
 -- a port was handled; where it was due, the host got on
-pub record HandlesAt (path : List ℕ) (due : Type 0) (old new : Hosting) : Type 0 where
-  pub advances : due → Advances old new
-  pub served : IsSound old → ServedAt path old new
+pub record HandlesAt (path : List ℕ) (due : Type 0) (old new : HostState) : Type 0 where
+  pub advances : due → HostProgress old new
+  pub served : HostInvariant old → ServedAt path old new
 
 -- and what that cost
-pub record HandlesPort (path : List ℕ) (due : Type 0) (old : Hosting) (result : Result (Unit {0}) HostFault) (new : Hosting) : Type 0 where
+pub record HandlesPort (path : List ℕ) (due : Type 0) (old : HostState) (result : Result (Unit {0}) HostFault) (new : HostState) : Type 0 where
   pub part : Part handling_bound old result new
   pub handled : OnOk result (HandlesAt path due old new)
   pub pays : PaysPart handling_most (λ c done. PortPaid c path) old result new
 
 -- a port of a hub was handled
-pub record HandlesBelow (hub : List ℕ) (number : ℕ) (round : Round) (old new : Hosting) : Type 0 where
+pub record HandlesBelow (hub : List ℕ) (number : ℕ) (round : Round) (old new : HostState) : Type 0 where
   pub did : Did round old new
-  pub served : IsSound old → ServedBelow hub number old new
+  pub served : HostInvariant old → ServedBelow hub number old new
 
 -- and what that cost
-pub record HandlesNumber (hub : List ℕ) (number : ℕ) (old : Hosting) (result : Result Round HostFault) (new : Hosting) : Type 0 where
+pub record HandlesNumber (hub : List ℕ) (number : ℕ) (old : HostState) (result : Result Round HostFault) (new : HostState) : Type 0 where
   pub part : Part handling_bound old result new
   pub handled : IfOk result (λ round. HandlesBelow hub number round old new)
   pub pays : PaysPart handling_most (λ c. NumberPaid c hub number) old result new
 
 -- the ports of which a hub told were handled
-pub record ServesPorts (hub : List ℕ) (bits : ℕ) (old : Hosting)
-    (result : Result (Unit {0}) HostFault) (new : Hosting) : Type 0 where
+pub record ServesPorts (hub : List ℕ) (bits : ℕ) (old : HostState)
+    (result : Result (Unit {0}) HostFault) (new : HostState) : Type 0 where
   pub part : Part told_bound old result new
   pub holds : OnOk result (AddsNoWork old new)
-  pub served : OnOk result (IsSound old → ServedTold hub bits 8 old new)
+  pub served : OnOk result (HostInvariant old → ServedTold hub bits 8 old new)
   pub pays : PaysPart told_most (λ c done. ToldPaid hub bits c) old result new
 
 -- and where it told of itself alone, its own changes were cleared
-pub record ServesTold (hub : List ℕ) (bits : ℕ) (old : Hosting)
-    (result : Result (Unit {0}) HostFault) (new : Hosting) : Type 0 where
-  pub goes : HostGoes told_bound old new
+pub record ServesTold (hub : List ℕ) (bits : ℕ) (old : HostState)
+    (result : Result (Unit {0}) HostFault) (new : HostState) : Type 0 where
+  pub goes : HostRuns told_bound old new
   pub holds : OnOk result (AddsNoWork old new)
   pub owned : KeepsOwned old result new
   pub ports : bits ≢ 1 → ServesPorts hub bits old result new
 
 -- a device that waits was looked at again
-pub record LooksOnceMore (path : List ℕ) (old : Hosting) (result : Result Round HostFault)
-    (new : Hosting) : Type 0 where
+pub record LooksOnceMore (path : List ℕ) (old : HostState) (result : Result Round HostFault)
+    (new : HostState) : Type 0 where
   pub part : Part handling_bound old result new
   pub did : IfOk result (λ round. Looked round old new)
-  pub looked : IfOk result (λ round. IsSound old → (round ≡ Worked) × LookedOnce path old new)
+  pub looked : IfOk result (λ round. HostInvariant old → (round ≡ Worked) × LookedOnce path old new)
 
 -- each that waits, while an address is free
-pub record LooksAgain (old : Hosting) (result : Result Round HostFault) (new : Hosting)
+pub record LooksAgain (old : HostState) (result : Result Round HostFault) (new : HostState)
     : Type 0 where
   pub keeps : LooksKeep old result new
   pub did : IfOk result (λ round. Did round old new)
-  pub looked : IfOk result (λ round. IsSound old → EachLookedAgain round old new)
+  pub looked : IfOk result (λ round. HostInvariant old → EachLookedAgain round old new)
 
 -- a hub was polled
-pub record PollsHub (hub : List ℕ) (round : Round) (old new : Hosting) : Type 0 where
+pub record PollsHub (hub : List ℕ) (round : Round) (old new : HostState) : Type 0 where
   pub did : Did round old new
-  pub polled : IsSound old → new.world.fault ≡ None → HubPolled hub old new round
+  pub polled : HostInvariant old → new.world.fault ≡ None → HubPolled hub old new round
 
 -- and what that cost
-pub record ServesHub (hub : List ℕ) (old : Hosting) (result : Result Round HostFault) (new : Hosting) : Type 0 where
+pub record ServesHub (hub : List ℕ) (old : HostState) (result : Result Round HostFault) (new : HostState) : Type 0 where
   pub keeps : HubKeeps hub old result new
   pub polls : IfOk result (λ round. PollsHub hub round old new)
   pub pays : PaysPart poll_most (HubPaid hub) old result new
 
 -- each hub that is known was polled
-pub record ServesHubs (old : Hosting) (result : Result Round HostFault) (new : Hosting) : Type 0 where
+pub record ServesHubs (old : HostState) (result : Result Round HostFault) (new : HostState) : Type 0 where
   pub keeps : HubsKeep old result new
   pub did : IfOk result (λ round. Did round old new)
-  pub polls : IfOk result (λ round. IsSound old → new.world.fault ≡ None → EachPolled round old new)
+  pub polls : IfOk result (λ round. HostInvariant old → new.world.fault ≡ None → EachPolled round old new)
   pub pays : PaysPart hubs_most RoundPaid old result new
   -- where nothing is listed, nothing is done
   pub idle : old.entries ≡ [] → (result ≡ Ok Quiet) × (new ≡ old)
 
 -- the parts of a round; where it is quiet no root port had changed
-pub record WentByParts (old : Hosting) (result : Result Round HostFault) (new : Hosting) : Type 0 where
+pub record WentByParts (old : HostState) (result : Result Round HostFault) (new : HostState) : Type 0 where
   pub keeps : PartsKeep old result new
   pub did : IfOk result (λ round. Did round old new)
   pub none : result ≡ Ok Quiet → changes (root_row old.world) ≡ 0
-  pub parts : IfOk result (λ round. IsSound old → new.world.fault ≡ None → RoundParts round old new)
+  pub parts : IfOk result (λ round. HostInvariant old → new.world.fault ≡ None → RoundParts round old new)
   pub pays : (c : Weights) (plan : PlanData) → Affords c plan old → PaysRound c plan old result new
   -- where nothing is listed, and no root port had changed, nothing is done
   pub idle : old.entries ≡ [] → changes (root_row old.world) ≡ 0 → (result ≡ Ok Quiet) × (new ≡ old)
 
 -- the root ports were served
-pub record ServesRoots (round : Round) (old new : Hosting) : Type 0 where
+pub record ServesRoots (round : Round) (old new : HostState) : Type 0 where
   pub did : Did round old new
   pub none : round ≡ Quiet → RootsRest old new
-  pub served : IsSound old → RootsServed (roots_of old.world + 1) round old new
+  pub served : HostInvariant old → RootsServed (roots_of old.world + 1) round old new
 
 -- and what that cost
-pub record ServesEach (old : Hosting) (result : Result Round HostFault) (new : Hosting) : Type 0 where
+pub record ServesEach (old : HostState) (result : Result Round HostFault) (new : HostState) : Type 0 where
   pub part : Part roots_bound old result new
   pub serves : IfOk result (λ round. ServesRoots round old new)
   pub pays : PaysPart handling_most RootsPaid old result new
@@ -388,6 +388,6 @@ pub record ServesEach (old : Hosting) (result : Result Round HostFault) (new : H
   pub idle : changes (root_row old.world) ≡ 0 → (result ≡ Ok Quiet) × (new ≡ old)
 
 -- what a round did, part by part
-pub record DidParts (round : Round) (old new : Hosting) : Type 0 where
+pub record DidParts (round : Round) (old new : HostState) : Type 0 where
   pub did : DidRound round old new
-  pub parts : IsSound old → new.world.fault ≡ None → RoundParts round old new
+  pub parts : HostInvariant old → new.world.fault ≡ None → RoundParts round old new

@@ -6,7 +6,7 @@ use Rattle.usb_device.specs.Rows.{State}
 use Rattle.usb_device.specs.Tree.{reach}
 use Rattle.usb_device.specs.View.{state_there, port_there}
 use Rattle.usb_world.specs.Devices.{EachWas}
-use Rattle.usb_world.specs.Paths.{pend, is_way}
+use Rattle.usb_world.specs.Paths.{pending, is_way}
 use Rattle.usb_world.specs.World.{World, root_row, roots_of, changes}
 use Rattle.usb_hub.specs.Addresses.{EachElsewhere}
 use Rattle.usb_enum.specs.declared.cause.Cause.{Cause}
@@ -15,14 +15,14 @@ use Rattle.usb_enum.specs.declared.finding.Accepted.{Accepted}
 use Rattle.usb_enum.specs.declared.finding.Finding.TheVariants.{Device, Refused}
 use Rattle.usb_enum.specs.declared.hub.HubFacts.{HubFacts}
 use Rattle.usb_backlog.specs.Marks.{KeepsAll}
-use Rattle.usb_hub.specs.Requests.{AllRest}
+use Rattle.usb_hub.specs.Requests.{TouchesNoPort}
 use Rattle.usb_enum.specs.Verdicts.{IsFindingOf, IsRight, IsSet}
 use Rattle.usb_enum.specs.Places.{IsKnownAs, IsOccupied}
 use Rattle.usb_table.specs.declared.known.KnownPort.{KnownPort}
 use Rattle.usb_table.specs.Entries.{Entries}
 use Rattle.usb_table.specs.Findings.{accepted_device_at}
 use Rattle.usb_table.specs.KnownPorts.{known_port}
-use Rattle.usb_table.specs.Levels.{AllLevel, LevelAt}
+use Rattle.usb_table.specs.Levels.{AllInSync, InSyncAt}
 use Rattle.usb_table.specs.Listing.{finding_at, hub_facts_at, IsListedPort, tier_of, ListsEach}
 use Rattle.usb_table.specs.Transfers.{SameSettings}
 use Rattle.usb_transaction.specs.Failures.{NoThreeDamaged}
@@ -31,11 +31,11 @@ use Rattle.usb_enum.specs.PresentDevices.{IsInOrder, IsOrderly}
 use Rattle.usb_host.specs.Agreement.{Agrees}
 use Rattle.usb_host.specs.Bounds.{hub_poll_bound, hubs_bound, looks_bound, round_bound}
 use Rattle.usb_host.specs.BulkPipes.{KeepsBulk}
-use Rattle.usb_host.specs.Hosting.{Hosting}
+use Rattle.usb_host.specs.HostState.{HostState}
 use Rattle.usb_host.specs.Plugs.{KeepsPlugs}
-use Rattle.usb_host.specs.Progress.{HostGoes}
+use Rattle.usb_host.specs.Progress.{HostRuns}
 use Rattle.usb_host.specs.Transfers.{table_in}
-use Rattle.usb_host.specs.Ownership.{IsOwned, IsOwnedBut, IsRooted, KeepsOwned, Owning}
+use Rattle.usb_host.specs.Ownership.{IsOwned, IsOwnedBut, IsRooted, KeepsOwned, HostMapHolds}
 use Rattle.usb_host.specs.declared.fault.HostFault.{HostFault}
 use Rattle.usb_host.specs.declared.host.Round.{Round}
 use Rattle.usb_host.specs.declared.host.Round.TheVariants.{Quiet}
@@ -43,8 +43,8 @@ use Rattle.usb_host.specs.declared.host.Round.TheVariants.{Quiet}
 -- Ports
 
 -- so it is at each port of the root, and of each hub that is known
-abbrev pub Known : World → Entries → Type 0
-Known w entries = (path : List ℕ) → IsListedPort (roots_of w) entries path → IsKnownAs w path (finding_at path entries)
+abbrev pub PortsListed : World → Entries → Type 0
+PortsListed w entries = (path : List ℕ) → IsListedPort (roots_of w) entries path → IsKnownAs w path (finding_at path entries)
 
 -- Devices
 
@@ -58,22 +58,22 @@ pub record IsTruthOf (entries : Entries) (path : List ℕ) (device : Accepted) (
   pub set : IsSet device s
 
 -- what is known of the accepted device at a path is so where it is reached, whatever is damaged or pending
-abbrev pub IsToldAt : World → Entries → List ℕ → Type 0
-IsToldAt w entries path = (device : Accepted) (s : State) → accepted_device_at path entries ≡ Some device → reach w.roots path ≡ true → state_there w.roots path ≡ Some s
+abbrev pub IsAccurateAt : World → Entries → List ℕ → Type 0
+IsAccurateAt w entries path = (device : Accepted) (s : State) → accepted_device_at path entries ≡ Some device → reach w.roots path ≡ true → state_there w.roots path ≡ Some s
     → IsTruthOf entries path device s
 
 -- so it is of each
-abbrev pub Truthful : World → Entries → Type 0
-Truthful w entries = (path : List ℕ) → IsToldAt w entries path
+abbrev pub DevicesAccurate : World → Entries → Type 0
+DevicesAccurate w entries = (path : List ℕ) → IsAccurateAt w entries path
 
 -- the refused device at a path has its cause, or a change of connection is pending at its port; one that waits for an address may have waited too long
-abbrev pub IsCausedAt : World → Entries → List ℕ → Type 0
-IsCausedAt w entries path = (cause : Cause) (s : State) → finding_at path entries ≡ Some (Refused cause) → state_there w.roots path ≡ Some s
-    → (pend w.roots path ≡ true) ⊎ IsRight ⊤ s.spec (tier_of path) (known_supply path entries) (Refused cause)
+abbrev pub IsJustifiedAt : World → Entries → List ℕ → Type 0
+IsJustifiedAt w entries path = (cause : Cause) (s : State) → finding_at path entries ≡ Some (Refused cause) → state_there w.roots path ≡ Some s
+    → (pending w.roots path ≡ true) ⊎ IsRight ⊤ s.spec (tier_of path) (known_supply path entries) (Refused cause)
 
 -- so it is of each
-abbrev pub Causes : World → Entries → Type 0
-Causes w entries = (path : List ℕ) → IsCausedAt w entries path
+abbrev pub RefusalsJustified : World → Entries → Type 0
+RefusalsJustified w entries = (path : List ℕ) → IsJustifiedAt w entries path
 
 -- The same but at a path and below it
 
@@ -84,10 +84,10 @@ abbrev pub KnownBut : List ℕ → World → Entries → Type 0
 KnownBut path w entries = Elsewhere path (λ other. IsListedPort (roots_of w) entries other → IsKnownAs w other (finding_at other entries))
 
 abbrev pub TruthfulBut : List ℕ → World → Entries → Type 0
-TruthfulBut path w entries = Elsewhere path (IsToldAt w entries)
+TruthfulBut path w entries = Elsewhere path (IsAccurateAt w entries)
 
 abbrev pub CausesBut : List ℕ → World → Entries → Type 0
-CausesBut path w entries = Elsewhere path (IsCausedAt w entries)
+CausesBut path w entries = Elsewhere path (IsJustifiedAt w entries)
 
 -- Between two worlds
 
@@ -115,29 +115,29 @@ NoneWaiting entries = (path : List ℕ) → finding_at path entries ≡ Some (Re
 
 -- nothing is left to do: no change of connection is pending at a known port, and a device waits for an address only where each is listed
 pub record IsAtRest (w : World) (entries : Entries) : Type 0 where
-  pub none_pending : (path : List ℕ) → IsListedPort (roots_of w) entries path → pend w.roots path ≡ false
+  pub none_pending : (path : List ℕ) → IsListedPort (roots_of w) entries path → pending w.roots path ≡ false
   pub none_waiting : NoneWaiting entries
 
 -- Between two calls of a host
 
 -- each reachable device holds the address that the host has for it; as long as the bus is at work ports are in order, and what is known of ports and
 -- devices is so
-pub record IsSound (h : Hosting) : Type 0 where
+pub record HostInvariant (h : HostState) : Type 0 where
   pub owned : IsOwned h
   pub rooted : IsRooted h
   pub order : IsInOrder h.world
-  pub known : h.world.fault ≡ None → Known h.world h.entries
-  pub truthful : h.world.fault ≡ None → Truthful h.world h.entries
-  pub level : h.world.fault ≡ None → AllLevel (table_in h) h.world  -- pipes are as far as their endpoints
+  pub known : h.world.fault ≡ None → PortsListed h.world h.entries
+  pub truthful : h.world.fault ≡ None → DevicesAccurate h.world h.entries
+  pub level : h.world.fault ≡ None → AllInSync (table_in h) h.world  -- pipes are as far as their endpoints
 
 -- so it is but of the ports at a path and below it
-pub record IsSoundBut (path : List ℕ) (h : Hosting) : Type 0 where
+pub record IsSoundBut (path : List ℕ) (h : HostState) : Type 0 where
   pub owned : IsOwnedBut path h
   pub rooted : IsRooted h
   pub order : IsInOrder h.world
   pub known : h.world.fault ≡ None → KnownBut path h.world h.entries
   pub truthful : h.world.fault ≡ None → TruthfulBut path h.world h.entries
-  pub level : h.world.fault ≡ None → Elsewhere path (λ other. LevelAt other (table_in h) h.world)
+  pub level : h.world.fault ≡ None → Elsewhere path (λ other. InSyncAt other (table_in h) h.world)
 
 -- the bus is at work, no three attempts running are damaged, and up to the new world no address is lost three times
 pub record IsFairTo (old new : World) : Type 0 where
@@ -146,92 +146,92 @@ pub record IsFairTo (old new : World) : Type 0 where
   pub kept : FewLosses new
 
 -- what is known stays so, and where damage is fair each refused device still has its cause
-pub record StaysSound (old new : Hosting) : Type 0 where
-  pub sound : IsSound old → IsSound new
-  pub caused : IsSound old → IsFairTo old.world new.world → Causes old.world old.entries → Causes new.world new.entries
+pub record KeepsInvariant (old new : HostState) : Type 0 where
+  pub sound : HostInvariant old → HostInvariant new
+  pub caused : HostInvariant old → IsFairTo old.world new.world → RefusalsJustified old.world old.entries → RefusalsJustified new.world new.entries
 
 -- the same over a part of a round, which leaves bulk pipes and their endpoints alone, but where a device is found anew; devices stand where one was
 -- plugged, and with few plugs none waits
-pub record PartStays (old new : Hosting) : Type 0 where
-  pub sound : StaysSound old new
-  pub bulk : IsSound old → new.world.fault ≡ None → KeepsBulk old new
-  pub plugs : IsSound old → new.world.fault ≡ None → KeepsPlugs old new
+pub record PartStays (old new : HostState) : Type 0 where
+  pub sound : KeepsInvariant old new
+  pub bulk : HostInvariant old → new.world.fault ≡ None → KeepsBulk old new
+  pub plugs : HostInvariant old → new.world.fault ≡ None → KeepsPlugs old new
 
-abbrev pub KeepsSound : {A : Type 0} → Hosting → Result A HostFault → Hosting → Type 0
-KeepsSound old result new = OnOk result (PartStays old new)
+abbrev pub PartKeepsInvariant : {A : Type 0} → HostState → Result A HostFault → HostState → Type 0
+PartKeepsInvariant old result new = OnOk result (PartStays old new)
 
 -- a hub that is listed may be dropped: what is known elsewhere is so, and a device stands at its port, or a change is pending there
-pub record IsDroppable (hub : List ℕ) (h : Hosting) : Type 0 where
+pub record IsDroppable (hub : List ℕ) (h : HostState) : Type 0 where
   pub listed : IsSome (finding_at hub h.entries)
   pub but : IsSoundBut hub h
   pub there : h.world.fault ≡ None → IsOccupied h.world hub
 
 -- a hub that failed is dropped: what is known elsewhere is known, and so is what is at the port now; where damage is fair, a change was pending there
-pub record DropsSound (hub : List ℕ) (old : Hosting) (result : Result (Unit {0}) HostFault) (new : Hosting) : Type 0 where
-  pub sound : IsDroppable hub old → OnOk result (IsSound new)
+pub record DropsSound (hub : List ℕ) (old : HostState) (result : Result (Unit {0}) HostFault) (new : HostState) : Type 0 where
+  pub sound : IsDroppable hub old → OnOk result (HostInvariant new)
   -- no more is left to do, but by events
   pub backlog : IsDroppable hub old → OnOk result (new.world.fault ≡ None → KeepsAll old.world new.world)
   pub bulk : IsDroppable hub old → OnOk result (new.world.fault ≡ None → KeepsBulk old new)
   pub plugs : OnOk result (KeepsPlugs old new)
-  pub caused : IsDroppable hub old → IsFairTo old.world new.world → pend old.world.roots hub ≡ true → CausesBut hub old.world old.entries → OnOk result (Causes new.world new.entries)
+  pub caused : IsDroppable hub old → IsFairTo old.world new.world → pending old.world.roots hub ≡ true → CausesBut hub old.world old.entries → OnOk result (RefusalsJustified new.world new.entries)
 
 -- a round keeps what is known; a quiet one in which no event came leaves nothing to do, as long as the bus is at work
-pub record RoundsSound (old : Hosting) (result : Result Round HostFault) (new : Hosting) : Type 0 where
-  pub keeps : KeepsSound old result new
-  pub rest : IsSound old → result ≡ Ok Quiet → new.world.taken ≡ old.world.taken → new.world.fault ≡ None → IsAtRest new.world new.entries
+pub record RoundsSound (old : HostState) (result : Result Round HostFault) (new : HostState) : Type 0 where
+  pub keeps : PartKeepsInvariant old result new
+  pub rest : HostInvariant old → result ≡ Ok Quiet → new.world.taken ≡ old.world.taken → new.world.fault ≡ None → IsAtRest new.world new.entries
 
 -- Parts of a round
 
 -- a part of a round: so many attempts at most, each reachable device holds the address that the
 -- host has for it, and what is known stays so
-pub record Part {A : Type 0} (most : ℕ) (old : Hosting) (result : Result A HostFault)
-    (new : Hosting) : Type 0 where
-  pub goes : HostGoes most old new
+pub record Part {A : Type 0} (most : ℕ) (old : HostState) (result : Result A HostFault)
+    (new : HostState) : Type 0 where
+  pub goes : HostRuns most old new
   pub owned : KeepsOwned old result new
-  pub sound : KeepsSound old result new
+  pub sound : PartKeepsInvariant old result new
 
 -- no root port had changed, and nothing was done
-pub record RootsRest (old new : Hosting) : Type 0 where
+pub record RootsRest (old new : HostState) : Type 0 where
   pub same : new ≡ old
   pub none : changes (root_row old.world) ≡ 0
 
 -- no port of the hub that is listed at a path tells of a change of connection
-abbrev pub IsSilent : List ℕ → Hosting → Type 0
+abbrev pub IsSilent : List ℕ → HostState → Type 0
 IsSilent hub h = (facts : HubFacts) (number : ℕ) → hub_facts_at hub h.entries ≡ Some facts → 1 ≤ number → number ≤ facts.ports
     → IfSome (port_there h.world.roots (hub ++ (number ∷ []))) (λ b. b.connection_changed ≡ false)
 
 -- a hub was polled; where it told of no change, nothing was asked of any port, and where no change is pending at it, none was told at its ports
-pub record HubKeeps (hub : List ℕ) (old : Hosting) (result : Result Round HostFault) (new : Hosting) : Type 0 where
+pub record HubKeeps (hub : List ℕ) (old : HostState) (result : Result Round HostFault) (new : HostState) : Type 0 where
   pub part : Part hub_poll_bound old result new
-  pub calm : result ≡ Ok Quiet → new.world.fault ≡ None → AllRest old.world new.world
-  pub silent : IsSound old → result ≡ Ok Quiet → new.world.fault ≡ None → pend new.world.roots hub ≡ false → IsSilent hub new
+  pub calm : result ≡ Ok Quiet → new.world.fault ≡ None → TouchesNoPort old.world new.world
+  pub silent : HostInvariant old → result ≡ Ok Quiet → new.world.fault ≡ None → pending new.world.roots hub ≡ false → IsSilent hub new
 
 -- so was each hub; where none told of a change and no event came, none is told at the ports of any at which none is pending
-pub record HubsKeep (old : Hosting) (result : Result Round HostFault) (new : Hosting) : Type 0 where
+pub record HubsKeep (old : HostState) (result : Result Round HostFault) (new : HostState) : Type 0 where
   pub part : Part hubs_bound old result new
-  pub calm : result ≡ Ok Quiet → new.world.fault ≡ None → AllRest old.world new.world
-  pub silent : IsSound old → result ≡ Ok Quiet → new.world.fault ≡ None → new.world.taken ≡ old.world.taken → (hub : List ℕ) → pend new.world.roots hub ≡ false → IsSilent hub new
+  pub calm : result ≡ Ok Quiet → new.world.fault ≡ None → TouchesNoPort old.world new.world
+  pub silent : HostInvariant old → result ≡ Ok Quiet → new.world.fault ≡ None → new.world.taken ≡ old.world.taken → (hub : List ℕ) → pending new.world.roots hub ≡ false → IsSilent hub new
   pub agrees : OnOk result (Agrees new.entries new.addresses)
 
 -- devices that wait were looked at again; where none was, none need be
-pub record LooksKeep (old : Hosting) (result : Result Round HostFault) (new : Hosting) : Type 0 where
+pub record LooksKeep (old : HostState) (result : Result Round HostFault) (new : HostState) : Type 0 where
   pub part : Part looks_bound old result new
   pub rest : IsRooted old → result ≡ Ok Quiet → (new ≡ old) × NoneWaiting new.entries
   pub idle : NoneWait old.entries → (result ≡ Ok Quiet) × (new ≡ old)
 
 -- all of them; quiet ones in which no event came leave nothing to do, as long as the bus is at work
-pub record PartsKeep (old : Hosting) (result : Result Round HostFault) (new : Hosting)
+pub record PartsKeep (old : HostState) (result : Result Round HostFault) (new : HostState)
     : Type 0 where
   pub part : Part round_bound old result new
-  pub rest : IsSound old → result ≡ Ok Quiet → new.world.taken ≡ old.world.taken
+  pub rest : HostInvariant old → result ≡ Ok Quiet → new.world.taken ≡ old.world.taken
       → new.world.fault ≡ None → IsAtRest new.world new.entries
 
 -- Whole calls
 
 -- devices hold the addresses that the host has for them, and what is known stays so
-pub record TransferKeeps (old new : Hosting) : Type 0 where
-  pub owning : Owning old → Owning new
-  pub sound : StaysSound old new
+pub record TransferKeeps (old new : HostState) : Type 0 where
+  pub owning : HostMapHolds old → HostMapHolds new
+  pub sound : KeepsInvariant old new
   -- no more is left to do, but by events
   pub backlog : new.world.fault ≡ None → KeepsAll old.world new.world
 

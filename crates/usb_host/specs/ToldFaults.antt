@@ -7,7 +7,7 @@ use Rattle.usb_table.specs.declared.fault.EndpointFault.{EndpointFault}
 use Rattle.usb_table.specs.declared.fault.EndpointFault.TheVariants as endpoint
 use Rattle.usb_host.specs.declared.fault.HostFault.{HostFault}
 use Rattle.usb_host.specs.declared.fault.HostFault.TheVariants.{Stopped, NoDevice, NoEndpoint, Pipe, Bus, Memory}
-use Rattle.usb_host.specs.Hosting.{Hosting}
+use Rattle.usb_host.specs.HostState.{HostState}
 
 -- a pipe's fault as the host's
 abbrev pub pipe_fault : PipeFault → HostFault
@@ -28,22 +28,22 @@ host_told (Ok done) = Ok done
 host_told (Err fault) = Err (endpoint_fault fault)
 
 -- a fault that ends a part of a round: of the bus, which tells it where it does what its world does, or of memory
-abbrev pub PartTold : Bool → HostFault → World → Type 0
-PartTold modelled Stopped w = ⊥
-PartTold modelled NoDevice w = ⊥
-PartTold modelled NoEndpoint w = ⊥
-PartTold modelled (Pipe fault) w = ⊥
-PartTold modelled (Bus fault) w = modelled ≡ true → Failed fault w
-PartTold modelled Memory w = ⊤
+abbrev pub PartFaultAllowed : Bool → HostFault → World → Type 0
+PartFaultAllowed modelled Stopped w = ⊥
+PartFaultAllowed modelled NoDevice w = ⊥
+PartFaultAllowed modelled NoEndpoint w = ⊥
+PartFaultAllowed modelled (Pipe fault) w = ⊥
+PartFaultAllowed modelled (Bus fault) w = modelled ≡ true → Failed fault w
+PartFaultAllowed modelled Memory w = ⊤
 
 -- a fault of a whole round
-abbrev pub RoundTold : HostFault → World → Type 0
-RoundTold Stopped w = ⊤
-RoundTold NoDevice w = ⊥
-RoundTold NoEndpoint w = ⊥
-RoundTold (Pipe fault) w = ⊥
-RoundTold (Bus fault) w = Failed fault w
-RoundTold Memory w = ⊤
+abbrev pub RoundFaultAllowed : HostFault → World → Type 0
+RoundFaultAllowed Stopped w = ⊤
+RoundFaultAllowed NoDevice w = ⊥
+RoundFaultAllowed NoEndpoint w = ⊥
+RoundFaultAllowed (Pipe fault) w = ⊥
+RoundFaultAllowed (Bus fault) w = Failed fault w
+RoundFaultAllowed Memory w = ⊤
 
 -- a pipe's fault that the host goes on after
 abbrev pub IsOfPipe : PipeFault → Type 0
@@ -55,13 +55,13 @@ IsOfPipe (pipe.Bus fault) = ⊥
 IsOfPipe pipe.Memory = ⊥
 
 -- a fault of a transfer
-abbrev pub TransferTold : HostFault → World → Type 0
-TransferTold Stopped w = ⊤
-TransferTold NoDevice w = ⊤
-TransferTold NoEndpoint w = ⊤
-TransferTold (Pipe fault) w = IsOfPipe fault
-TransferTold (Bus fault) w = Failed fault w
-TransferTold Memory w = ⊤
+abbrev pub TransferFaultAllowed : HostFault → World → Type 0
+TransferFaultAllowed Stopped w = ⊤
+TransferFaultAllowed NoDevice w = ⊤
+TransferFaultAllowed NoEndpoint w = ⊤
+TransferFaultAllowed (Pipe fault) w = IsOfPipe fault
+TransferFaultAllowed (Bus fault) w = Failed fault w
+TransferFaultAllowed Memory w = ⊤
 
 -- after these the host makes no more attempts
 abbrev pub is_last_fault : HostFault → Bool
@@ -77,13 +77,13 @@ is_final (Ok done) = false
 is_final (Err fault) = is_last_fault fault
 
 -- a stopped host changes nothing and says so; another stops where the round fails
-pub record StopsAsRound {A : Type 0} (old : Hosting) (result : Result A HostFault) (new : Hosting) : Type 0 where
+pub record StopsAsRound {A : Type 0} (old : HostState) (result : Result A HostFault) (new : HostState) : Type 0 where
   pub said : IsErrOf result Stopped ↔ IsTrue old.stopped
   pub nothing : IsTrue old.stopped → new ≡ old
   pub stops : IsTrue new.stopped ↔ IsErr result
 
 -- a stopped host changes nothing and says so; another stops at a fault of the bus and for want of memory. No entry changes
-pub record StopsAsTransfer {A : Type 0} (old : Hosting) (result : Result A HostFault) (new : Hosting) : Type 0 where
+pub record StopsAsTransfer {A : Type 0} (old : HostState) (result : Result A HostFault) (new : HostState) : Type 0 where
   pub said : IsErrOf result Stopped ↔ IsTrue old.stopped
   pub nothing : IsTrue old.stopped → new ≡ old
   pub stops : old.stopped ≡ false → new.stopped ≡ is_final result

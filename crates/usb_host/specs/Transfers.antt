@@ -8,15 +8,15 @@ use Rattle.usb_table.specs.Table.{Table, GoesThrough, pipes_at}
 use Rattle.usb_table.specs.Levels.{KeepsMoved}
 use Rattle.usb_table.specs.Transfers.{PipesSent, PipesReceived, PipesCleared}
 use Rattle.usb_host.specs.declared.fault.HostFault.{HostFault}
-use Rattle.usb_host.specs.Hosting.{Hosting}
+use Rattle.usb_host.specs.HostState.{HostState}
 use Rattle.usb_host.specs.ToldFaults.{host_told}
 
 -- what the host knows of the ports
-abbrev pub table_in : Hosting → Table
+abbrev pub table_in : HostState → Table
 table_in h = record { entries = h.entries; pipes = h.pipes }
 
 -- bytes moved through the pipes at the path, as the table says, and its answer is the host's
-pub record HandsOn {A : Type 0} (path : List ℕ) (moved : Pipes → World → Result A EndpointFault → Pipes → World → Type 0) (old : Hosting) (result : Result A HostFault) (new : Hosting) : Type 0 where
+pub record MovesThrough {A : Type 0} (path : List ℕ) (moved : Pipes → World → Result A EndpointFault → Pipes → World → Type 0) (old : HostState) (result : Result A HostFault) (new : HostState) : Type 0 where
   pub answer : Result A EndpointFault
   pub told : result ≡ host_told answer
   pub through : GoesThrough path (table_in old) (table_in new)
@@ -24,13 +24,13 @@ pub record HandsOn {A : Type 0} (path : List ℕ) (moved : Pipes → World → R
   pub keeps : KeepsMoved path (table_in old) old.world (table_in new) new.world
 
 -- these bytes were sent to the device at the path, unless the host had stopped
-abbrev pub SentAt : List ℕ → List ℕ → Hosting → Result (Unit {0}) HostFault → Hosting → Type 0
-SentAt path bytes old result new = old.stopped ≡ false → HandsOn path (λ pipes. PipesSent pipes bytes) old result new
+abbrev pub SentAt : List ℕ → List ℕ → HostState → Result (Unit {0}) HostFault → HostState → Type 0
+SentAt path bytes old result new = old.stopped ≡ false → MovesThrough path (λ pipes. PipesSent pipes bytes) old result new
 
 -- so many packets were received from it
-abbrev pub ReceivedAt : List ℕ → ℕ → Hosting → Result (Vec ℕ) HostFault → Hosting → Type 0
-ReceivedAt path packets old result new = old.stopped ≡ false → HandsOn path (λ pipes. PipesReceived pipes packets) old result new
+abbrev pub ReceivedAt : List ℕ → ℕ → HostState → Result (Vec ℕ) HostFault → HostState → Type 0
+ReceivedAt path packets old result new = old.stopped ≡ false → MovesThrough path (λ pipes. PipesReceived pipes packets) old result new
 
 -- the halts of its endpoints were cleared
-abbrev pub ClearedAt : List ℕ → Hosting → Result (Unit {0}) HostFault → Hosting → Type 0
-ClearedAt path old result new = old.stopped ≡ false → HandsOn path PipesCleared old result new
+abbrev pub ClearedAt : List ℕ → HostState → Result (Unit {0}) HostFault → HostState → Type 0
+ClearedAt path old result new = old.stopped ≡ false → MovesThrough path PipesCleared old result new

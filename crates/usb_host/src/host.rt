@@ -39,11 +39,11 @@ impl<B: Bus> Model for Host<B> {
     ghost use Rattle.std.specs.Ordering.{nat_cmp};
     ghost use Rattle.usb_device.specs.TreeCodes.{ports_code};
     ghost use Rattle.usb_host.specs.Agreement.{Agrees};
-    ghost use Rattle.usb_host.specs.Hosting.{Hosting};
+    ghost use Rattle.usb_host.specs.HostState.{HostState};
 
     ghost coded = { Prim.hlevel (codes, ports_code, set.code {R = nat_cmp} coded_ℕ) };
 
-    ghost Value = { Hosting };
+    ghost Value = { HostState };
 
     ghost view = { λ h. record {
       world = B.world h.bus;
@@ -144,7 +144,7 @@ impl<B: Bus> Host<B> {
         if self.stopped {
             return Err(HostFault::Stopped);
         }
-        let round = self.parts();
+        let round = self.run_round();
         self.stopped = round.is_err();
         round
     }
@@ -164,7 +164,7 @@ impl<B: Bus> Host<B> {
         if self.stopped {
             return Err(HostFault::Stopped);
         }
-        let sent = told(self.table.send(&mut self.bus, path, bytes));
+        let sent = as_host_fault(self.table.send(&mut self.bus, path, bytes));
         self.stopped = is_final(&sent);
         sent
     }
@@ -182,7 +182,7 @@ impl<B: Bus> Host<B> {
         if self.stopped {
             return Err(HostFault::Stopped);
         }
-        let received = told(self.table.receive(self.alloc, &mut self.bus, path, packets));
+        let received = as_host_fault(self.table.receive(self.alloc, &mut self.bus, path, packets));
         self.stopped = is_final(&received);
         received
     }
@@ -200,14 +200,14 @@ impl<B: Bus> Host<B> {
         if self.stopped {
             return Err(HostFault::Stopped);
         }
-        let cleared = told(self.table.clear_halt(&mut self.bus, path));
+        let cleared = as_host_fault(self.table.clear_halt(&mut self.bus, path));
         self.stopped = is_final(&cleared);
         cleared
     }
 }
 
 /// What a transfer gave, as the host tells it.
-fn told<T>(outcome: Result<T, EndpointFault>) -> Result<T, HostFault>
+fn as_host_fault<T>(outcome: Result<T, EndpointFault>) -> Result<T, HostFault>
     ensures { result ≡ host_told outcome }
 {
     match outcome {

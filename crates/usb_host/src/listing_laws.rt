@@ -5,7 +5,7 @@ ghost use Rattle.std.specs.Prelude.{◌≡◌, ℕ, List, Option, Result, Ok, fa
 ghost use Rattle.usb_resources.specs.Pool.{Addresses};
 ghost use Rattle.usb_world.specs.declared.event.Ask.{Ask};
 ghost use Rattle.usb_world.specs.declared.types.BusFault.{BusFault};
-ghost use Rattle.usb_world.specs.RestingPorts.{AsksNothingOf};
+ghost use Rattle.usb_world.specs.RestingPorts.{LeavesPortAlone};
 ghost use Rattle.usb_world.specs.Steps.{Course};
 ghost use Rattle.usb_world.specs.World.{World, roots_of};
 ghost use Rattle.usb_bus.specs.Traces.{TakesEvent};
@@ -14,33 +14,34 @@ ghost use Rattle.usb_table.specs.Entries.{Entries};
 ghost use Rattle.usb_table.specs.Listing.{Matches};
 ghost use Rattle.usb_enum.specs.Places.{IsKnownAs};
 ghost use Rattle.usb_host.specs.Agreement.{Agrees};
-ghost use Rattle.usb_host.specs.Hosting.{Hosting};
-ghost use Rattle.usb_host.specs.Ownership.{Owning};
-ghost use Rattle.usb_host.specs.Progress.{Rests};
-ghost use Rattle.usb_host.specs.Soundness.{Known, Truthful, Causes, Accounted, IsAtRest, StaysSound};
+ghost use Rattle.usb_host.specs.HostState.{HostState};
+ghost use Rattle.usb_host.specs.Ownership.{HostMapHolds};
+ghost use Rattle.usb_host.specs.Progress.{OnlyBusSteps};
+ghost use Rattle.usb_host.specs.Soundness.{PortsListed, DevicesAccurate, RefusalsJustified, Accounted, IsAtRest, KeepsInvariant};
 
 /// What is known of a port stays known over a course that asks nothing of it, whatever is plugged and unplugged.
 pub fn known_stays()
     ensures { (path : List ℕ) (listed : Option Finding) (w v : World)
-        → Course (AsksNothingOf path) w v → IsKnownAs w path listed → IsKnownAs v path listed }
+        → Course (LeavesPortAlone path) w v → IsKnownAs w path listed → IsKnownAs v path listed }
 {}
 
 /// An event that comes through `Host::bus_mut` by `SimBus::apply_next_event` leaves a host as it was but for its bus: what it
 /// knows stays so, and each reachable device holds the address that the host has for it, also where the bus told a fault.
 pub fn known_stays_at_events()
-    ensures sound { (old new : Hosting) (due : Option (Option Ask))
+    ensures sound { (old new : HostState) (due : Option (Option Ask))
         → Agrees old.entries old.addresses
-        → TakesEvent old.world old.trace (Ok due) new.world new.trace → Rests old new
-        → StaysSound old new }
-    ensures owning { (old new : Hosting) (result : Result (Option (Option Ask)) BusFault)
+        → TakesEvent old.world old.trace (Ok due) new.world new.trace → OnlyBusSteps old new
+        → KeepsInvariant old new }
+    ensures owning { (old new : HostState) (result : Result (Option (Option Ask)) BusFault)
         → old.stopped ≡ false → TakesEvent old.world old.trace result new.world new.trace
-        → Rests old new → Owning old → Owning new }
+        → OnlyBusSteps old new → HostMapHolds old → HostMapHolds new }
 {}
 
 /// Where nothing is left to do, a host that knows its ports, and of which each accepted device and each cause is so, lists
 /// what is plugged.
 pub fn settled_matches()
     ensures { (w : World) (entries : Entries) (addresses : Addresses)
-        → Accounted (roots_of w) entries addresses → Known w entries → Truthful w entries
-        → Causes w entries → IsAtRest w entries → Matches w entries }
+        → Accounted (roots_of w) entries addresses → PortsListed w entries
+        → DevicesAccurate w entries
+        → RefusalsJustified w entries → IsAtRest w entries → Matches w entries }
 {}

@@ -4,7 +4,7 @@ ghost use Rattle.usb_table.specs.Entries.{has_at};
 ghost use Rattle.usb_table.specs.Table.{entered};
 ghost use Rattle.usb_table.specs.Findings.{IsSoundFinding, HasNewAddress, address_found};
 ghost use Rattle.usb_enum.specs.declared.finding.Finding.{Finding};
-ghost use Rattle.usb_host.specs.Hosting.{Frees};
+ghost use Rattle.usb_host.specs.HostState.{Frees};
 
 use std::alloc::AllocError;
 use usb_enum::Finding;

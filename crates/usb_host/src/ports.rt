@@ -11,13 +11,13 @@ ghost use Rattle.usb_table.specs.KnownPorts.{IsAskable, known_port};
 ghost use Rattle.usb_table.specs.Listing.{tier_of};
 ghost use Rattle.usb_pipe.specs.Control.{write_bound};
 ghost use Rattle.usb_host.specs.Backlog.{hubs};
-ghost use Rattle.usb_host.specs.Changes.{IsPlain, has_failed};
+ghost use Rattle.usb_host.specs.Changes.{HasOnlyWorldChanges, was_disabled};
 ghost use Rattle.usb_host.specs.PortHandling.{DisablesOnWay, Climbs};
 ghost use Rattle.usb_host.specs.Ports.{IsPortAt, StandsNowhere, IsDue, Waits, Broke, EndsAs, Entered, Forgets};
-ghost use Rattle.usb_host.specs.Progress.{Rests};
+ghost use Rattle.usb_host.specs.Progress.{OnlyBusSteps};
 ghost use Rattle.usb_host.specs.Requests.{ClearsError, ClearsFeature, ClearsOthers, ClearsOwn, ClearsPort, ClearsWhere, SettlesPort, ShowsPort, TidiesPort};
 ghost use Rattle.usb_host.specs.Service.{Discovers, DropsOne, FinishesAt, HandlesNumber, HandlesPort, LooksAfterError, LooksAt, LooksOnceMore, RenewsPort, ServesOwn, ServesPort};
-ghost use Rattle.usb_host.specs.ToldFaults.{PartTold};
+ghost use Rattle.usb_host.specs.ToldFaults.{PartFaultAllowed};
 
 use crate::HostFault;
 use crate::host::{Host, Round};
@@ -47,7 +47,7 @@ impl<B: Bus> Host<B> {
     pub(crate) fn handle_root(&mut self, number: u8) -> Result<(), HostFault>
         requires port { B.modelled ≡ true → IsRootPort self.old.world number }
         requires number { IsPortNumber number }
-        ensures told { IfErr result (λ fault. PartTold B.modelled fault self.new.world) }
+        ensures told { IfErr result (λ fault. PartFaultAllowed B.modelled fault self.new.world) }
         ensures handles { B.modelled ≡ true → HandlesPort (number ∷ [])
             ((root_port_at self.old.world number).connection_changed ≡ true)
             self.old result self.new }
@@ -58,13 +58,13 @@ impl<B: Bus> Host<B> {
             port: HubPort::Root(number),
             supply: supply(true, false),
         };
-        self.handle(&root_path(number), port)
+        self.service_port(&root_path(number), port)
     }
 
     /// Handles a port of a hub, where that is known and has the port.
     pub(crate) fn handle_below(&mut self, hub: &PortPath, number: u8) -> Result<Round, HostFault>
         requires { IsPath hub.now }
-        ensures told { IfErr result (λ fault. PartTold B.modelled fault self.new.world) }
+        ensures told { IfErr result (λ fault. PartFaultAllowed B.modelled fault self.new.world) }
         ensures handles { B.modelled ≡ true
             → HandlesNumber hub.now number self.old result self.new }
     {
@@ -75,14 +75,14 @@ impl<B: Bus> Host<B> {
         let Some(port) = self.port_at(&path) else {
             return Ok(Round::Quiet);
         };
-        self.handle(&path, port)?;
+        self.service_port(&path, port)?;
         Ok(Round::Worked)
     }
 
     /// Clears the changes of a hub itself, by way of its first port.
     pub(crate) fn serve_own(&mut self, hub: &PortPath) -> Result<(), HostFault>
         requires { IsPath hub.now }
-        ensures told { IfErr result (λ fault. PartTold B.modelled fault self.new.world) }
+        ensures told { IfErr result (λ fault. PartFaultAllowed B.modelled fault self.new.world) }
         ensures serves { B.modelled ≡ true → ServesOwn self.old result self.new }
     {
         let mut path = hub.duplicate();
@@ -98,18 +98,18 @@ impl<B: Bus> Host<B> {
     /// Clears the changes of the hub that has a port. Where it does not answer, it is dropped.
     fn handle_own(&mut self, path: &PortPath, port: KnownPort) -> Result<(), HostFault>
         requires { IsPortAt B.modelled path.now port self.old }
-        ensures told { IfErr result (λ fault. PartTold B.modelled fault self.new.world) }
+        ensures told { IfErr result (λ fault. PartFaultAllowed B.modelled fault self.new.world) }
         ensures serves { B.modelled ≡ true → ServesOwn self.old result self.new }
     {
         let cleared = self.clear_own(port.port);
-        self.finish(path, cleared)
+        self.drop_lost_parent(path, cleared)
     }
 
     /// Clears the changes of the hub that has a port; the root has none.
     fn clear_own(&mut self, port: HubPort) -> Result<(), EnumFault>
         requires port { IsAsked B.modelled self.old.world port }
         requires askable { IsAskable port }
-        ensures rests { Rests self.old self.new }
+        ensures rests { OnlyBusSteps self.old self.new }
         ensures clears { B.modelled ≡ true → ClearsOwn port self.old result self.new }
     {
         match port {
@@ -121,10 +121,10 @@ impl<B: Bus> Host<B> {
     }
 
     /// Looks again at a device that waits for an address.
-    pub(crate) fn look_once_more(&mut self, path: &PortPath) -> Result<Round, HostFault>
+    pub(crate) fn retry_one(&mut self, path: &PortPath) -> Result<Round, HostFault>
         requires { Waits path.now self.old }
         ensures path { IsPath path.now }
-        ensures told { IfErr result (λ fault. PartTold B.modelled fault self.new.world) }
+        ensures told { IfErr result (λ fault. PartFaultAllowed B.modelled fault self.new.world) }
         ensures looks { B.modelled ≡ true → LooksOnceMore path.now self.old result self.new }
     {
         // for the checker: a path has one to seven numbers
@@ -132,8 +132,8 @@ impl<B: Bus> Host<B> {
         let Some(port) = self.port_at(path) else {
             return Ok(Round::Quiet);
         };
-        let looked = self.look(path, port);
-        self.finish(path, looked)?;
+        let looked = self.enumerate_again(path, port);
+        self.drop_lost_parent(path, looked)?;
         Ok(Round::Worked)
     }
 
@@ -152,20 +152,20 @@ impl<B: Bus> Host<B> {
     }
 
     /// Handles a port. Where a request to its hub fails, that hub is dropped.
-    fn handle(&mut self, path: &PortPath, port: KnownPort) -> Result<(), HostFault>
+    fn service_port(&mut self, path: &PortPath, port: KnownPort) -> Result<(), HostFault>
         requires { IsPortAt B.modelled path.now port self.old }
-        ensures told { IfErr result (λ fault. PartTold B.modelled fault self.new.world) }
+        ensures told { IfErr result (λ fault. PartFaultAllowed B.modelled fault self.new.world) }
         ensures handles { B.modelled ≡ true
             → HandlesPort path.now (IsDue self.old.world port.port) self.old result self.new }
     {
         let served = self.serve(path, port);
-        self.finish(path, served)
+        self.drop_lost_parent(path, served)
     }
 
     /// Drops the hub of a port, where a request to it failed.
-    fn finish(&mut self, path: &PortPath, served: Result<(), EnumFault>) -> Result<(), HostFault>
+    fn drop_lost_parent(&mut self, path: &PortPath, served: Result<(), EnumFault>) -> Result<(), HostFault>
         requires { B.modelled ≡ true → IfErr served (λ fault. Broke path.now fault self.old.world) }
-        ensures told { IfErr result (λ fault. PartTold B.modelled fault self.new.world) }
+        ensures told { IfErr result (λ fault. PartFaultAllowed B.modelled fault self.new.world) }
         ensures ends { EndsAs served result }
         ensures finishes { B.modelled ≡ true → FinishesAt path.now served self.old result self.new }
     {
@@ -189,7 +189,7 @@ impl<B: Bus> Host<B> {
     {
         let status = self.status(port.port)?;
         if status.connection_changed {
-            self.look(path, port)
+            self.enumerate_again(path, port)
         } else if self.has_failed(path, port.port, status) {
             self.look_after_error(path, port)
         } else {
@@ -199,7 +199,7 @@ impl<B: Bus> Host<B> {
 
     /// Whether a hub has disabled a port on an error (11.8.1), so that its device is dead.
     fn has_failed(&self, path: &PortPath, port: HubPort, status: PortStatus) -> bool
-        ensures { result ≡ has_failed port status (accepted_device_at path.now self.now.entries) }
+        ensures { result ≡ was_disabled port status (accepted_device_at path.now self.now.entries) }
     {
         match port {
             HubPort::Root(_) => false,
@@ -221,7 +221,7 @@ impl<B: Bus> Host<B> {
     fn status(&mut self, port: HubPort) -> Result<PortStatus, EnumFault>
         requires port { IsAsked B.modelled self.old.world port }
         requires askable { IsAskable port }
-        ensures rests { Rests self.old self.new }
+        ensures rests { OnlyBusSteps self.old self.new }
         ensures shows { B.modelled ≡ true → ShowsPort port self.old result self.new }
     {
         at_port(port_status(self.alloc, &mut self.bus, port))
@@ -231,7 +231,7 @@ impl<B: Bus> Host<B> {
     fn clear(&mut self, port: HubPort, feature: u16) -> Result<(), EnumFault>
         requires port { IsAsked B.modelled self.old.world port }
         requires named { IsClearFeature feature }
-        ensures rests { Rests self.old self.new }
+        ensures rests { OnlyBusSteps self.old self.new }
         ensures clears { B.modelled ≡ true
             → ClearsFeature port feature self.old result self.new }
     {
@@ -242,7 +242,7 @@ impl<B: Bus> Host<B> {
     fn clear_where(&mut self, asked: bool, port: HubPort, feature: u16) -> Result<(), EnumFault>
         requires port { IsAsked B.modelled self.old.world port }
         requires named { IsClearFeature feature }
-        ensures rests { Rests self.old self.new }
+        ensures rests { OnlyBusSteps self.old self.new }
         ensures clears { B.modelled ≡ true
             → ClearsWhere asked port feature self.old result self.new }
     {
@@ -256,7 +256,7 @@ impl<B: Bus> Host<B> {
     /// Clears a change of a port that asks for nothing else, where that is asked for.
     fn clear_other(&mut self, asked: bool, port: HubPort, feature: u16) -> Result<(), EnumFault>
         requires { IsAsked B.modelled self.old.world port }
-        ensures rests { Rests self.old self.new }
+        ensures rests { OnlyBusSteps self.old self.new }
         ensures none { asked ≡ false → (result ≡ Ok tt) × (self.new ≡ self.old) }
         ensures clears { B.modelled ≡ true
             → ClearsOthers port write_bound self.old result self.new }
@@ -271,18 +271,18 @@ impl<B: Bus> Host<B> {
     /// Clears each change of a port whose connection has not changed.
     fn settle(&mut self, port: HubPort, status: PortStatus) -> Result<(), EnumFault>
         requires { IsAsked B.modelled self.old.world port }
-        ensures rests { Rests self.old self.new }
+        ensures rests { OnlyBusSteps self.old self.new }
         ensures settles { B.modelled ≡ true → SettlesPort port status self.old result self.new }
     {
-        self.tidy(port, status)?;
+        self.clear_other_changes(port, status)?;
         self.clear_others(port, status)
     }
 
     /// Clears the changes of a port that ask for nothing else: of its suspend and its over-current.
     fn clear_others(&mut self, port: HubPort, status: PortStatus) -> Result<(), EnumFault>
         requires { IsAsked B.modelled self.old.world port }
-        ensures rests { Rests self.old self.new }
-        ensures none { IsPlain status → (result ≡ Ok tt) × (self.new ≡ self.old) }
+        ensures rests { OnlyBusSteps self.old self.new }
+        ensures none { HasOnlyWorldChanges status → (result ≡ Ok tt) × (self.new ≡ self.old) }
         ensures clears { B.modelled ≡ true
             → ClearsOthers port (2 * write_bound) self.old result self.new }
     {
@@ -291,9 +291,9 @@ impl<B: Bus> Host<B> {
     }
 
     /// Clears what an earlier reset or error left of a port whose connection has not changed.
-    fn tidy(&mut self, port: HubPort, status: PortStatus) -> Result<(), EnumFault>
+    fn clear_other_changes(&mut self, port: HubPort, status: PortStatus) -> Result<(), EnumFault>
         requires { IsAsked B.modelled self.old.world port }
-        ensures rests { Rests self.old self.new }
+        ensures rests { OnlyBusSteps self.old self.new }
         ensures tidies { B.modelled ≡ true → TidiesPort port status self.old result self.new }
     {
         self.clear_where(status.enable_changed, port, C_PORT_ENABLE)?;
@@ -302,7 +302,7 @@ impl<B: Bus> Host<B> {
 
     /// Forgets what was found at a port, and finds what is there now. The change is cleared before
     /// the status is read, so that no later change is lost.
-    fn look(&mut self, path: &PortPath, port: KnownPort) -> Result<(), EnumFault>
+    fn enumerate_again(&mut self, path: &PortPath, port: KnownPort) -> Result<(), EnumFault>
         requires { IsPortAt B.modelled path.now port self.old }
         ensures { B.modelled ≡ true → LooksAt path.now port self.old result self.new }
     {
@@ -326,7 +326,7 @@ impl<B: Bus> Host<B> {
     fn clear_change(&mut self, port: HubPort) -> Result<PortStatus, EnumFault>
         requires port { IsAsked B.modelled self.old.world port }
         requires askable { IsAskable port }
-        ensures rests { Rests self.old self.new }
+        ensures rests { OnlyBusSteps self.old self.new }
         ensures clears { B.modelled ≡ true → ClearsPort port self.old result self.new }
     {
         self.clear(port, C_PORT_CONNECTION)?;
@@ -339,7 +339,7 @@ impl<B: Bus> Host<B> {
     fn clear_error(&mut self, port: HubPort) -> Result<PortStatus, EnumFault>
         requires port { IsAsked B.modelled self.old.world port }
         requires askable { IsAskable port }
-        ensures rests { Rests self.old self.new }
+        ensures rests { OnlyBusSteps self.old self.new }
         ensures clears { B.modelled ≡ true → ClearsError port self.old result self.new }
     {
         self.clear(port, C_PORT_ENABLE)?;
@@ -388,7 +388,7 @@ impl<B: Bus> Host<B> {
     /// Drops a hub that failed: its port is disabled, what stood there and below is forgotten, and
     /// it is listed as lost. Where its port cannot be disabled, its own hub is dropped in its place.
     pub(crate) fn drop_hub(&mut self, hub: PortPath) -> Result<(), HostFault>
-        ensures told { IfErr result (λ fault. PartTold B.modelled fault self.new.world) }
+        ensures told { IfErr result (λ fault. PartFaultAllowed B.modelled fault self.new.world) }
         ensures drops { B.modelled ≡ true → DropsOne hub self.old result self.new }
     {
         let lost = self.disable_upward(hub)?;
@@ -402,8 +402,8 @@ impl<B: Bus> Host<B> {
     fn disable_upward(&mut self, first: PortPath) -> Result<PortPath, HostFault>
         ensures ends { MatchResult result
             (λ path. IsSome (known_port path self.old.entries))
-            (λ fault. PartTold B.modelled fault self.new.world) }
-        ensures rests { Rests self.old self.new }
+            (λ fault. PartFaultAllowed B.modelled fault self.new.world) }
+        ensures rests { OnlyBusSteps self.old self.new }
         ensures climbs { B.modelled ≡ true → Climbs first self.old result self.new }
     {
         // for the checker: a path has one to seven numbers
@@ -424,8 +424,8 @@ impl<B: Bus> Host<B> {
     fn disable(&mut self, path: &PortPath) -> Result<bool, HostFault>
         ensures ends { MatchResult result
             (λ done. IsTrue done → IsSome (known_port path.now self.old.entries))
-            (λ fault. PartTold B.modelled fault self.new.world) }
-        ensures rests { Rests self.old self.new }
+            (λ fault. PartFaultAllowed B.modelled fault self.new.world) }
+        ensures rests { OnlyBusSteps self.old self.new }
         ensures disables { B.modelled ≡ true → DisablesOnWay path.now self.old result self.new }
     {
         let Some(port) = self.port_at(path) else {

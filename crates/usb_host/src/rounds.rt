@@ -9,7 +9,7 @@ ghost use Rattle.usb_host.specs.Agreement.{Agrees};
 ghost use Rattle.usb_host.specs.Ports.{Waits};
 ghost use Rattle.usb_host.specs.Progress.{either};
 ghost use Rattle.usb_host.specs.Service.{LooksAgain, ServesEach, ServesHub, ServesHubs, ServesPorts, ServesTold, WentByParts, first_byte};
-ghost use Rattle.usb_host.specs.ToldFaults.{PartTold};
+ghost use Rattle.usb_host.specs.ToldFaults.{PartFaultAllowed};
 
 use crate::HostFault;
 use crate::host::{Host, Round};
@@ -31,19 +31,19 @@ impl Round {
 
 impl<B: Bus> Host<B> {
     /// The root ports, the hubs, and the devices that wait.
-    pub(crate) fn parts(&mut self) -> Result<Round, HostFault>
-        ensures told { IfErr result (λ fault. PartTold B.modelled fault self.new.world) }
+    pub(crate) fn run_round(&mut self) -> Result<Round, HostFault>
+        ensures told { IfErr result (λ fault. PartFaultAllowed B.modelled fault self.new.world) }
         ensures parts { B.modelled ≡ true → WentByParts self.old result self.new }
     {
         let roots = self.serve_roots()?;
         let hubs = self.serve_hubs()?;
-        let looks = self.look_again()?;
+        let looks = self.retry_waiting()?;
         Ok(roots.and(hubs).and(looks))
     }
 
     /// Handles each root port whose connection has changed, by rising number.
     fn serve_roots(&mut self) -> Result<Round, HostFault>
-        ensures told { IfErr result (λ fault. PartTold B.modelled fault self.new.world) }
+        ensures told { IfErr result (λ fault. PartFaultAllowed B.modelled fault self.new.world) }
         ensures roots { B.modelled ≡ true → ServesEach self.old result self.new }
     {
         let mut round = Round::Quiet;
@@ -59,7 +59,7 @@ impl<B: Bus> Host<B> {
 
     /// Polls each hub that is known, by rising path, and handles the ports of which it tells.
     fn serve_hubs(&mut self) -> Result<Round, HostFault>
-        ensures told { IfErr result (λ fault. PartTold B.modelled fault self.new.world) }
+        ensures told { IfErr result (λ fault. PartFaultAllowed B.modelled fault self.new.world) }
         ensures hubs { B.modelled ≡ true → ServesHubs self.old result self.new }
     {
         let mut round = Round::Quiet;
@@ -75,7 +75,7 @@ impl<B: Bus> Host<B> {
     fn serve_hub(&mut self, hub: &PortPath) -> Result<Round, HostFault>
         requires { IsSome (hub_facts_at hub.now self.old.entries) }
         ensures path { IsPath hub.now }
-        ensures told { IfErr result (λ fault. PartTold B.modelled fault self.new.world) }
+        ensures told { IfErr result (λ fault. PartFaultAllowed B.modelled fault self.new.world) }
         ensures polls { B.modelled ≡ true → ServesHub hub.now self.old result self.new }
     {
         // for the checker: a path has one to seven numbers
@@ -83,7 +83,7 @@ impl<B: Bus> Host<B> {
         match self.table.poll(&mut self.bus, hub) {
             Ok(None) => Ok(Round::Quiet),
             Ok(Some(bits)) => {
-                self.serve_told(hub, first_byte(bits.as_slice()))?;
+                self.service_reported(hub, first_byte(bits.as_slice()))?;
                 Ok(Round::Worked)
             }
             Err(PipeFault::Bus(fault)) => Err(HostFault::Bus(fault)),
@@ -95,9 +95,9 @@ impl<B: Bus> Host<B> {
     }
 
     /// Serves what a hub told: its ports, and the hub itself where none of them has a change.
-    fn serve_told(&mut self, hub: &PortPath, bits: u8) -> Result<(), HostFault>
+    fn service_reported(&mut self, hub: &PortPath, bits: u8) -> Result<(), HostFault>
         requires { IsPath hub.now }
-        ensures told { IfErr result (λ fault. PartTold B.modelled fault self.new.world) }
+        ensures told { IfErr result (λ fault. PartFaultAllowed B.modelled fault self.new.world) }
         ensures serves { B.modelled ≡ true → ServesTold hub.now bits self.old result self.new }
     {
         if bits == 1 {
@@ -110,7 +110,7 @@ impl<B: Bus> Host<B> {
     /// Handles each port of a hub whose bit is set, by rising number, as long as the hub is known.
     fn serve_ports(&mut self, hub: &PortPath, bits: u8) -> Result<(), HostFault>
         requires { IsPath hub.now }
-        ensures told { IfErr result (λ fault. PartTold B.modelled fault self.new.world) }
+        ensures told { IfErr result (λ fault. PartFaultAllowed B.modelled fault self.new.world) }
         ensures serves { B.modelled ≡ true → ServesPorts hub.now bits self.old result self.new }
     {
         'ports: for number in 1..8u8 {
@@ -122,14 +122,14 @@ impl<B: Bus> Host<B> {
     }
 
     /// Looks again at each device that waits for an address, by rising path, while one is free.
-    fn look_again(&mut self) -> Result<Round, HostFault>
-        ensures told { IfErr result (λ fault. PartTold B.modelled fault self.new.world) }
+    fn retry_waiting(&mut self) -> Result<Round, HostFault>
+        ensures told { IfErr result (λ fault. PartFaultAllowed B.modelled fault self.new.world) }
         ensures looks { B.modelled ≡ true → LooksAgain self.old result self.new }
     {
         let mut round = Round::Quiet;
         let mut last: Option<PortPath> = None;
         'waiting: while let Some(path) = self.next_waiting(&last) {
-            round = round.and(self.look_once_more(&path)?);
+            round = round.and(self.retry_one(&path)?);
             last = Some(path);
         }
         Ok(round)

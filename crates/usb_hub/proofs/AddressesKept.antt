@@ -16,28 +16,28 @@ use Rattle.usb_port.proofs.Interface.{call_is, clear_no-reset}
 use Rattle.usb_port.specs.Calls.{clear_call, is_reset, IsClearFeature}
 use Rattle.usb_device.specs.Request.{Is}
 use Rattle.usb_device.specs.Rows.{State}
-use Rattle.usb_device.specs.Tree.{Spot, path_to, reach_on, state_on}
+use Rattle.usb_device.specs.Tree.{Location, path_to, reach_on, state_on}
 use Rattle.usb_world.specs.World.{World, root_port_at}
 use Rattle.usb_world.specs.Steps.{SetsRoot, ClearsRoot, root_call, after}
 use Rattle.usb_world.specs.Addresses.{after_reset, after_taking}
 use Rattle.usb_world.specs.Courses.{is_harmless}
 use Rattle.usb_world.specs.Paths.{address_of, is_way, same_path}
-use Rattle.usb_world.proofs.Interface.{no}
+use Rattle.usb_world.proofs.Interface.{false_true}
 use Rattle.usb_transaction.specs.declared.target.Target.{Target}
 use Rattle.usb_transaction.specs.Answerer.{Answerer}
 use Rattle.usb_pipe.specs.declared.fault.PipeFault.{PipeFault}
 use Rattle.usb_pipe.specs.Stages.{Reads}
 use Rattle.usb_pipe.proofs.Interface.{host_harmless}
-use Rattle.usb_address.specs.Claims.{Claims, claims_apart}
-use Rattle.usb_address.specs.Ownership.{Owned, TillFault, KeepsAddresses}
-use Rattle.usb_address.proofs.Interface.{answerer_claims, either_alone, gives_address, keeps_none, not_way, read_keeps, reads_other, reset_till, root_keeps, root_resets, root_shut, same_setup, same_way, write_keeps, write_till}
+use Rattle.usb_address.specs.Claims.{AddressMap, map_without}
+use Rattle.usb_address.specs.Ownership.{MapHolds, WhileBusWorks, KeepsAddresses}
+use Rattle.usb_address.proofs.Interface.{answerer_claims, either_alone, gives_address, keeps_none, not_way, read_keeps, reads_other, reset_till, root_keeps, root_resets, root_shut, same_setup, is_way-same_path, write_keeps, write_till}
 use Rattle.usb_hub.specs.declared.port.HubPort.{HubPort}
 use Rattle.usb_hub.specs.declared.port.HubPort.TheVariants.{Root, External}
 use Rattle.usb_hub.specs.Addresses.{StaysAs, EachElsewhere, KeepsDevices, IsBelow, IsClaimed, Resets, GivesAddress, KeepsAnswered, KeepsAsked, KeepsSet, KeepsCleared}
 use Rattle.usb_hub.specs.Port.{PortRead}
-use Rattle.usb_hub.specs.Requests.{EndsAfter, Told, Ordered}
-use Rattle.usb_hub.proofs.Devices.{not_reset, stays_none, told_stays, cleared_stays, set_stays, reset_stays, root_stays, root_elsewhere}
-use Rattle.usb_hub.proofs.BaredPorts.{told_bares, done_bares}
+use Rattle.usb_hub.specs.Requests.{EndsAfter, ReadAs, Commanded}
+use Rattle.usb_hub.proofs.Devices.{not_reset, keeps_devices_none, port_status_keeps, clear_feature_keeps, set_stays, reset_stays, root_stays, root_elsewhere}
+use Rattle.usb_hub.proofs.BaredPorts.{port_told_bares, done_bares}
 use Rattle.usb_hub.proofs.Calls.{hub_clears, root_clears}
 use Rattle.usb_hub.proofs.Moments.{hub_tells}
 
@@ -46,9 +46,9 @@ told_same seen status result a b = cc (a, b)
 
 -- Requests to a device
 
-pub answered : (target : Target) (request : Setup) (old : World) (result : Result (Vec ℕ) PipeFault) (new : World) → IsToHost request → EndsAfter 3 old result new → Reads target request old result new
+pub reads_keeps_addresses : (target : Target) (request : Setup) (old : World) (result : Result (Vec ℕ) PipeFault) (new : World) → IsToHost request → EndsAfter 3 old result new → Reads target request old result new
     → OnOk result (new.shared ≡ false → Answerer target old new) → KeepsAnswered target.addr old result new
-answered target request old result new reads ends stages who =
+reads_keeps_addresses target request old result new reads ends stages who =
     let keeps = read_keeps target request (same_setup request) (host_harmless request reads) (reads_other request reads) 3 1 old new result ends stages in
     record { keeps = keeps; who = told result ends who keeps }
   where
@@ -56,61 +56,61 @@ answered target request old result new reads ends stages who =
     told (Ok bytes) ends who keeps = record { held = λ f o. answerer_claims f target old new (o.so ends.sound) (who (keeps.kept f o).single) }
     told (Err fault) ends who keeps = tt
 
-pub ordered_keeps : (target : Target) (request : Setup) (old : World) (result : Result (Unit {0}) PipeFault) (new : World) → is_harmless request ≡ true → Is request DEVICE_OUT SET_ADDRESS ≡ false → Ordered target request old result new → KeepsAddresses old new
+pub ordered_keeps : (target : Target) (request : Setup) (old : World) (result : Result (Unit {0}) PipeFault) (new : World) → is_harmless request ≡ true → Is request DEVICE_OUT SET_ADDRESS ≡ false → Commanded target request old result new → KeepsAddresses old new
 ordered_keeps target request old result new harmless other ordered =
     write_keeps target request (same_setup request) harmless other 2 1 old new result ordered.ends ordered.stages
 
-pub configured : (target : Target) (value : ℕ) (old : World) (result : Result (Unit {0}) PipeFault) (new : World) → Ordered target (set_configuration value) old result new → KeepsAddresses old new
+pub configured : (target : Target) (value : ℕ) (old : World) (result : Result (Unit {0}) PipeFault) (new : World) → Commanded target (set_configuration value) old result new → KeepsAddresses old new
 unfolding set_configuration
 configured target value old result new = ordered_keeps target (set_configuration value) old result new refl refl
 
-pub gives : (target : Target) (address : ℕ) (old : World) (result : Result (Unit {0}) PipeFault) (new : World) → Ordered target (set_address address) old result new → GivesAddress target.addr address old new
+pub address_given : (target : Target) (address : ℕ) (old : World) (result : Result (Unit {0}) PipeFault) (new : World) → Commanded target (set_address address) old result new → GivesAddress target.addr address old new
 unfolding set_address
-gives target address old result new ordered = record {
+address_given target address old result new ordered = record {
   gives = λ f p at spare differ o.
-      write_till (λ w. Owned f w ⊎ Owned (after_taking f p address) w) (either_alone f (after_taking f p address)) old new 2 1 target (set_address address) o.single result ordered.ends ordered.stages
+      write_till (λ w. MapHolds f w ⊎ MapHolds (after_taking f p address) w) (either_alone f (after_taking f p address)) old new 2 1 target (set_address address) o.single result ordered.ends ordered.stages
       (λ sound. gives_address f target (set_address address) (same_setup (set_address address)) refl p at spare differ old result new ordered.stages (o.so sound));
 }
 
 -- Requests to a hub
 
-pub hub_feature_keeps : (hub : Target) (feature : ℕ) (old : World) (result : Result (Unit {0}) PipeFault) (new : World) → Ordered hub (clear_hub_feature feature) old result new → KeepsAddresses old new
+pub hub_feature_keeps : (hub : Target) (feature : ℕ) (old : World) (result : Result (Unit {0}) PipeFault) (new : World) → Commanded hub (clear_hub_feature feature) old result new → KeepsAddresses old new
 unfolding clear_hub_feature
 hub_feature_keeps hub feature old result new = ordered_keeps hub (clear_hub_feature feature) old result new refl refl
 
 -- Requests to a port of a hub
 
-pub cleared_keeps : (hub : Target) (feature port : ℕ) (old : World) (result : Result (Unit {0}) PipeFault) (new : World) → Ordered hub (clear_port_feature feature port) old result new → KeepsAddresses old new
+pub cleared_keeps : (hub : Target) (feature port : ℕ) (old : World) (result : Result (Unit {0}) PipeFault) (new : World) → Commanded hub (clear_port_feature feature port) old result new → KeepsAddresses old new
 unfolding clear_port_feature
 cleared_keeps hub feature port old result new = ordered_keeps hub (clear_port_feature feature port) old result new refl refl
 
-pub set_keeps : (hub : Target) (feature port : ℕ) (old : World) (result : Result (Unit {0}) PipeFault) (new : World) → feature ≢ PORT_RESET → Ordered hub (set_port_feature feature port) old result new → KeepsAddresses old new
+pub set_keeps : (hub : Target) (feature port : ℕ) (old : World) (result : Result (Unit {0}) PipeFault) (new : World) → feature ≢ PORT_RESET → Commanded hub (set_port_feature feature port) old result new → KeepsAddresses old new
 unfolding set_port_feature
 set_keeps hub feature port old result new other = ordered_keeps hub (set_port_feature feature port) old result new (rw (not_reset feature other) refl) refl
 
 -- what is not at a path nor below it is not claimed at 0, where 0 is claimed there alone
-reset_elsewhere : (f : Claims) (p : List ℕ) (w : World) → ((x : List ℕ) → f x ≡ Some 0 → is_way p x ≡ true) → Owned f w ⊎ Owned (after_reset f p) w
-    → (j : Spot) (s : State) → is_way p (path_to j) ≡ false → reach_on w.roots j ≡ true → state_on w.roots j ≡ Some s → address_of s ≢ 0
-reset_elsewhere f p w only (inl o) j s apart on there zero_is = no (sym apart ∙ only (path_to j) (sym (o.own (path_to j) on) ∙ ap (option_map address_of) there ∙ ap Some zero_is))
-reset_elsewhere f p w only (inr o) j s apart on there zero_is = no (sym apart ∙ only (path_to j) (sym (claim (same_path p (path_to j)) refl) ∙ sym (o.own (path_to j) on) ∙ ap (option_map address_of) there ∙ ap Some zero_is))
+reset_elsewhere : (f : AddressMap) (p : List ℕ) (w : World) → ((x : List ℕ) → f x ≡ Some 0 → is_way p x ≡ true) → MapHolds f w ⊎ MapHolds (after_reset f p) w
+    → (j : Location) (s : State) → is_way p (path_to j) ≡ false → reach_on w.roots j ≡ true → state_on w.roots j ≡ Some s → address_of s ≢ 0
+reset_elsewhere f p w only (inl o) j s apart on there zero_is = false_true (sym apart ∙ only (path_to j) (sym (o.own (path_to j) on) ∙ ap (option_map address_of) there ∙ ap Some zero_is))
+reset_elsewhere f p w only (inr o) j s apart on there zero_is = false_true (sym apart ∙ only (path_to j) (sym (claim (same_path p (path_to j)) refl) ∙ sym (o.own (path_to j) on) ∙ ap (option_map address_of) there ∙ ap Some zero_is))
   where
     claim : (b : Bool) → same_path p (path_to j) ≡ b → (if b then Some 0 else if is_way p (path_to j) then None else f (path_to j)) ≡ f (path_to j)
-    claim true e = no (sym apart ∙ same_way p (path_to j) e)
+    claim true e = false_true (sym apart ∙ is_way-same_path p (path_to j) e)
     claim false e = ap (λ b. if b then None else f (path_to j)) apart
 
-hub_resets : (hub : Target) (port : ℕ) (old : World) (result : Result (Unit {0}) PipeFault) (new : World) → Ordered hub (set_port_feature PORT_RESET port) old result new → Resets (External hub port) old new
+hub_resets : (hub : Target) (port : ℕ) (old : World) (result : Result (Unit {0}) PipeFault) (new : World) → Commanded hub (set_port_feature PORT_RESET port) old result new → Resets (External hub port) old new
 hub_resets hub port old result new ordered = record { resets = resets; others = others }
   where
-    resets : (f : Claims) (p : List ℕ) → IsBelow f hub.addr port p → ((x : List ℕ) → f x ≡ Some 0 → is_way p x ≡ true) → TillFault (Owned f) old → TillFault (λ w. Owned f w ⊎ Owned (after_reset f p) w) new
+    resets : (f : AddressMap) (p : List ℕ) → IsBelow f hub.addr port p → ((x : List ℕ) → f x ≡ Some 0 → is_way p x ≡ true) → WhileBusWorks (MapHolds f) old → WhileBusWorks (λ w. MapHolds f w ⊎ MapHolds (after_reset f p) w) new
     resets f p at only o =
-        subst (λ p. TillFault (λ w. Owned f w ⊎ Owned (after_reset f p) w) new) (sym at.path)
+        subst (λ p. WhileBusWorks (λ w. MapHolds f w ⊎ MapHolds (after_reset f p) w) new) (sym at.path)
         (reset_till hub 2 1 old new f at.hub port result at.held ordered.ends ordered.stages (λ x e. subst (λ p. is_way p x ≡ true) at.path (only x e)) o)
 
     -- the hub is above its port
-    named : (f : Claims) (p : List ℕ) → IsBelow f hub.addr port p → ((x : List ℕ) → f x ≡ Some 0 → is_way p x ≡ true) → hub.addr ≢ 0
-    named f p at only zero_is = no (sym (not_way at.hub port) ∙ subst (λ y. is_way y at.hub ≡ true) at.path (only at.hub (at.held ∙ ap Some zero_is)))
+    named : (f : AddressMap) (p : List ℕ) → IsBelow f hub.addr port p → ((x : List ℕ) → f x ≡ Some 0 → is_way p x ≡ true) → hub.addr ≢ 0
+    named f p at only zero_is = false_true (sym (not_way at.hub port) ∙ subst (λ y. is_way y at.hub ≡ true) at.path (only at.hub (at.held ∙ ap Some zero_is)))
 
-    others : (f : Claims) (p : List ℕ) → IsBelow f hub.addr port p → ((x : List ℕ) → f x ≡ Some 0 → is_way p x ≡ true) → TillFault (Owned f) old → new.fault ≡ None → EachElsewhere p StaysAs old new
+    others : (f : AddressMap) (p : List ℕ) → IsBelow f hub.addr port p → ((x : List ℕ) → f x ≡ Some 0 → is_way p x ≡ true) → WhileBusWorks (MapHolds f) old → new.fault ≡ None → EachElsewhere p StaysAs old new
     others f p at only o none j s apart on there =
         let after_it = resets f p at only o in
         reset_stays hub port old result new (named f p at only) ordered after_it.single j s on there (reset_elsewhere f p new only (after_it.so none) j s apart on there)
@@ -152,20 +152,20 @@ status_keeps port old result new number e read = rw e (root (rw e at read))
     root : PortRead (Root number) old result new → KeepsAsked (Root number) old result new
     root r = record {
       keeps = subst (λ w. KeepsAddresses old w) (sym r.same) (keeps_none old);
-      devices = subst (λ w. KeepsDevices old w) (sym r.same) (stays_none old);
+      devices = subst (λ w. KeepsDevices old w) (sym r.same) (keeps_devices_none old);
       bare = λ status told off. record {
-        bares = λ f p at o. subst (λ w. TillFault (Owned (claims_apart f p)) w) (sym r.same)
-            (subst (λ p. TillFault (Owned (claims_apart f p)) old) (sym at) (root_shut f number old (ap (λ s. s.enabled) (told_same (seen (root_port_at old number)) status result r.status told) ∙ off) o));
+        bares = λ f p at o. subst (λ w. WhileBusWorks (MapHolds (map_without f p)) w) (sym r.same)
+            (subst (λ p. WhileBusWorks (MapHolds (map_without f p)) old) (sym at) (root_shut f number old (ap (λ s. s.enabled) (told_same (seen (root_port_at old number)) status result r.status told) ∙ off) o));
       };
     }
 
-pub hub_status_keeps : (port : HubPort) (hub : Target) (number : ℕ) (old : World) (result : Result PortStatus PipeFault) (new : World) → port ≡ External hub number → Told status_in hub (get_port_status number) old result new → KeepsAddresses old new → KeepsAsked port old result new
+pub hub_status_keeps : (port : HubPort) (hub : Target) (number : ℕ) (old : World) (result : Result PortStatus PipeFault) (new : World) → port ≡ External hub number → ReadAs status_in hub (get_port_status number) old result new → KeepsAddresses old new → KeepsAsked port old result new
 hub_status_keeps port hub number old result new e told keeps = rw e (record {
   keeps = keeps;
-  devices = told_stays hub number old result new told;
+  devices = port_status_keeps hub number old result new told;
   bare = λ status is off.
-      told_bares (External hub number) status old new keeps
-      (hub_tells (External hub number) hub number old (Ok status) new refl (subst (λ r. Told status_in hub (get_port_status number) old r new) is told)) off;
+      port_told_bares (External hub number) status old new keeps
+      (hub_tells (External hub number) hub number old (Ok status) new refl (subst (λ r. ReadAs status_in hub (get_port_status number) old r new) is told)) off;
 })
 
 pub root_set_keeps : (port : HubPort) (number feature : ℕ) (old new : World) → port ≡ Root number → SetsRoot number feature old new → KeepsSet port feature old new
@@ -174,8 +174,8 @@ root_set_keeps port number feature old new e sets = rw e (record {
   devices = λ is. stays_quietly number old new (power_is_quiet number feature old new sets is);
   resets = λ is. record {
     resets = λ f p at only o.
-        subst (λ w. TillFault (λ w. Owned f w ⊎ Owned (after_reset f p) w) w) (sym (root_reset_is number feature old new sets is))
-        (subst (λ p. TillFault (λ w. Owned f w ⊎ Owned (after_reset f p) w) (after (root_call SetReset number) old)) (sym at)
+        subst (λ w. WhileBusWorks (λ w. MapHolds f w ⊎ MapHolds (after_reset f p) w) w) (sym (root_reset_is number feature old new sets is))
+        (subst (λ p. WhileBusWorks (λ w. MapHolds f w ⊎ MapHolds (after_reset f p) w) (after (root_call SetReset number) old)) (sym at)
         (root_resets number old f (λ x h. subst (λ p. is_way p x ≡ true) at (only x h)) o));
     others = λ f p at only o none.
         subst (λ w. EachElsewhere p StaysAs old w) (sym (root_reset_is number feature old new sets is))
@@ -184,11 +184,11 @@ root_set_keeps port number feature old new e sets = rw e (record {
 })
 
 pub hub_set_keeps : (port : HubPort) (hub : Target) (number feature : ℕ) (old : World) (result : Result (Unit {0}) PipeFault) (new : World) → port ≡ External hub number
-    → Ordered hub (set_port_feature feature number) old result new → KeepsSet port feature old new
+    → Commanded hub (set_port_feature feature number) old result new → KeepsSet port feature old new
 hub_set_keeps port hub number feature old result new e ordered = rw e (record {
   keeps = λ is. set_keeps hub feature number old result new (λ four. absurd (cc (is, four))) ordered;
   devices = λ is. set_stays hub feature number old result new (λ four. absurd (cc (is, four))) ordered;
-  resets = λ is. hub_resets hub number old result new (subst (λ n. Ordered hub (set_port_feature n number) old result new) is ordered);
+  resets = λ is. hub_resets hub number old result new (subst (λ n. Commanded hub (set_port_feature n number) old result new) is ordered);
 })
 
 pub root_clear_keeps_port : (port : HubPort) (number feature : ℕ) (old new : World) → port ≡ Root number → IsClearFeature feature → ClearsRoot number feature old new → KeepsCleared port feature old (Ok tt) new
@@ -201,12 +201,12 @@ root_clear_keeps_port port number feature old new e named clears = rw e (record 
 })
 
 pub hub_clear_keeps : (port : HubPort) (hub : Target) (number feature : ℕ) (old : World) (result : Result (Unit {0}) PipeFault) (new : World) → port ≡ External hub number
-    → Ordered hub (clear_port_feature feature number) old result new → KeepsCleared port feature old result new
+    → Commanded hub (clear_port_feature feature number) old result new → KeepsCleared port feature old result new
 hub_clear_keeps port hub number feature old result new e ordered = rw e (record {
   keeps = cleared_keeps hub feature number old result new ordered;
-  devices = cleared_stays hub feature number old result new ordered;
+  devices = clear_feature_keeps hub feature number old result new ordered;
   bare = λ is done.
       done_bares (External hub number) old new (cleared_keeps hub feature number old result new ordered)
       (hub_clears (External hub number) hub number PORT_ENABLE old (Ok tt) new refl refl
-      (subst (λ r. Ordered hub (clear_port_feature PORT_ENABLE number) old r new) done (subst (λ n. Ordered hub (clear_port_feature n number) old result new) is ordered)));
+      (subst (λ r. Commanded hub (clear_port_feature PORT_ENABLE number) old r new) done (subst (λ n. Commanded hub (clear_port_feature n number) old result new) is ordered)));
 })

@@ -9,21 +9,21 @@ use Rattle.usb_request.specs.declared.setup.Setup.{Setup}
 use Rattle.usb_port.specs.declared.call.PortCall.{PortCall}
 use Rattle.usb_port.specs.Calls.{set_call}
 use Rattle.usb_device.specs.Request.{Is}
-use Rattle.usb_device.specs.Tree.{Spot, path_to}
+use Rattle.usb_device.specs.Tree.{Location, path_to}
 use Rattle.usb_world.specs.declared.types.Attempt.{Attempt}
 use Rattle.usb_world.specs.declared.types.Outcome.{Outcome}
 use Rattle.usb_world.specs.Addresses.{is_setup}
 use Rattle.usb_world.specs.AttemptPackets.{IsSettled, NobodyHolds}
 use Rattle.usb_world.specs.OneHolder.{HolderIn, IsMade, IsSetup}
 use Rattle.usb_world.specs.PlanCourses.{AtPorts}
-use Rattle.usb_world.specs.Steps.{Course, Step, after, attempt, event, ready, report, root_call}
+use Rattle.usb_world.specs.Steps.{Course, Step, after, attempt, event, at_attempt, report, root_call}
 use Rattle.usb_world.specs.World.{World}
 use Rattle.usb_world.proofs.Interface.{Allows, course_joined, course_then, decided, holder_or_nobody, made_of, settled_wider}
 use Rattle.usb_backlog.specs.Marks.{CoversCall, Few, KeepsAll, KeepsBy, PortMark, is_marked}
 use Rattle.usb_backlog.proofs.Interface.{AttemptAllows, Covers, KeepsStep, data_allows, holder_allows, keeps-attempt, keeps-chain, keeps-unheard, payload_sets_none, request_sets_none, sets_none}
 use Rattle.usb_transaction.specs.declared.target.Target.{Target}
 use Rattle.usb_transaction.specs.Leaves.{AcceptedAt}
-use Rattle.usb_transaction.specs.Trail.{Trail}
+use Rattle.usb_transaction.specs.AttemptLog.{AttemptLog}
 use Rattle.usb_transaction.proofs.Interface.{trail_course}
 use Rattle.usb_device.specs.Rows.{State}
 use Rattle.usb_transaction.specs.Transactions.{setup_attempt}
@@ -32,7 +32,7 @@ use Rattle.usb_pipe.specs.Attempts.{IsOfTransfer}
 use Rattle.usb_pipe.specs.Leaves.{IsBehind, IsNoBusFault}
 use Rattle.usb_pipe.specs.Stages.{Reads, Writes}
 use Rattle.usb_pipe.proofs.Interface.{read_attempts, write_attempts}
-use Rattle.usb_address.proofs.Interface.{ClaimedAt, Follows, claimed_holder, same_setup, trail_with, unshared_after}
+use Rattle.usb_address.proofs.Interface.{ClaimedAt, KeepsClaim, claimed_holder, same_setup, trail_with, unshared_after}
 use Rattle.usb_hub.proofs.ActingCalls.{AsksFor}
 
 is_set_up : (t : Target) (request : Setup) → IsSetup (setup_attempt t (bytes_of request)) (bytes_of request)
@@ -71,7 +71,7 @@ module _ (m v r : PortMark) (few : Few v r) where
     request_keeps c = settled_wider request_step c
 
   -- a call at a port of the hub that holds the address
-  module _ (t : Target) (q : List ℕ) (i : ℕ) (request : Setup) (c : PortCall) (asked : AsksFor request c (suc i)) (covers : (x : Spot) → path_to x ≡ q → Covers m r x.row x.rest i c) where
+  module _ (t : Target) (q : List ℕ) (i : ℕ) (request : Setup) (c : PortCall) (asked : AsksFor request c (suc i)) (covers : (x : Location) → path_to x ≡ q → Covers m r x.row x.rest i c) where
     abbrev a : Attempt
     a = setup_attempt t (bytes_of request)
 
@@ -87,17 +87,17 @@ module _ (m v r : PortMark) (few : Few v r) where
     call_step : (w : World) → IsMade a w → ClaimedAt q t.addr w → KeepsStep m v r few (attempt a) w
     call_step w made claimed = pick (holder_or_nobody a w made (unshared_after claimed.claims a w claimed.owned))
       where
-        pick : HolderIn a w ⊎ NobodyHolds a.addr (ready w).roots → KeepsStep m v r few (attempt a) w
+        pick : HolderIn a w ⊎ NobodyHolds a.addr (at_attempt w).roots → KeepsStep m v r few (attempt a) w
         pick (inl x) = holder_keeps w x (claimed_holder q t.addr w claimed a refl x)
         pick (inr x) = λ ports. keeps-unheard m v r few a w ports made x
 
-    module _ (P : World → Type 0) (follows : Follows t request q P) where
-      pub call_keeps : {old mid new : World} {outcomes : List Outcome} → Trail a old outcomes mid → Course (IsBehind t) mid new → P old → AtPorts old.left → KeepsBy m v r old new
+    module _ (P : World → Type 0) (follows : KeepsClaim t request q P) where
+      pub call_keeps : {old mid new : World} {outcomes : List Outcome} → AttemptLog a old outcomes mid → Course (IsBehind t) mid new → P old → AtPorts old.left → KeepsBy m v r old new
       call_keeps {old} {mid} tr behind first ports =
           let x : P mid × Course (KeepsStep m v r few) old mid = trail_with P follows.onward (λ w made x. let k : ClaimedAt q t.addr w = follows.claimed w x in call_step w (made_of a w k.owned.settled made) k) tr first in
           keeps-chain m v r few ports (course_joined x.1 (behind_keeps t behind (follows.claimed mid x.0).owned.settled))
 
-      pub acted_keeps : {old mid : World} {outcomes : List Outcome} → Trail a old outcomes mid → IsMade a mid → P old → AtPorts old.left → KeepsBy m v r old (after (attempt a) mid)
+      pub acted_keeps : {old mid : World} {outcomes : List Outcome} → AttemptLog a old outcomes mid → IsMade a mid → P old → AtPorts old.left → KeepsBy m v r old (after (attempt a) mid)
       acted_keeps {old} {mid} tr there first ports =
           let x : P mid × Course (KeepsStep m v r few) old mid = trail_with P follows.onward (λ w made x. let k : ClaimedAt q t.addr w = follows.claimed w x in call_step w (made_of a w k.owned.settled made) k) tr first in
           keeps-chain m v r few ports (course_then (attempt a) x.1 (call_step mid there (follows.claimed mid x.0)))
@@ -108,7 +108,7 @@ pub rests_backlog : (t : Target) {w x : World} → Course (IsBehind t) w x → I
 rests_backlog t c settled = record { all = λ ports m v r few. keeps-chain m v r few ports (behind_keeps m v r few t c settled) }
 
 -- up to the moment at which a request was accepted that sets no feature of a port
-pub asked_backlog : (t : Target) (request : Setup) → Is request PORT_OUT SET_FEATURE ≡ false → {j : Spot} {s v : State} {old now : World} → AcceptedAt t (bytes_of request) old now j s v → IsSettled old.roots → KeepsAll old now
+pub asked_backlog : (t : Target) (request : Setup) → Is request PORT_OUT SET_FEATURE ≡ false → {j : Location} {s v : State} {old now : World} → AcceptedAt t (bytes_of request) old now j s v → IsSettled old.roots → KeepsAll old now
 asked_backlog t request plain {old} {now} at settled =
     subst (KeepsAll old) (sym at.last)
     (record {
@@ -126,8 +126,8 @@ read_plain request host = rw (other request.request_type PORT_OUT host (omega ar
     other : (n m : ℕ) → 128 ≤ n → m ≤ 127 → (n == m) ≡ false
     other n m far near = grind (arith, nat_tests, far, near)
 
-pub read_backlog : (t : Target) (request : Setup) (result : Result (Vec ℕ) PipeFault) (old new : World) → IsToHost request → IsSettled old.roots → Reads t request old result new → IsNoBusFault result → KeepsAll old new
-read_backlog t request result old new host settled reads sound =
+pub reads_backlog : (t : Target) (request : Setup) (result : Result (Vec ℕ) PipeFault) (old new : World) → IsToHost request → IsSettled old.roots → Reads t request old result new → IsNoBusFault result → KeepsAll old new
+reads_backlog t request result old new host settled reads sound =
     record { all = λ ports m v r few. keeps-chain m v r few ports (request_keeps m v r few t request (request_sets_none request (read_plain request host)) ((read_attempts t request result old new reads).whole sound) settled) }
 
 pub write_backlog : (t : Target) (request : Setup) (result : Result (Unit {0}) PipeFault) (old new : World) → IsSettled old.roots → Writes t request old result new → Is request PORT_OUT SET_FEATURE ≡ false → IsNoBusFault result → KeepsAll old new
@@ -135,7 +135,7 @@ write_backlog t request result old new settled writes plain sound =
     record { all = λ ports m v r few. keeps-chain m v r few ports (request_keeps m v r few t request (request_sets_none request plain) ((write_attempts t request result old new writes).whole sound) settled) }
 
 -- the covers of a call at a port, for whoever stands there
-pub holder_covers : (m r : PortMark) (q : List ℕ) (i : ℕ) (c : PortCall) → CoversCall m r (q ++ (suc i ∷ [])) c → (x : Spot) → path_to x ≡ q → Covers m r x.row x.rest i c
+pub holder_covers : (m r : PortMark) (q : List ℕ) (i : ℕ) (c : PortCall) → CoversCall m r (q ++ (suc i ∷ [])) c → (x : Location) → path_to x ≡ q → Covers m r x.row x.rest i c
 holder_covers m r q i c covers x same = record {
   power = λ g. subst (λ q. is_marked m (q ++ (suc i ∷ [])) ≡ true) (sym same) (covers.power g);
   reset = λ g. subst (λ q. is_marked r (q ++ (suc i ∷ [])) ≡ true) (sym same) (covers.reset g);

@@ -30,16 +30,16 @@ use Rattle.usb_transaction.specs.Failures.{Listens, NoThreeDamaged}
 use Rattle.usb_pipe.specs.declared.fault.PipeFault.{PipeFault}
 use Rattle.usb_pipe.specs.declared.fault.PipeFault.TheVariants.{Stalled, Busy, NoAnswer, Broken, Bus, Memory}
 use Rattle.usb_pipe.specs.Leaves.{IsNoBusFault, AnswerRead, WasRefused, ReadLeaves, WriteLeaves}
-use Rattle.usb_pipe.specs.Failures.{WhyRead, WhyWrite}
+use Rattle.usb_pipe.specs.Failures.{ControlReadFailure, WriteFailure}
 use Rattle.usb_pipe.proofs.Interface.{read_leaves, read_why, write_leaves, write_why}
-use Rattle.usb_address.proofs.Interface.{attempt_settled, below_of, less_one, port_below_at, same_setup}
+use Rattle.usb_address.proofs.Interface.{settled_attempt, place_ports, less_one, port_below_at, same_setup}
 use Rattle.usb_hub.specs.Addresses.{StaysAs}
-use Rattle.usb_hub.specs.Requests.{AskedData, Told, Ordered, said_in}
+use Rattle.usb_hub.specs.Requests.{Queried, ReadAs, Commanded, said_in}
 use Rattle.usb_hub.specs.declared.port.HubPort.TheVariants.{External}
-use Rattle.usb_hub.specs.CallFailures.{Serves, NoHubFailed}
+use Rattle.usb_hub.specs.CallFailures.{HubServes, NoHubFailed}
 use Rattle.usb_hub.proofs.ActingCalls.{AsksFor}
 use Rattle.usb_hub.proofs.Devices.{write_stays, stays-spec, stays-registers, called_of_port, IsOfPort}
-use Rattle.usb_hub.proofs.Statuses.{row_port, StatusOf, status_outcome, whole_status}
+use Rattle.usb_hub.proofs.Statuses.{row_port, StatusOf, get_port_status-outcome, whole_status}
 use Rattle.usb_hub.proofs.RestingRequests.{behind_asks_nothing, resting_course}
 
 pub same_port : (a b : Target) (m n : ℕ) → External a m ≡ External b n → (b ≡ a) × (n ≡ m)
@@ -57,7 +57,7 @@ served_port h g n least most some = rw (first g.configuration some, second 1 n l
     second a b h = grind (arith, nat_tests, h)
 
 -- what is so of the device before, which had the same description and registers
-module _ (t : Target) (number : ℕ) (new : World) (x : Serves t number new) (s : State) (stays : StaysAs x.spot s x.state) where
+module _ (t : Target) (number : ℕ) (new : World) (x : HubServes t number new) (s : State) (stays : StaysAs x.spot s x.state) where
   same_spec : x.state.spec ≡ s.spec
   same_spec = stays-spec s x.state stays
 
@@ -88,14 +88,14 @@ module _ (t : Target) (number : ℕ) (new : World) (x : Serves t number new) (s 
 no_refusal : (c : PortCall) (i : ℕ) (row : List PortState) (n : ℕ) → first_stage row n (called_at (Some c) (Some i)) ≡ refused → ⊥
 no_refusal c i row n e = cc e
 
-module _ (t : Target) (number : ℕ) (request : Setup) (c : PortCall) (asked : AsksFor request c number) (old new : World) (three : NoThreeDamaged old) (single : new.shared ≡ false) (x : Serves t number new) where
+module _ (t : Target) (number : ℕ) (request : Setup) (c : PortCall) (asked : AsksFor request c number) (old new : World) (three : NoThreeDamaged old) (single : new.shared ≡ false) (x : HubServes t number new) where
   spared : is_harmless request ≡ false → (t.addr ≢ 0) × (address_of x.state ≢ 0)
   spared h = (x.addressed, λ z. x.addressed (sym (equal_same (address_of x.state) t.addr x.listens.at) ∙ z))
 
   of_port : (spec : Spec) (g : Registers) → IsOfPort (outcome spec g request)
   of_port spec g = subst IsOfPort (sym (asked.calls spec g)) (called_of_port (Some c) (port_named spec.hub g number))
 
-  module _ (result : Result (Unit {0}) PipeFault) (ordered : Ordered t request old result new) where
+  module _ (result : Result (Unit {0}) PipeFault) (ordered : Commanded t request old result new) where
     left : Was (WriteLeaves t request result old new) old x.spot x.state
     left = write_leaves t request result old new asked.nothing asked.same ordered.settled ordered.stages single x.spot x.state x.on x.stands spared
 
@@ -105,12 +105,12 @@ module _ (t : Target) (number : ℕ) (request : Setup) (c : PortCall) (asked : A
     heard : Listens t x.spot left.before
     heard = listened t number new x left.before stayed
 
-    why : IsNoBusFault result → Was (WhyWrite t result) old x.spot x.state
+    why : IsNoBusFault result → Was (WriteFailure t result) old x.spot x.state
     why n = write_why t request result old new asked.nothing asked.same ordered.settled three ordered.stages n single x.spot x.state x.on x.stands spared
 
     -- it is the same device before
-    why_left : (n : IsNoBusFault result) → WhyWrite t result x.spot left.before x.state
-    why_left n = subst (λ s. WhyWrite t result x.spot s x.state) (same_Some (why n).before left.before (sym (why n).stands ∙ left.stands)) (why n).so
+    why_left : (n : IsNoBusFault result) → WriteFailure t result x.spot left.before x.state
+    why_left n = subst (λ s. WriteFailure t result x.spot s x.state) (same_Some (why n).before left.before (sym (why n).stands ∙ left.stands)) (why n).so
 
     not_refused : result ≡ Err Stalled → ⊥
     not_refused e =
@@ -119,7 +119,7 @@ module _ (t : Target) (number : ℕ) (request : Setup) (c : PortCall) (asked : A
         (subst (λ o. first_stage r.row request.length (called_at (Some c) o) ≡ refused) (was_named t number new x left.before stayed)
         (subst (λ o. first_stage r.row request.length o ≡ refused) (asked.calls left.before.spec left.before.registers) r.is))
 
-  pub call_served : (result : Result (Unit {0}) PipeFault) → Ordered t request old result new → NoHubFailed result
+  pub call_served : (result : Result (Unit {0}) PipeFault) → Commanded t request old result new → NoHubFailed result
   call_served (Ok u) ordered = tt
   call_served (Err Stalled) ordered = not_refused (Err Stalled) ordered refl
   call_served (Err Busy) ordered = (why_left (Err Busy) ordered tt).waited (heard (Err Busy) ordered) (was_idle t number new x (left (Err Busy) ordered).before (stayed (Err Busy) ordered))
@@ -131,9 +131,9 @@ module _ (t : Target) (number : ℕ) (request : Setup) (c : PortCall) (asked : A
 
 -- The status of a port
 
-four_bytes : (b : PortState) → length (status_of b) ≡ 4
+status_of-length : (b : PortState) → length (status_of b) ≡ 4
 unfolding status_of
-four_bytes b = refl
+status_of-length b = refl
 
 no_row : (row : List PortState) (i : ℕ) → first_stage row 4 (told_port (Some i)) ≡ refused → slice_get row i ≡ None
 no_row row i e = pick (slice_get row i) e
@@ -142,7 +142,7 @@ no_row row i e = pick (slice_get row i) e
     pick None e = refl
     pick (Some b) e = absurd (cc e)
 
-module _ (t : Target) (i : ℕ) (old new : World) (three : NoThreeDamaged old) (single : new.shared ≡ false) (most : 8 ≤ t.max) (x : Serves t (suc i) new) (b : PortState) (stood : port_there old.roots (path_to x.spot ++ (suc i ∷ [])) ≡ Some b) where
+module _ (t : Target) (i : ℕ) (old new : World) (three : NoThreeDamaged old) (single : new.shared ≡ false) (most : 8 ≤ t.max) (x : HubServes t (suc i) new) (b : PortState) (stood : port_there old.roots (path_to x.spot ++ (suc i ∷ [])) ≡ Some b) where
   abbrev request : Setup
   request = get_port_status (suc i)
 
@@ -168,7 +168,7 @@ module _ (t : Target) (i : ℕ) (old new : World) (three : NoThreeDamaged old) (
   unfolding get_port_status outcome
   asks_status spec g = refl
 
-  module _ (answer : Result (Vec ℕ) PipeFault) (asked : AskedData t request old answer new) where
+  module _ (answer : Result (Vec ℕ) PipeFault) (asked : Queried t request old answer new) where
     read : Was (ReadLeaves t request answer old new) old x.spot x.state
     read = read_leaves t request answer old new host some_bytes (same_setup request) asked.settled asked.stages single x.spot x.state x.on x.stands
 
@@ -178,11 +178,11 @@ module _ (t : Target) (i : ℕ) (old new : World) (three : NoThreeDamaged old) (
     read_heard : Listens t x.spot read.before
     read_heard = listened t (suc i) new x read.before read_stays
 
-    read_cause : IsNoBusFault answer → Was (WhyRead t request answer) old x.spot x.state
+    read_cause : IsNoBusFault answer → Was (ControlReadFailure t request answer) old x.spot x.state
     read_cause n = read_why t request answer old new most host some_bytes (same_setup request) asked.settled three asked.stages n single x.spot x.state x.on x.stands
 
-    cause_left : (n : IsNoBusFault answer) → WhyRead t request answer x.spot read.before x.state
-    cause_left n = subst (λ s. WhyRead t request answer x.spot s x.state) (same_Some (read_cause n).before read.before (sym (read_cause n).stands ∙ read.stands)) (read_cause n).so
+    cause_left : (n : IsNoBusFault answer) → ControlReadFailure t request answer x.spot read.before x.state
+    cause_left n = subst (λ s. ControlReadFailure t request answer x.spot s x.state) (same_Some (read_cause n).before read.before (sym (read_cause n).stands ∙ read.stands)) (read_cause n).so
 
     named_before : port_named read.before.spec.hub read.before.registers (suc i) ≡ Some i
     named_before = was_named t (suc i) new x read.before read_stays ∙ ap (λ n. Some n) (less_one i)
@@ -213,14 +213,14 @@ module _ (t : Target) (i : ℕ) (old new : World) (three : NoThreeDamaged old) (
         none : port_there now.roots (path_to x.spot ++ (suc i ∷ [])) ≡ None
         none =
             port_below_at now.roots x.spot.row x.spot.rest (suc i) []
-            ∙ ap (λ o. port_at (below_of o) i []) accepted_there.left
+            ∙ ap (λ o. port_at (place_ports o) i []) accepted_there.left
             ∙ ap (λ y. port_at (acted y accepted_there.holder.below) i []) effect
             ∙ row_port accepted_there.holder.below i
             ∙ ap (λ y. slice_get y i) (sym r.moment.accepts.had)
             ∙ missing
 
         now_settled : IsSettled now.roots
-        now_settled = subst (λ w. IsSettled w.roots) (sym accepted_there.last) (attempt_settled _ accepted_there.mid accepted_there.holder.made.settled)
+        now_settled = subst (λ w. IsSettled w.roots) (sym accepted_there.last) (settled_attempt _ accepted_there.mid accepted_there.holder.made.settled)
 
         now_on : reach_on now.roots x.spot ≡ true
         now_on = (same_device (path_to x.spot) (course_wider (λ s w k. k.rests) (behind_asks_nothing t (path_to x.spot) r.moment.since now_settled)) x.on).0
@@ -228,14 +228,14 @@ module _ (t : Target) (i : ℕ) (old new : World) (three : NoThreeDamaged old) (
         still : StillSet b (port_there now.roots ((path_to x.spot) ++ (suc i ∷ [])))
         still = course_bits (path_to x.spot) (suc i) (course_wider (λ s w k. k.leaves) (resting_course t request plain old now accepted_there ((path_to x.spot) ++ (suc i ∷ [])))) now_on b stood
 
-  told_status : (bytes : Vec ℕ) → AskedData t request old (Ok bytes) new → length bytes.items ≡ 4
-  told_status bytes asked = ap length came ∙ four_bytes status.port
+  told_status : (bytes : Vec ℕ) → Queried t request old (Ok bytes) new → length bytes.items ≡ 4
+  told_status bytes asked = ap length came ∙ status_of-length status.port
     where
       done : AnswerRead t request bytes.items old new x.spot (read (Ok bytes) asked).before x.state
       done = (read (Ok bytes) asked).so.done (read_heard (Ok bytes) asked).at bytes refl
 
       status : StatusOf done.row (suc i - 1) done.answer (effect_of_request (outcome (read (Ok bytes) asked).before.spec (read (Ok bytes) asked).before.registers request))
-      status = status_outcome _ _ done.row (suc i) done.answer (subst (λ n. first_stage done.row n (outcome (read (Ok bytes) asked).before.spec (read (Ok bytes) asked).before.registers request) ≡ reading done.answer n 0) length_is done.is)
+      status = get_port_status-outcome _ _ done.row (suc i) done.answer (subst (λ n. first_stage done.row n (outcome (read (Ok bytes) asked).before.spec (read (Ok bytes) asked).before.registers request) ≡ reading done.answer n 0) length_is done.is)
 
       came : bytes.items ≡ status_of status.port
       came = done.came (inr few_bytes) ∙ ap (λ n. take n done.answer) length_is ∙ ap (take 4) status.told ∙ whole_status status.port
@@ -243,7 +243,7 @@ module _ (t : Target) (i : ℕ) (old new : World) (three : NoThreeDamaged old) (
   same_four : (n : ℕ) → n ≡ 4 → (n == 4) ≡ true
   same_four n e = grind (arith, nat_tests, e)
 
-  answer_served : {A : Type 0} (says : List ℕ → A) (answer : Result (Vec ℕ) PipeFault) → AskedData t request old answer new → NoHubFailed (said_in says 4 answer)
+  answer_served : {A : Type 0} (says : List ℕ → A) (answer : Result (Vec ℕ) PipeFault) → Queried t request old answer new → NoHubFailed (said_in says 4 answer)
   answer_served says (Ok bytes) asked = rw (same_four (length bytes.items) (told_status bytes asked)) tt
   answer_served says (Err Stalled) asked = row_stands (Err Stalled) asked refl
   answer_served says (Err Busy) asked =
@@ -254,5 +254,5 @@ module _ (t : Target) (i : ℕ) (old new : World) (three : NoThreeDamaged old) (
   answer_served says (Err (Bus fault)) asked = tt
   answer_served says (Err Memory) asked = tt
 
-  pub status_served : {A : Type 0} (says : List ℕ → A) (result : Result A PipeFault) → Told says t request old result new → NoHubFailed result
+  pub status_served : {A : Type 0} (says : List ℕ → A) (result : Result A PipeFault) → ReadAs says t request old result new → NoHubFailed result
   status_served says result told = subst NoHubFailed (sym told.told) (subst (λ n. NoHubFailed (said_in says n told.answer)) (sym length_is) (answer_served says told.answer told.asked))

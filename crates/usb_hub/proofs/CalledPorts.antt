@@ -11,16 +11,16 @@ use Rattle.usb_device.specs.Rows.{State}
 use Rattle.usb_device.specs.View.{port_there, state_there}
 use Rattle.usb_world.specs.declared.event.Event.{Event}
 use Rattle.usb_world.specs.declared.types.Attempt.{Attempt}
-use Rattle.usb_world.specs.Courses.{spares_step, resets}
-use Rattle.usb_world.specs.Paths.{live, pend}
+use Rattle.usb_world.specs.Courses.{step_keeps_pending, resets}
+use Rattle.usb_world.specs.Paths.{has_power, pending}
 use Rattle.usb_world.specs.PlanCourses.{spec_of}
 use Rattle.usb_world.specs.PortRequests.{AsksNothing, leaves_step, row_reached}
-use Rattle.usb_world.specs.RestingPorts.{AsksNothingOf, SameAt, RestsOrPends, StandsOrPends}
-use Rattle.usb_world.specs.Steps.{Step, attempt, root_call, event, report, after, with_attempt, ready, due_from, took, is_due, Course, here, step}
-use Rattle.usb_world.specs.WayEffects.{spares}
+use Rattle.usb_world.specs.RestingPorts.{LeavesPortAlone, SameAt, UnchangedOrPending, SameDeviceOrPending}
+use Rattle.usb_world.specs.Steps.{Step, attempt, root_call, event, report, after, with_attempt, at_attempt, after_due_events, after_event, is_due, Course, here, step}
+use Rattle.usb_world.specs.WayEffects.{keeps_pending}
 use Rattle.usb_world.specs.World.{World}
-use Rattle.usb_world.proofs.Interface.{MadeOrNot, and_of, attempt_cases, both, course_wider, made_pend, made_sound, no, pending_persists, rests_or_pends, stands_or_pends}
-use Rattle.usb_hub.specs.Moments.{OnReachedRow, PortTold, met_by, ActsAt, PortDone}
+use Rattle.usb_world.proofs.Interface.{MadeOrNot, and_of, attempt_cases, both, course_wider, made_pend, made_sound, false_true, pending_persists, rests_or_pends, stands_or_pends}
+use Rattle.usb_hub.specs.Moments.{OnReachedRow, PortStatusAt, ports_at_step, ActsAt, PortCallDone}
 
 -- The port of a place
 
@@ -74,19 +74,19 @@ some_twice c (Some b) = ap (λ x. Some x) (called_twice c b)
 -- The events that are due come as steps that ask nothing
 
 event_asks_nothing : (p : List ℕ) (w : World) → AsksNothing event w p
-unfolding spares_step resets leaves_step
+unfolding step_keeps_pending resets leaves_step
 event_asks_nothing p w = record { spares = refl; rests = refl; leaves = refl }
 
-pub due_course : (p : List ℕ) (es : List Event) (w : World) → w.left ≡ es → w.fault ≡ None → Course (AsksNothingOf p) w (due_from es w)
-unfolding due_from took after
+pub due_course : (p : List ℕ) (es : List Event) (w : World) → w.left ≡ es → w.fault ≡ None → Course (LeavesPortAlone p) w (after_due_events es w)
+unfolding after_due_events after_event after
 due_course p [] w l f = here w
 due_course p (e ∷ es) w l f =
-    elim (is_due e w) as (λ b. Course (AsksNothingOf p) w (if b then due_from es (took e es w) else w)) [
-      | true ↦ step event (event_asks_nothing p w) (subst (λ v. Course (AsksNothingOf p) v (due_from es (took e es w))) (sym comes) (due_course p es (took e es w) refl f))
+    elim (is_due e w) as (λ b. Course (LeavesPortAlone p) w (if b then after_due_events es (after_event e es w) else w)) [
+      | true ↦ step event (event_asks_nothing p w) (subst (λ v. Course (LeavesPortAlone p) v (after_due_events es (after_event e es w))) (sym comes) (due_course p es (after_event e es w) refl f))
       | false ↦ here w
     ]
   where
-    comes : after event w ≡ took e es w
+    comes : after event w ≡ after_event e es w
     comes = rw (f, l) refl
 
 -- Over steps that are about the port
@@ -98,7 +98,7 @@ module _ (p : List ℕ) (c : PortCall) where
 
   -- powered on its whole way, with the same device or none, and so of its port; or pending
   abbrev pub StandsSo : (World → World → Type 0) → World → World → Type 0
-  StandsSo K w v = ((live v.roots p ≡ true) × K w v × (option_map spec_of (state_there v.roots p) ≡ option_map spec_of (state_there w.roots p))) ⊎ (pend v.roots p ≡ true)
+  StandsSo K w v = ((has_power v.roots p ≡ true) × K w v × (option_map spec_of (state_there v.roots p) ≡ option_map spec_of (state_there w.roots p))) ⊎ (pending v.roots p ≡ true)
 
   abbrev pub Called : World → World → Type 0
   Called w v = port_there v.roots p ≡ option_map (called_port c) (port_there w.roots p)
@@ -114,7 +114,7 @@ module _ (p : List ℕ) (c : PortCall) where
   called_then w m v (inr a) b = b ∙ ap (option_map (called_port c)) a ∙ some_twice c (port_there w.roots p)
 
   -- two worlds on
-  then_so : (K L M : World → World → Type 0) (w m v : World) → (K w m → L m v → M w v) → StandsSo K w m → (live m.roots p ≡ true → StandsSo L m v) → (pend m.roots p ≡ true → pend v.roots p ≡ true) → StandsSo M w v
+  then_so : (K L M : World → World → Type 0) (w m v : World) → (K w m → L m v → M w v) → StandsSo K w m → (has_power m.roots p ≡ true → StandsSo L m v) → (pending m.roots p ≡ true → pending v.roots p ≡ true) → StandsSo M w v
   then_so K L M w m v joins (inl x) on pending = pick (on x.0)
     where
       pick : StandsSo L m v → StandsSo M w v
@@ -124,26 +124,26 @@ module _ (p : List ℕ) (c : PortCall) where
 
   -- the port that a step's own change comes to is as it was; or a change is pending after the step; or it came to nothing
   data Met (s : Step) (w : World) : Type 0 where
-    same : port_there (met_by s w) p ≡ port_there w.roots p → Met s w
-    pends : pend (after s w).roots p ≡ true → Met s w
+    same : port_there (ports_at_step s w) p ≡ port_there w.roots p → Met s w
+    pends : pending (after s w).roots p ≡ true → Met s w
     nothing : (after s w).roots ≡ w.roots → Met s w
 
-  attempt_met : (a : Attempt) (w : World) → spares_step (attempt a) w p ≡ true → live w.roots p ≡ true → Met (attempt a) w
-  unfolding after spares_step ready
+  attempt_met : (a : Attempt) (w : World) → step_keeps_pending (attempt a) w p ≡ true → has_power w.roots p ≡ true → Met (attempt a) w
+  unfolding after step_keeps_pending at_attempt
   attempt_met a w sp on = cases (attempt_cases a w)
     where
-      made : w.fault ≡ None → after (attempt a) w ≡ with_attempt a (ready w) → Met (attempt a) w
+      made : w.fault ≡ None → after (attempt a) w ≡ with_attempt a (at_attempt w) → Met (attempt a) w
       made sound is = pick (rests_or_pends p (due_course p w.left w refl sound) on)
         where
-          pick : RestsOrPends w (ready w) p → Met (attempt a) w
+          pick : UnchangedOrPending w (at_attempt w) p → Met (attempt a) w
           pick (inl y) = same y.1.port
-          pick (inr y) = pends (subst (λ v. pend v.roots p ≡ true) (sym is) (made_pend a (ready w) p sp y))
+          pick (inr y) = pends (subst (λ v. pending v.roots p ≡ true) (sym is) (made_pend a (at_attempt w) p sp y))
 
       cases : MadeOrNot a w (after (attempt a) w) → Met (attempt a) w
       cases (inl e) = nothing (ap (λ v. v.roots) e)
       cases (inr m) = made (made_sound w m.0) m.1
 
-  step_met : (s : Step) (w : World) → spares_step s w p ≡ true → live w.roots p ≡ true → Met s w
+  step_met : (s : Step) (w : World) → step_keeps_pending s w p ≡ true → has_power w.roots p ≡ true → Met s w
   step_met (attempt a) w sp on = attempt_met a w sp on
   step_met (root_call d n) w sp on = same refl
   step_met event w sp on = same refl
@@ -153,63 +153,63 @@ module _ (p : List ℕ) (c : PortCall) where
   port_after : (s : Step) (w : World) (o : Option Place) → place (after s w).roots p ≡ o → port_there (after s w).roots p ≡ option_map port_of o
   port_after s w o e = port_of_place (after s w).roots p ∙ ap (option_map port_of) e
 
-  port_kept : (s : Step) (w : World) → ActsAt p c s w → port_there (met_by s w) p ≡ port_there w.roots p → KeptOrCalled w (after s w)
+  port_kept : (s : Step) (w : World) → ActsAt p c s w → port_there (ports_at_step s w) p ≡ port_there w.roots p → KeptOrCalled w (after s w)
   port_kept s w k e = pick k.port
     where
-      pick : (place (after s w).roots p ≡ place (met_by s w) p) ⊎ (place (after s w).roots p ≡ option_map (called c) (place (met_by s w) p)) → KeptOrCalled w (after s w)
-      pick (inl x) = inl (port_after s w _ x ∙ sym (port_of_place (met_by s w) p) ∙ e)
-      pick (inr x) = inr (port_after s w _ x ∙ port_of_called c (place (met_by s w) p) ∙ ap (option_map (called_port c)) (sym (port_of_place (met_by s w) p) ∙ e))
+      pick : (place (after s w).roots p ≡ place (ports_at_step s w) p) ⊎ (place (after s w).roots p ≡ option_map (called c) (place (ports_at_step s w) p)) → KeptOrCalled w (after s w)
+      pick (inl x) = inl (port_after s w _ x ∙ sym (port_of_place (ports_at_step s w) p) ∙ e)
+      pick (inr x) = inr (port_after s w _ x ∙ port_of_called c (place (ports_at_step s w) p) ∙ ap (option_map (called_port c)) (sym (port_of_place (ports_at_step s w) p) ∙ e))
 
-  module _ (keeps : spares c [] ≡ true) where
+  module _ (keeps : keeps_pending c [] ≡ true) where
     -- what one step leaves, where it says so of the port that it comes to
-    step_so : (K : World → World → Type 0) (s : Step) (w : World) → ActsAt p c s w → (port_there (met_by s w) p ≡ port_there w.roots p → K w (after s w)) → ((after s w).roots ≡ w.roots → K w (after s w))
-        → live w.roots p ≡ true → StandsSo K w (after s w)
+    step_so : (K : World → World → Type 0) (s : Step) (w : World) → ActsAt p c s w → (port_there (ports_at_step s w) p ≡ port_there w.roots p → K w (after s w)) → ((after s w).roots ≡ w.roots → K w (after s w))
+        → has_power w.roots p ≡ true → StandsSo K w (after s w)
     step_so K s w k there idle on = pick (stands_or_pends p (step s (k.about.spares keeps) (here (after s w))) on)
       where
-        by_met : live (after s w).roots p ≡ true → option_map spec_of (state_there (after s w).roots p) ≡ option_map spec_of (state_there w.roots p) → Met s w → StandsSo K w (after s w)
+        by_met : has_power (after s w).roots p ≡ true → option_map spec_of (state_there (after s w).roots p) ≡ option_map spec_of (state_there w.roots p) → Met s w → StandsSo K w (after s w)
         by_met l what (same e) = inl (l, there e, what)
         by_met l what (pends e) = inr e
         by_met l what (nothing e) = inl (l, idle e, what)
 
-        pick : StandsOrPends w (after s w) p → StandsSo K w (after s w)
+        pick : SameDeviceOrPending w (after s w) p → StandsSo K w (after s w)
         pick (inl x) = by_met x.0 x.1 (step_met s w (k.about.spares keeps) on)
         pick (inr x) = inr x
 
-    steps_so : {w v : World} → Course (ActsAt p c) w v → live w.roots p ≡ true → StandsSo KeptOrCalled w v
+    steps_so : {w v : World} → Course (ActsAt p c) w v → has_power w.roots p ≡ true → StandsSo KeptOrCalled w v
     steps_so (here w) on = inl (on, inl refl, refl)
     steps_so (step s {w} {v} k more) on =
         then_so KeptOrCalled KeptOrCalled KeptOrCalled w (after s w) v (kept_then w (after s w) v)
         (step_so KeptOrCalled s w k (port_kept s w k) (λ e. inl (ap (λ t. port_there t p) e)) on)
         (steps_so more) (pending_persists p (course_wider (λ s w x. x.about.spares keeps) more))
 
-    module _ (old new : World) (x : PortDone p c old new) where
+    module _ (old new : World) (x : PortCallDone p c old new) where
       -- the step that called it
-      last_called : port_there (after x.last x.before).roots p ≡ option_map (called_port c) (port_there (met_by x.last x.before) p)
-      last_called = port_after x.last x.before _ x.done ∙ port_of_called c (place (met_by x.last x.before) p) ∙ ap (option_map (called_port c)) (sym (port_of_place (met_by x.last x.before) p))
+      last_called : port_there (after x.last x.before).roots p ≡ option_map (called_port c) (port_there (ports_at_step x.last x.before) p)
+      last_called = port_after x.last x.before _ x.done ∙ port_of_called c (place (ports_at_step x.last x.before) p) ∙ ap (option_map (called_port c)) (sym (port_of_place (ports_at_step x.last x.before) p))
 
       -- where it came to nothing, it was called already
       idle_called : (after x.last x.before).roots ≡ x.before.roots → Called x.before (after x.last x.before)
       idle_called e =
-          last_called ∙ sym (some_twice c (port_there (met_by x.last x.before) p))
+          last_called ∙ sym (some_twice c (port_there (ports_at_step x.last x.before) p))
           ∙ ap (option_map (called_port c)) (sym last_called ∙ ap (λ t. port_there t p) e)
 
-      last_so : live x.before.roots p ≡ true → StandsSo Called x.before (after x.last x.before)
+      last_so : has_power x.before.roots p ≡ true → StandsSo Called x.before (after x.last x.before)
       last_so on = step_so Called x.last x.before x.acts (λ e. last_called ∙ ap (option_map (called_port c)) e) idle_called on
 
-      since_so : live (after x.last x.before).roots p ≡ true → StandsSo KeptOrCalled (after x.last x.before) new
+      since_so : has_power (after x.last x.before).roots p ≡ true → StandsSo KeptOrCalled (after x.last x.before) new
       since_so on = pick (rests_or_pends p (x.since p) on)
         where
-          pick : RestsOrPends (after x.last x.before) new p → StandsSo KeptOrCalled (after x.last x.before) new
+          pick : UnchangedOrPending (after x.last x.before) new p → StandsSo KeptOrCalled (after x.last x.before) new
           pick (inl y) = inl (y.0, inl y.1.port, y.1.what)
           pick (inr y) = inr y
 
-      now_called : live old.roots p ≡ true → StandsSo Called old (after x.last x.before)
+      now_called : has_power old.roots p ≡ true → StandsSo Called old (after x.last x.before)
       now_called on =
           then_so KeptOrCalled Called Called old x.before (after x.last x.before) (called_then old x.before (after x.last x.before))
           (steps_so x.repeats on) last_so (pending_persists p (step x.last (x.acts.about.spares keeps) (here (after x.last x.before))))
 
       -- a port that was powered on its whole way is so still, with the same device or none, and is what the call makes of it; or a change is pending
-      pub done_stands : live old.roots p ≡ true → StandsSo Called old new
+      pub done_stands : has_power old.roots p ≡ true → StandsSo Called old new
       done_stands on =
           then_so Called KeptOrCalled Called old (after x.last x.before) new called_on
           (now_called on) since_so (pending_persists p (course_wider (λ s w y. y.spares) (x.since p)))
@@ -220,16 +220,16 @@ module _ (p : List ℕ) (c : PortCall) where
 
 -- A port whose status was told: it is powered on its whole way, with the same device or none, and as it was told; or a change is pending
 abbrev pub StandsTold : List ℕ → PortState → World → World → Type 0
-StandsTold p b w v = ((live v.roots p ≡ true) × (port_there v.roots p ≡ Some b) × (option_map spec_of (state_there v.roots p) ≡ option_map spec_of (state_there w.roots p))) ⊎ (pend v.roots p ≡ true)
+StandsTold p b w v = ((has_power v.roots p ≡ true) × (port_there v.roots p ≡ Some b) × (option_map spec_of (state_there v.roots p) ≡ option_map spec_of (state_there w.roots p))) ⊎ (pending v.roots p ≡ true)
 
-pub told_stands : (p : List ℕ) (status : PortStatus) (old new : World) (x : PortTold p status old new) → live old.roots p ≡ true → StandsTold p x.port old new
+pub told_stands : (p : List ℕ) (status : PortStatus) (old new : World) (x : PortStatusAt p status old new) → has_power old.roots p ≡ true → StandsTold p x.port old new
 told_stands p status old new x on = first (rests_or_pends p (x.before p) on)
   where
-    second : SameAt old.roots x.now.roots p → RestsOrPends x.now new p → StandsTold p x.port old new
+    second : SameAt old.roots x.now.roots p → UnchangedOrPending x.now new p → StandsTold p x.port old new
     second a (inl y) = inl (y.0, y.1.port ∙ x.stood, y.1.what ∙ a.what)
     second a (inr y) = inr y
 
-    first : RestsOrPends old x.now p → StandsTold p x.port old new
+    first : UnchangedOrPending old x.now p → StandsTold p x.port old new
     first (inl y) = second y.1 (rests_or_pends p (x.since p) y.0)
     first (inr y) = inr (pending_persists p (course_wider (λ s w k. k.spares) (x.since p)) y)
 
@@ -246,12 +246,12 @@ enabled_row (taken c t a k) (suc m) b s there e at = enabled_row k m b s there e
 enabled_below : (k : Ports) (j : ℕ) (e : List ℕ) (n : ℕ) (b : PortState) (s : State) → reach_at k j e ≡ true → port_at k j (e ++ (n ∷ [])) ≡ Some b → b.enable ≡ true → state_at k j (e ++ (n ∷ [])) ≡ Some s
     → reach_at k j (e ++ (n ∷ [])) ≡ true
 unfolding port_at state_at reach_at
-enabled_below ended j e n b s on there h at = no on
-enabled_below (vacant c k) zero e n b s on there h at = no on
+enabled_below ended j e n b s on there h at = false_true on
+enabled_below (vacant c k) zero e n b s on there h at = false_true on
 enabled_below (vacant c k) (suc j) e n b s on there h at = enabled_below k j e n b s on there h at
 enabled_below (taken c t a k) zero [] zero b s on there h at = absurd (cc at)
 enabled_below (taken c t a k) zero [] (suc m) b s on there h at = and_of c.enable (reach_at a m []) on (enabled_row a m b s there h at)
-enabled_below (taken c t a k) zero (zero ∷ e) n b s on there h at = no on
+enabled_below (taken c t a k) zero (zero ∷ e) n b s on there h at = false_true on
 enabled_below (taken c t a k) zero (suc i ∷ e) n b s on there h at =
     let x : _ = both c.enable (reach_at a i e) on in and_of c.enable (reach_at a i (e ++ (n ∷ []))) x.0 (enabled_below a i e n b s x.1 there h at)
 enabled_below (taken c t a k) (suc j) e n b s on there h at = enabled_below k j e n b s on there h at
@@ -264,5 +264,5 @@ enabled_reach w p row b there h s at =
     by_row : (q : List ℕ) (n : ℕ) → row_reached w.roots q ≡ true → port_there w.roots (q ++ (n ∷ [])) ≡ Some b → state_there w.roots (q ++ (n ∷ [])) ≡ Some s → reach w.roots (q ++ (n ∷ [])) ≡ true
     by_row [] zero on there at = absurd (cc at)
     by_row [] (suc i) on there at = enabled_row w.roots i b s there h at
-    by_row (zero ∷ e) n on there at = no on
+    by_row (zero ∷ e) n on there at = false_true on
     by_row (suc j ∷ e) n on there at = enabled_below w.roots j e n b s on there h at

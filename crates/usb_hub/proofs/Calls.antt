@@ -14,28 +14,28 @@ use Rattle.usb_device.specs.Effect.{effect_of_request, asked_by_setup}
 use Rattle.usb_device.specs.Request.{outcome, port_named, called_at}
 use Rattle.usb_device.specs.Rows.{State}
 use Rattle.usb_device.specs.Transfer.{first_stage, ending}
-use Rattle.usb_device.specs.Tree.{called, acted, place, place_at, reach, Spot, path_to, reach_on, state_on, place_on}
+use Rattle.usb_device.specs.Tree.{called, acted, place, place_at, reach, Location, path_to, reach_on, state_on, place_on}
 use Rattle.usb_device.specs.View.{state_there}
 use Rattle.usb_world.specs.declared.types.Attempt.{Attempt}
 use Rattle.usb_world.specs.declared.types.BusFault.{BusFault}
 use Rattle.usb_world.specs.declared.types.Outcome.{Outcome}
-use Rattle.usb_world.specs.Courses.{Spares, is_harmless}
+use Rattle.usb_world.specs.Courses.{KeepsPendingAt, is_harmless}
 use Rattle.usb_world.specs.Devices.{Was}
 use Rattle.usb_world.specs.Paths.{address_of, is_way}
 use Rattle.usb_world.specs.AttemptPackets.{IsSettled}
 use Rattle.usb_world.specs.PortRequests.{is_sparing}
-use Rattle.usb_world.specs.RestingPorts.{AsksNothingOf}
-use Rattle.usb_world.specs.Steps.{Step, attempt, root_call, after, ready, Course, here, step as step_then, AttemptFails, SetsRoot, ClearsRoot}
-use Rattle.usb_world.specs.WayEffects.{spares}
+use Rattle.usb_world.specs.RestingPorts.{LeavesPortAlone}
+use Rattle.usb_world.specs.Steps.{Step, attempt, root_call, after, at_attempt, Course, here, step as step_then, AttemptFails, SetsRoot, ClearsRoot}
+use Rattle.usb_world.specs.WayEffects.{keeps_pending}
 use Rattle.usb_world.specs.World.{World, Attempted}
-use Rattle.usb_world.proofs.Interface.{and_of, course_joined, course_wider, decided, equal_same, made_of, no, or_right, same_is, settled_wider}
+use Rattle.usb_world.proofs.Interface.{and_of, course_joined, course_wider, decided, equal_same, made_of, false_true, or_right, same_is, settled_wider}
 use Rattle.usb_transaction.specs.declared.target.Target.{Target}
 use Rattle.usb_transaction.specs.declared.fault.TransFault.{TransFault}
 use Rattle.usb_transaction.specs.declared.fault.TransFault.TheVariants as trans
 use Rattle.usb_transaction.specs.Answerer.{Answerer}
 use Rattle.usb_transaction.specs.Leaves.{is_at, AcceptedAt}
-use Rattle.usb_transaction.specs.Trail.{Trail, start, Transacted}
-use Rattle.usb_transaction.specs.Transactions.{in_attempt, setup_attempt, Worked}
+use Rattle.usb_transaction.specs.AttemptLog.{AttemptLog, start, Transacted}
+use Rattle.usb_transaction.specs.Transactions.{in_attempt, setup_attempt, AttemptsMade}
 use Rattle.usb_transaction.proofs.Interface.{trail_course}
 use Rattle.usb_pipe.specs.declared.fault.PipeFault.{PipeFault}
 use Rattle.usb_pipe.specs.declared.fault.PipeFault.TheVariants.{Stalled, Busy, NoAnswer, Broken, Bus, Memory}
@@ -43,14 +43,14 @@ use Rattle.usb_pipe.specs.Control.{as_pipe_fault, FaultAfter}
 use Rattle.usb_pipe.specs.Stages.{SetUp, Writes}
 use Rattle.usb_pipe.specs.Leaves.{IsBehind, IsNoBusFault, EffectDone, WriteLeaves}
 use Rattle.usb_pipe.proofs.Interface.{who_writes, write_attempts, write_leaves}
-use Rattle.usb_address.specs.Claims.{Claims}
+use Rattle.usb_address.specs.Claims.{AddressMap}
 use Rattle.usb_address.specs.Leaves.{LeavesPipe}
-use Rattle.usb_address.specs.Ownership.{Owned, TillFault}
-use Rattle.usb_address.proofs.Interface.{ClaimedAt, Fits, Follows, Resets, attempt_settled, below_of, claimed_path, held_of, less_one, named, no_path, no_root, quiet_follows, reset_follows, resets_leave, same_setup, some, trail_sound, trail_with, writes_leave}
+use Rattle.usb_address.specs.Ownership.{MapHolds, WhileBusWorks}
+use Rattle.usb_address.proofs.Interface.{ClaimedAt, Fits, KeepsClaim, Resets, settled_attempt, place_ports, claimed_path, held_of, less_one, port_named-cases, is_path-empty, no_root, quiet_follows, reset_follows, resets_leave, same_setup, some, trail_sound, trail_with, writes_leave}
 use Rattle.usb_hub.specs.Addresses.{IsBelow}
-use Rattle.usb_hub.specs.Moments.{IsAbout, UpToFault, ActsAt, PortDone, CallsPort}
-use Rattle.usb_hub.specs.Requests.{AllRest, Ordered}
-use Rattle.usb_hub.specs.CallFailures.{Serves}
+use Rattle.usb_hub.specs.Moments.{IsAbout, UpToFault, ActsAt, PortCallDone, CommandsPort}
+use Rattle.usb_hub.specs.Requests.{TouchesNoPort, Commanded}
+use Rattle.usb_hub.specs.CallFailures.{HubServes}
 use Rattle.usb_hub.specs.declared.port.HubPort.{HubPort}
 use Rattle.usb_hub.specs.declared.port.HubPort.TheVariants.{Root, External}
 use Rattle.usb_hub.proofs.ActingCalls.{place_below, place_called, AsksFor, attempt_acts, root_acts, root_acted}
@@ -70,19 +70,19 @@ use Rattle.usb_port.proofs.Interface.{call_is}
 pub record Sent (t : Target) (request : Setup) (old new : World) : Type 0 where
   pub mid : World
   pub outcomes : List Outcome
-  pub trail : Trail (setup_attempt t (bytes_of request)) old outcomes mid
+  pub trail : AttemptLog (setup_attempt t (bytes_of request)) old outcomes mid
   pub behind : Course (IsBehind t) mid new
 
-pub sent_of : (t : Target) (request : Setup) (old : World) (result : Result (Unit {0}) PipeFault) (new : World) → IsNoBusFault result → Writes t request old result new → Sent t request old new
-sent_of t request old (Ok u) new n x = record { mid = x.mid; outcomes = x.set_up.last ∷ x.set_up.outcomes; trail = x.set_up.trail; behind = trail_course (λ w made. inl refl) x.status.trail }
-sent_of t request old (Err why) new n (inl x) = no_set_up x.fault x.told x.set_up
+pub writes_sent : (t : Target) (request : Setup) (old : World) (result : Result (Unit {0}) PipeFault) (new : World) → IsNoBusFault result → Writes t request old result new → Sent t request old new
+writes_sent t request old (Ok u) new n x = record { mid = x.mid; outcomes = x.set_up.last ∷ x.set_up.outcomes; trail = x.set_up.trail; behind = trail_course (λ w made. inl refl) x.status.trail }
+writes_sent t request old (Err why) new n (inl x) = no_set_up x.fault x.told x.set_up
   where
     no_set_up : (fault : TransFault) → why ≡ as_pipe_fault fault → SetUp t request old (Err fault) new → Sent t request old new
     no_set_up trans.Stalled e x = record { mid = new; outcomes = x.last ∷ x.outcomes; trail = x.trail; behind = here new }
     no_set_up trans.Busy e x = record { mid = new; outcomes = x.last ∷ x.outcomes; trail = x.trail; behind = here new }
     no_set_up trans.NoAnswer e x = record { mid = new; outcomes = x.last ∷ x.outcomes; trail = x.trail; behind = here new }
     no_set_up (trans.Bus fault) e x = absurd (subst (λ y. IsNoBusFault {A = Unit {0}} (Err y)) e n)
-sent_of t request old (Err why) new n (inr x) = record { mid = x.mid; outcomes = x.set_up.last ∷ x.set_up.outcomes; trail = x.set_up.trail; behind = no_status _ x.fault x.told x.status }
+writes_sent t request old (Err why) new n (inr x) = record { mid = x.mid; outcomes = x.set_up.last ∷ x.set_up.outcomes; trail = x.set_up.trail; behind = no_status _ x.fault x.told x.status }
   where
     no_status : (hear : _) (fault : TransFault) → why ≡ as_pipe_fault fault → Transacted hear (in_attempt t 0) x.mid (Err fault) new → Course (IsBehind t) x.mid new
     no_status hear trans.Stalled e x = trail_course (λ w made. inl refl) x.trail
@@ -94,15 +94,15 @@ sent_of t request old (Err why) new n (inr x) = record { mid = x.mid; outcomes =
 record SentUpTo (t : Target) (request : Setup) (old : World) (fault : BusFault) (new : World) : Type 0 where
   mid : World
   outcomes : List Outcome
-  trail : Trail (setup_attempt t (bytes_of request)) old outcomes mid
+  trail : AttemptLog (setup_attempt t (bytes_of request)) old outcomes mid
   cut : World
   behind : Course (IsBehind t) mid cut
   last : Attempt
   refused : Attempted last cut (Err fault) new
   fails : cut.fault ≡ None → AttemptFails last cut (Err fault) new
 
-same_fault : (f g : BusFault) → Bus f ≡ as_pipe_fault (trans.Bus g) → g ≡ f
-same_fault f g e = cc e
+bus_fault_is : (f g : BusFault) → Bus f ≡ as_pipe_fault (trans.Bus g) → g ≡ f
+bus_fault_is f g e = cc e
 
 sent_up_to : (t : Target) (request : Setup) (old : World) (fault : BusFault) (new : World) → Writes t request old (Err (Bus fault)) new → SentUpTo t request old fault new
 sent_up_to t request old fault new (inl x) = no_set_up x.fault x.told x.set_up
@@ -112,7 +112,7 @@ sent_up_to t request old fault new (inl x) = no_set_up x.fault x.told x.set_up
     no_set_up trans.Busy e x = absurd (cc e)
     no_set_up trans.NoAnswer e x = absurd (cc e)
     no_set_up (trans.Bus g) e x =
-        subst (λ f. SentUpTo t request old f new) (same_fault fault g e)
+        subst (λ f. SentUpTo t request old f new) (bus_fault_is fault g e)
         (record { mid = x.mid; outcomes = x.outcomes; trail = x.trail; cut = x.mid; behind = here x.mid; last = setup_attempt t (bytes_of request); refused = x.refused; fails = x.fails })
 sent_up_to t request old fault new (inr x) = no_status _ x.fault x.told x.status
   where
@@ -121,7 +121,7 @@ sent_up_to t request old fault new (inr x) = no_status _ x.fault x.told x.status
     no_status hear trans.Busy e y = absurd (cc e)
     no_status hear trans.NoAnswer e y = absurd (cc e)
     no_status hear (trans.Bus g) e y =
-        subst (λ f. SentUpTo t request old f new) (same_fault fault g e)
+        subst (λ f. SentUpTo t request old f new) (bus_fault_is fault g e)
         (record {
           mid = x.mid;
           outcomes = x.set_up.last ∷ x.set_up.outcomes;
@@ -149,39 +149,39 @@ port_is_named c None n row address x h = absurd (cc h)
 port_is_named c (Some m) n row address (inl x) h = absurd (cc x)
 port_is_named c (Some m) n row address (inr x) h = x
 
-module _ (t : Target) (j : Spot) (i : ℕ) (request : Setup) (c : PortCall) (asked : AsksFor request c (suc i)) (P : World → Type 0) (follows : Follows t request (path_to j) P) where
+module _ (t : Target) (j : Location) (i : ℕ) (request : Setup) (c : PortCall) (asked : AsksFor request c (suc i)) (P : World → Type 0) (follows : KeepsClaim t request (path_to j) P) where
   abbrev a : Attempt
   a = setup_attempt t (bytes_of request)
 
   abbrev p : List ℕ
   p = path_to j ++ (suc i ∷ [])
 
-  acting : {old new : World} {outcomes : List Outcome} → Trail a old outcomes new → P old → P new × Course (ActsAt p c) old new
+  acting : {old new : World} {outcomes : List Outcome} → AttemptLog a old outcomes new → P old → P new × Course (ActsAt p c) old new
   acting tr first =
       trail_with P follows.onward (λ w made x. let k : ClaimedAt (path_to j) t.addr w = follows.claimed w x in attempt_acts t j i request c asked w (made_of a w k.owned.settled made) k) tr first
 
   module _ (old : World) (result : Result (Unit {0}) PipeFault) (new : World) (n : IsNoBusFault result) (stages : Writes t request old result new) (first : P old) where
     sent : Sent t request old new
-    sent = sent_of t request old result new n stages
+    sent = writes_sent t request old result new n stages
 
     at_work : P sent.mid × Course (ActsAt p c) old sent.mid
     at_work = acting sent.trail first
 
-    rests_behind : AllRest sent.mid new
+    rests_behind : TouchesNoPort sent.mid new
     rests_behind x = behind_asks_nothing t x sent.behind (follows.claimed sent.mid at_work.0).owned.settled
 
-    pub hub_rests : (x : List ℕ) → is_way p x ≡ false → Course (AsksNothingOf x) old new
+    pub hub_rests : (x : List ℕ) → is_way p x ≡ false → Course (LeavesPortAlone x) old new
     hub_rests x d = course_joined (course_wider (λ s w k. k.about.others x d) at_work.1) (rests_behind x)
 
-    pub hub_spares : spares c [] ≡ true → Course (Spares p) old new
+    pub hub_spares : keeps_pending c [] ≡ true → Course (KeepsPendingAt p) old new
     hub_spares h = course_joined (course_wider (λ s w k. k.about.spares h) at_work.1) (course_wider (λ s w k. k.spares) (rests_behind p))
 
-  pub hub_about : {old mid cut : World} {outcomes : List Outcome} → Trail a old outcomes mid → Course (IsBehind t) mid cut → P old → Course (IsAbout p c) old cut
+  pub hub_about : {old mid cut : World} {outcomes : List Outcome} → AttemptLog a old outcomes mid → Course (IsBehind t) mid cut → P old → Course (IsAbout p c) old cut
   hub_about {old} {mid} {cut} tr behind first =
       let x : P mid × Course (ActsAt p c) old mid = acting tr first in
       course_joined (course_wider (λ s w k. k.about) x.1) (behind_about t p c behind (follows.claimed mid x.0).owned.settled)
 
-  module _ (old new : World) (ordered : Ordered t request old (Ok tt) new) (first : P old) (last : P new) (addressed : is_harmless request ≡ false → t.addr ≢ 0) where
+  module _ (old new : World) (ordered : Commanded t request old (Ok tt) new) (first : P old) (last : P new) (addressed : is_harmless request ≡ false → t.addr ≢ 0) where
     before : ClaimedAt (path_to j) t.addr old
     before = follows.claimed old first
 
@@ -223,7 +223,7 @@ module _ (t : Target) (j : Spot) (i : ℕ) (request : Setup) (c : PortCall) (ask
     is_named : port_named was.before.spec.hub was.before.registers (suc i) ≡ Some i
     is_named =
         port_is_named c (port_named was.before.spec.hub was.before.registers (suc i)) i done.row done.address
-        (subst (λ m. (port_named was.before.spec.hub was.before.registers (suc i) ≡ None) ⊎ (port_named was.before.spec.hub was.before.registers (suc i) ≡ Some m)) (less_one i) (named was.before.spec.hub was.before.registers (suc i)))
+        (subst (λ m. (port_named was.before.spec.hub was.before.registers (suc i) ≡ None) ⊎ (port_named was.before.spec.hub was.before.registers (suc i) ≡ Some m)) (less_one i) (port_named-cases was.before.spec.hub was.before.registers (suc i)))
         (subst (λ o. first_stage done.row 0 o ≡ ending done.address) (asked.calls was.before.spec was.before.registers)
         (subst (λ n. first_stage done.row n (outcome was.before.spec was.before.registers request) ≡ ending done.address) asked.nothing done.is))
 
@@ -240,16 +240,16 @@ module _ (t : Target) (j : Spot) (i : ℕ) (request : Setup) (c : PortCall) (ask
     repeated : P mid × Course (ActsAt p c) old mid
     repeated = acting accepted_there.trail first
 
-    acted_there : place (after (attempt a) mid).roots p ≡ option_map (called c) (place (ready mid).roots p)
+    acted_there : place (after (attempt a) mid).roots p ≡ option_map (called c) (place (at_attempt mid).roots p)
     acted_there =
         ap (λ w. place w.roots p) (sym accepted_there.last)
         ∙ place_below now.roots j.row j.rest i []
-        ∙ ap (λ o. place_at (below_of o) i []) accepted_there.left
+        ∙ ap (λ o. place_at (place_ports o) i []) accepted_there.left
         ∙ ap (λ x. place_at (acted x accepted_there.holder.below) i []) effect
         ∙ place_called c accepted_there.holder.below i
-        ∙ ap (option_map (called c)) (sym (place_below (ready mid).roots j.row j.rest i [] ∙ ap (λ o. place_at (below_of o) i []) (ap (place_on (ready mid).roots) (sym accepted_there.there) ∙ accepted_there.holder.stands)))
+        ∙ ap (option_map (called c)) (sym (place_below (at_attempt mid).roots j.row j.rest i [] ∙ ap (λ o. place_at (place_ports o) i []) (ap (place_on (at_attempt mid).roots) (sym accepted_there.there) ∙ accepted_there.holder.stands)))
 
-    pub hub_done : PortDone p c old new
+    pub hub_done : PortCallDone p c old new
     hub_done = record {
       before = mid;
       repeats = repeated.1;
@@ -257,11 +257,11 @@ module _ (t : Target) (j : Spot) (i : ℕ) (request : Setup) (c : PortCall) (ask
       acts = attempt_acts t j i request c asked mid accepted_there.holder.made (follows.claimed mid repeated.0);
       done = acted_there;
       since = λ x.
-          subst (λ w. Course (AsksNothingOf x) w new) accepted_there.last
-          (behind_asks_nothing t x done.moment.since (subst (λ w. IsSettled w.roots) (sym accepted_there.last) (attempt_settled a mid accepted_there.holder.made.settled)));
+          subst (λ w. Course (LeavesPortAlone x) w new) accepted_there.last
+          (behind_asks_nothing t x done.moment.since (subst (λ w. IsSettled w.roots) (sym accepted_there.last) (settled_attempt a mid accepted_there.holder.made.settled)));
       row = record { parent = path_to j; number = suc i; is = refl; reached = on };
       acted = record { covered = λ ports m v r few covers. acted_keeps m v r few t (path_to j) i request c asked (holder_covers m r (path_to j) i c covers) P follows accepted_there.trail accepted_there.holder.made first ports };
-      rested = subst (λ w. KeepsAll w new) accepted_there.last (rests_backlog t done.moment.since (subst (λ w. IsSettled w.roots) (sym accepted_there.last) (attempt_settled a mid accepted_there.holder.made.settled)));
+      rested = subst (λ w. KeepsAll w new) accepted_there.last (rests_backlog t done.moment.since (subst (λ w. IsSettled w.roots) (sym accepted_there.last) (settled_attempt a mid accepted_there.holder.made.settled)));
     }
 
 -- Which requests these are
@@ -290,7 +290,7 @@ module _ (n : ℕ) (c : PortCall) where
     sets = λ h. is;
   }
 
-  clear_sparing : (feature : ℕ) → IsClearFeature feature → clear_call feature ≡ Some c → spares c [] ≡ true → is_sparing (clear_port_feature feature n) ≡ true
+  clear_sparing : (feature : ℕ) → IsClearFeature feature → clear_call feature ≡ Some c → keeps_pending c [] ≡ true → is_sparing (clear_port_feature feature n) ≡ true
   unfolding clear_port_feature
   clear_sparing feature named is h = grind arith
 
@@ -312,22 +312,22 @@ module _ (n : ℕ) (c : PortCall) where
 
 record Route (t : Target) (request : Setup) (q : List ℕ) (old : World) : Type 1 where
   P : World → Type 0
-  follows : Follows t request q P
+  follows : KeepsClaim t request q P
   first : P old
   leaves : (result : Result (Unit {0}) PipeFault) (new : World) → Writes t request old result new → LeavesPipe P result new
   addressed : is_harmless request ≡ false → t.addr ≢ 0
 
-route : (f : Claims) (t : Target) (q : List ℕ) (n : ℕ) (request : Setup) (c : PortCall) (asked : AsksFor request c n) (old : World) → f q ≡ Some t.addr
-    → (is_reset c ≡ true → (x : List ℕ) → f x ≡ Some 0 → is_way (q ++ (n ∷ [])) x ≡ true) → Owned f old → Route t request q old
+route : (f : AddressMap) (t : Target) (q : List ℕ) (n : ℕ) (request : Setup) (c : PortCall) (asked : AsksFor request c n) (old : World) → f q ≡ Some t.addr
+    → (is_reset c ≡ true → (x : List ℕ) → f x ≡ Some 0 → is_way (q ++ (n ∷ [])) x ≡ true) → MapHolds f old → Route t request q old
 route f t q n request c asked old held alone own = pick (decided (is_reset c))
   where
     pick : (is_reset c ≡ true) ⊎ (is_reset c ≡ false) → Route t request q old
     pick (inr quiet) = record {
-      P = Owned f;
+      P = MapHolds f;
       follows = quiet_follows t request asked.same f q (asked.harmless quiet) held;
       first = own;
       leaves = λ result new writes. writes_leave f t request asked.same (asked.harmless quiet) asked.other old result new writes own;
-      addressed = λ h. no (sym h ∙ asked.harmless quiet);
+      addressed = λ h. false_true (sym h ∙ asked.harmless quiet);
     }
     pick (inl reset) =
         let distinct : (x : List ℕ) → f x ≡ Some t.addr → x ≡ q = λ x h. same_is q x (own.distinct q x t.addr held h) in
@@ -343,7 +343,7 @@ route f t q n request c asked old held alone own = pick (decided (is_reset c))
 
 -- Any port of a hub
 
-sound_of : (k n : ℕ) (old new : World) (result : Result (Unit {0}) PipeFault) → IsNoBusFault result → MatchResult result (λ done. Worked k old new) (λ fault. FaultAfter n old fault new) → old.fault ≡ None
+sound_of : (k n : ℕ) (old new : World) (result : Result (Unit {0}) PipeFault) → IsNoBusFault result → MatchResult result (λ done. AttemptsMade k old new) (λ fault. FaultAfter n old fault new) → old.fault ≡ None
 sound_of k n old new (Ok u) s x = x.sound
 sound_of k n old new (Err Stalled) s x = x.sound
 sound_of k n old new (Err Busy) s x = x.sound
@@ -352,11 +352,11 @@ sound_of k n old new (Err Broken) s x = elim x [ ]
 sound_of k n old new (Err (Bus fault)) s x = elim s [ ]
 sound_of k n old new (Err Memory) s x = x.sound
 
-module _ (t : Target) (c : PortCall) (request : Setup) (f : Claims) (old : World) (result : Result (Unit {0}) PipeFault) (new : World) (ordered : Ordered t request old result new) (own : Owned f old) where
+module _ (t : Target) (c : PortCall) (request : Setup) (f : AddressMap) (old : World) (result : Result (Unit {0}) PipeFault) (new : World) (ordered : Commanded t request old result new) (own : MapHolds f old) where
   -- what is so at the port's path, as it is at one that is written out
-  module _ (Q : List ℕ → Type 0) (there : (j : Spot) (i : ℕ) (asked : AsksFor request c (suc i)) → Route t request (path_to j) old → Q (path_to j ++ (suc i ∷ []))) where
+  module _ (Q : List ℕ → Type 0) (there : (j : Location) (i : ℕ) (asked : AsksFor request c (suc i)) → Route t request (path_to j) old → Q (path_to j ++ (suc i ∷ []))) where
     at_path : (q : List ℕ) (n : ℕ) → AsksFor request c n → IsPath q → IsPortNumber n → f q ≡ Some t.addr → (is_reset c ≡ true → (x : List ℕ) → f x ≡ Some 0 → is_way (q ++ (n ∷ [])) x ≡ true) → Q (q ++ (n ∷ []))
-    at_path [] n asked is number held alone = absurd (no_path is)
+    at_path [] n asked is number held alone = absurd (is_path-empty is)
     at_path (zero ∷ e) n asked is number held alone = absurd (no_root e is)
     at_path (suc j ∷ e) zero asked is number held alone = absurd (omega (arith, number.0))
     at_path (suc j ∷ e) (suc i) asked is number held alone = there (record { row = j; rest = e }) i asked (route f t (suc j ∷ e) (suc i) request c asked old held alone own)
@@ -364,40 +364,40 @@ module _ (t : Target) (c : PortCall) (request : Setup) (f : Claims) (old : World
     below : (n : ℕ) → AsksFor request c n → (p : List ℕ) → IsBelow f t.addr n p → (is_reset c ≡ true → (x : List ℕ) → f x ≡ Some 0 → is_way p x ≡ true) → Q p
     below n asked p at alone = subst Q (sym at.path) (at_path at.hub n asked at.is_path at.number at.held (λ h x z. subst (λ y. is_way y x ≡ true) at.path (alone h x z)))
 
-  pub done_below : (n : ℕ) → AsksFor request c n → (p : List ℕ) → IsBelow f t.addr n p → (is_reset c ≡ true → (x : List ℕ) → f x ≡ Some 0 → is_way p x ≡ true) → result ≡ Ok tt → PortDone p c old new
-  done_below n asked p at alone is = below (λ p. PortDone p c old new) there n asked p at alone
+  pub done_below : (n : ℕ) → AsksFor request c n → (p : List ℕ) → IsBelow f t.addr n p → (is_reset c ≡ true → (x : List ℕ) → f x ≡ Some 0 → is_way p x ≡ true) → result ≡ Ok tt → PortCallDone p c old new
+  done_below n asked p at alone is = below (λ p. PortCallDone p c old new) there n asked p at alone
     where
-      ordered_so : Ordered t request old (Ok tt) new
-      ordered_so = subst (λ r. Ordered t request old r new) is ordered
+      ordered_so : Commanded t request old (Ok tt) new
+      ordered_so = subst (λ r. Commanded t request old r new) is ordered
 
-      there : (j : Spot) (i : ℕ) (asked : AsksFor request c (suc i)) → Route t request (path_to j) old → PortDone (path_to j ++ (suc i ∷ [])) c old new
+      there : (j : Location) (i : ℕ) (asked : AsksFor request c (suc i)) → Route t request (path_to j) old → PortCallDone (path_to j ++ (suc i ∷ [])) c old new
       there j i asked r = hub_done t j i request c asked r.P r.follows old new ordered_so r.first (r.leaves (Ok tt) new ordered_so.stages) r.addressed
 
   pub rests_below : IsNoBusFault result → (n : ℕ) → AsksFor request c n → (p : List ℕ) → IsBelow f t.addr n p → (is_reset c ≡ true → (x : List ℕ) → f x ≡ Some 0 → is_way p x ≡ true)
-      → (x : List ℕ) → is_way p x ≡ false → Course (AsksNothingOf x) old new
+      → (x : List ℕ) → is_way p x ≡ false → Course (LeavesPortAlone x) old new
   rests_below sound n asked p at alone =
-      below (λ p. (x : List ℕ) → is_way p x ≡ false → Course (AsksNothingOf x) old new)
+      below (λ p. (x : List ℕ) → is_way p x ≡ false → Course (LeavesPortAlone x) old new)
       (λ j i asked r. hub_rests t j i request c asked r.P r.follows old result new sound ordered.stages r.first) n asked p at alone
 
   pub backlog_below : IsNoBusFault result → (n : ℕ) → AsksFor request c n → (p : List ℕ) → IsBelow f t.addr n p → (is_reset c ≡ true → (x : List ℕ) → f x ≡ Some 0 → is_way p x ≡ true) → KeepsCall p c old new
   backlog_below sound n asked p at alone =
       below (λ p. KeepsCall p c old new)
-      (λ j i asked r. let s : Sent t request old new = sent_of t request old result new sound ordered.stages in
+      (λ j i asked r. let s : Sent t request old new = writes_sent t request old result new sound ordered.stages in
       record { covered = λ ports m v r0 few covers. call_keeps m v r0 few t (path_to j) i request c asked (holder_covers m r0 (path_to j) i c covers) r.P r.follows s.trail s.behind r.first ports }) n asked p at alone
 
   pub spares_below : IsNoBusFault result → (n : ℕ) → AsksFor request c n → (p : List ℕ) → IsBelow f t.addr n p → (is_reset c ≡ true → (x : List ℕ) → f x ≡ Some 0 → is_way p x ≡ true)
-      → spares c [] ≡ true → Course (Spares p) old new
+      → keeps_pending c [] ≡ true → Course (KeepsPendingAt p) old new
   spares_below sound n asked p at alone =
-      below (λ p. spares c [] ≡ true → Course (Spares p) old new)
+      below (λ p. keeps_pending c [] ≡ true → Course (KeepsPendingAt p) old new)
       (λ j i asked r. hub_spares t j i request c asked r.P r.follows old result new sound ordered.stages r.first) n asked p at alone
 
 -- up to a fault of the bus
-module _ (t : Target) (c : PortCall) (request : Setup) (f : Claims) (old : World) (fault : BusFault) (new : World) (ordered : Ordered t request old (Err (Bus fault)) new) (till : TillFault (Owned f) old) where
+module _ (t : Target) (c : PortCall) (request : Setup) (f : AddressMap) (old : World) (fault : BusFault) (new : World) (ordered : Commanded t request old (Err (Bus fault)) new) (till : WhileBusWorks (MapHolds f) old) where
   cut_there : SentUpTo t request old fault new
   cut_there = sent_up_to t request old fault new ordered.stages
 
   about_below : (n : ℕ) → AsksFor request c n → (p : List ℕ) → IsBelow f t.addr n p → (is_reset c ≡ true → (x : List ℕ) → f x ≡ Some 0 → is_way p x ≡ true)
-      → (outcomes : List Outcome) (mid cut : World) → Trail (setup_attempt t (bytes_of request)) old outcomes mid → Course (IsBehind t) mid cut → Course (IsAbout p c) old cut
+      → (outcomes : List Outcome) (mid cut : World) → AttemptLog (setup_attempt t (bytes_of request)) old outcomes mid → Course (IsBehind t) mid cut → Course (IsAbout p c) old cut
   about_below n asked p at alone [] w cut start behind = behind_about t p c behind ordered.settled
   about_below n asked p at alone (o ∷ outcomes) w cut tr behind =
       below t c request f old (Err (Bus fault)) new ordered (till.so (trail_sound tr)) (λ p. Course (IsAbout p c) old cut)
@@ -413,28 +413,28 @@ module _ (t : Target) (c : PortCall) (request : Setup) (f : Claims) (old : World
   }
 
 module _ (port : HubPort) (hub : Target) (number : ℕ) (call : Option PortCall) (request : Setup) (some_call : (c : PortCall) × (call ≡ Some c)) (asks : (c : PortCall) → call ≡ Some c → AsksFor request c number)
-    (old : World) (result : Result (Unit {0}) PipeFault) (new : World) (e : port ≡ External hub number) (ordered : Ordered hub request old result new) where
-  of_hub : CallsPort (External hub number) call old result new
+    (old : World) (result : Result (Unit {0}) PipeFault) (new : World) (e : port ≡ External hub number) (ordered : Commanded hub request old result new) where
+  of_hub : CommandsPort (External hub number) call old result new
   of_hub = record {
     done = λ f p c x is. done_below hub c request f old result new ordered (x.owned.so (sound_of 2 1 old new result (subst IsNoBusFault (sym is) tt) ordered.ends)) number (asks c x.is) p x.at x.alone is;
     rests = λ f p c x sound. rests_below hub c request f old result new ordered (x.owned.so (sound_of 2 1 old new result sound ordered.ends)) sound number (asks c x.is) p x.at x.alone;
     spares = λ f p c x sound. spares_below hub c request f old result new ordered (x.owned.so (sound_of 2 1 old new result sound ordered.ends)) sound number (asks c x.is) p x.at x.alone;
     backlog = λ f p c x sound. backlog_below hub c request f old result new ordered (x.owned.so (sound_of 2 1 old new result sound ordered.ends)) sound number (asks c x.is) p x.at x.alone;
-    cut = λ f p c x fault is. cut_below hub c request f old fault new (subst (λ r. Ordered hub request old r new) is ordered) x.owned number (asks c x.is) p x.at x.alone;
+    cut = λ f p c x fault is. cut_below hub c request f old fault new (subst (λ r. Commanded hub request old r new) is ordered) x.owned number (asks c x.is) p x.at x.alone;
     why = λ t n same three single serves.
         let ends : _ = same_port hub t number n same in
-        call_served hub number request some_call.0 (asks some_call.0 some_call.1) old new three single (subst (λ m. Serves hub m new) ends.1 (subst (λ t. Serves t n new) ends.0 serves)) result ordered;
+        call_served hub number request some_call.0 (asks some_call.0 some_call.1) old new three single (subst (λ m. HubServes hub m new) ends.1 (subst (λ t. HubServes t n new) ends.0 serves)) result ordered;
   }
 
-  hub_calls : CallsPort port call old result new
+  hub_calls : CommandsPort port call old result new
   hub_calls = rw e of_hub
 
 pub hub_sets : (port : HubPort) (hub : Target) (number feature : ℕ) (old : World) (result : Result (Unit {0}) PipeFault) (new : World) → port ≡ External hub number → IsSetFeature feature
-    → Ordered hub (set_port_feature feature number) old result new → CallsPort port (set_call feature) old result new
+    → Commanded hub (set_port_feature feature number) old result new → CommandsPort port (set_call feature) old result new
 hub_sets port hub number feature old result new e named = hub_calls port hub number (set_call feature) (set_port_feature feature number) (call_is (set_call feature) named) (λ c is. set_asks number c feature named is) old result new e
 
 pub hub_clears : (port : HubPort) (hub : Target) (number feature : ℕ) (old : World) (result : Result (Unit {0}) PipeFault) (new : World) → port ≡ External hub number → IsClearFeature feature
-    → Ordered hub (clear_port_feature feature number) old result new → CallsPort port (clear_call feature) old result new
+    → Commanded hub (clear_port_feature feature number) old result new → CommandsPort port (clear_call feature) old result new
 hub_clears port hub number feature old result new e named = hub_calls port hub number (clear_call feature) (clear_port_feature feature number) (call_is (clear_call feature) named) (λ c is. clear_asks number c feature named is) old result new e
 
 -- A root port
@@ -452,33 +452,33 @@ module _ (port : HubPort) (number : ℕ) (call : Option PortCall) (old new : Wor
   one_step : (K : Step → World → Type 0) (c : PortCall) → call ≡ Some c → K (root_call c number) old → Course K old new
   one_step K c is k = subst (λ w. Course K old w) (sym (step c is)) (step_then (root_call c number) k (here (after (root_call c number) old)))
 
-  of_root : CallsPort (Root number) call old (Ok tt) new
+  of_root : CommandsPort (Root number) call old (Ok tt) new
   of_root = record {
-    done = λ f p c x is. subst (λ p. PortDone p c old new) (sym x.at) (record {
+    done = λ f p c x is. subst (λ p. PortCallDone p c old new) (sym x.at) (record {
       before = old;
       repeats = here old;
       last = root_call c number;
       acts = root_acts c number old;
       done = root_acted c number old;
-      since = λ y. subst (λ w. Course (AsksNothingOf y) (after (root_call c number) old) w) (sym (step c x.is)) (here (after (root_call c number) old));
+      since = λ y. subst (λ w. Course (LeavesPortAlone y) (after (root_call c number) old) w) (sym (step c x.is)) (here (after (root_call c number) old));
       row = record { parent = []; number = number; is = refl; reached = refl };
       acted = record { covered = λ ports m v r few covers. keeps-root m v r few c number old ports (root_covers m r c number covers) };
       rested = subst (KeepsAll (after (root_call c number) old)) (sym (step c x.is)) (all_none (after (root_call c number) old));
     });
-    rests = λ f p c x sound y d. one_step (AsksNothingOf y) c x.is ((root_acts c number old).about.others y (subst (λ p. is_way p y ≡ false) x.at d));
-    spares = λ f p c x sound h. subst (λ p. Course (Spares p) old new) (sym x.at) (one_step (Spares (number ∷ [])) c x.is ((root_acts c number old).about.spares h));
+    rests = λ f p c x sound y d. one_step (LeavesPortAlone y) c x.is ((root_acts c number old).about.others y (subst (λ p. is_way p y ≡ false) x.at d));
+    spares = λ f p c x sound h. subst (λ p. Course (KeepsPendingAt p) old new) (sym x.at) (one_step (KeepsPendingAt (number ∷ [])) c x.is ((root_acts c number old).about.spares h));
     backlog = λ f p c x sound. subst (λ p. KeepsCall p c old new) (sym x.at) (record { covered = λ ports m v r few covers. subst (KeepsBy m v r old) (sym (step c x.is)) (keeps-root m v r few c number old ports (root_covers m r c number covers)) });
     cut = λ f p c x fault is. absurd (cc is);
     why = λ t n same. absurd (cc same);
   }
 
-  root_calls : CallsPort port call old (Ok tt) new
+  root_calls : CommandsPort port call old (Ok tt) new
   root_calls = rw e of_root
 
-pub root_sets : (port : HubPort) (number feature : ℕ) (old new : World) → port ≡ Root number → SetsRoot number feature old new → CallsPort port (set_call feature) old (Ok tt) new
+pub root_sets : (port : HubPort) (number feature : ℕ) (old new : World) → port ≡ Root number → SetsRoot number feature old new → CommandsPort port (set_call feature) old (Ok tt) new
 root_sets port number feature old new e sets = root_calls port number (set_call feature) old new e sets.step
 
-pub root_clears : (port : HubPort) (number feature : ℕ) (old new : World) → port ≡ Root number → ClearsRoot number feature old new → CallsPort port (clear_call feature) old (Ok tt) new
+pub root_clears : (port : HubPort) (number feature : ℕ) (old new : World) → port ≡ Root number → ClearsRoot number feature old new → CommandsPort port (clear_call feature) old (Ok tt) new
 root_clears port number feature old new e clears = root_calls port number (clear_call feature) old new e clears.step
 
 -- PORT_POWER at a port of the device that a path claims the address for
@@ -487,16 +487,16 @@ zero_power : Allows sets_none (set_port_feature PORT_POWER 0)
 unfolding set_port_feature
 zero_power = record { rests = refl; off = λ e. absurd (cc e); set = λ e c i x y. absurd (cc y); clear = λ e c i x y. absurd (cc e) }
 
-module _ (t : Target) (f : Claims) (q : List ℕ) (old : World) (result : Result (Unit {0}) PipeFault) (new : World) (sound : IsNoBusFault result) (held : f q ≡ Some t.addr) (own : Owned f old) where
-  pub power_backlog : (n : ℕ) → Ordered t (set_port_feature PORT_POWER n) old result new → KeepsFound q old new
+module _ (t : Target) (f : AddressMap) (q : List ℕ) (old : World) (result : Result (Unit {0}) PipeFault) (new : World) (sound : IsNoBusFault result) (held : f q ≡ Some t.addr) (own : MapHolds f old) where
+  pub power_backlog : (n : ℕ) → Commanded t (set_port_feature PORT_POWER n) old result new → KeepsFound q old new
   power_backlog zero ordered = record { found = λ ports. keeps-chain (ports_at q) unmarked (only q) (few-only q) ports (request_keeps (ports_at q) unmarked (only q) (few-only q) t (set_port_feature PORT_POWER 0) zero_power ((write_attempts t (set_port_feature PORT_POWER 0) result old new ordered.stages).whole sound) ordered.settled) }
   power_backlog (suc i) ordered =
       let request : Setup = set_port_feature PORT_POWER (suc i) in
       let asked : AsksFor request SetPower (suc i) = set_asks (suc i) SetPower PORT_POWER refl refl in
-      let s : Sent t request old new = sent_of t request old result new sound ordered.stages in
+      let s : Sent t request old new = writes_sent t request old result new sound ordered.stages in
       record {
         found = λ ports.
             call_keeps (ports_at q) unmarked (only q) (few-only q) t q i request SetPower asked
             (λ x same. record { power = λ g. ports_covered q x i same; reset = λ g. absurd (cc g) })
-            (Owned f) (quiet_follows t request asked.same f q (asked.harmless refl) held) s.trail s.behind own ports;
+            (MapHolds f) (quiet_follows t request asked.same f q (asked.harmless refl) held) s.trail s.behind own ports;
       }

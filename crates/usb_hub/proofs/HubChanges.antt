@@ -27,11 +27,11 @@ told_done least old (Ok done) new ends told e = absurd (cc e)
 told_done least old (Err fault) new ends told e = told_bus {A = Unit {0}} least old (Err fault) fault new ends refl told e
 
 -- and any other fault came after as many attempts
-pub fault_told : (least : ℕ) (old : World) (answer : Result (Unit {0}) PipeFault) (new : World) → EndsAfter least old answer new → IfErr (done_or_unknown answer) (λ fault. FaultAfter 1 old fault new)
-fault_told least old (Ok done) new ends = tt
-fault_told least old (Err Stalled) new ends = tt
-fault_told least old (Err Busy) new ends = ends
-fault_told least old (Err NoAnswer) new ends = ends
-fault_told least old (Err Broken) new ends = ends
-fault_told least old (Err (Bus fault)) new ends = ends
-fault_told least old (Err Memory) new ends = ends
+pub done_fault_after : (least : ℕ) (old : World) (answer : Result (Unit {0}) PipeFault) (new : World) → EndsAfter least old answer new → IfErr (done_or_unknown answer) (λ fault. FaultAfter 1 old fault new)
+done_fault_after least old (Ok done) new ends = tt
+done_fault_after least old (Err Stalled) new ends = tt
+done_fault_after least old (Err Busy) new ends = ends
+done_fault_after least old (Err NoAnswer) new ends = ends
+done_fault_after least old (Err Broken) new ends = ends
+done_fault_after least old (Err (Bus fault)) new ends = ends
+done_fault_after least old (Err Memory) new ends = ends

@@ -16,12 +16,12 @@ use Rattle.usb_device.specs.Request.{Is, outcome}
 use Rattle.usb_request.specs.Codes.{PORT_OUT, SET_FEATURE}
 use Rattle.usb_device.specs.Rows.{State}
 use Rattle.usb_device.specs.Transfer.{reading, first_stage}
-use Rattle.usb_device.specs.Tree.{acted, port_at, reach, Spot, path_to, reach_on, state_on}
+use Rattle.usb_device.specs.Tree.{acted, port_at, reach, Location, path_to, reach_on, state_on}
 use Rattle.usb_device.specs.View.{port_there, state_there}
 use Rattle.usb_world.specs.Paths.{address_of}
 use Rattle.usb_world.specs.AttemptPackets.{IsSettled}
 use Rattle.usb_world.specs.PortRequests.{asks_no_port}
-use Rattle.usb_world.specs.RestingPorts.{AsksNothingOf}
+use Rattle.usb_world.specs.RestingPorts.{LeavesPortAlone}
 use Rattle.usb_world.specs.World.{World, IsRootPort, root_row, root_port_at as root_port}
 use Rattle.usb_world.specs.Steps.{Course, here}
 use Rattle.usb_world.specs.Devices.{Was}
@@ -33,28 +33,28 @@ use Rattle.usb_transaction.specs.Failures.{NoThreeDamaged}
 use Rattle.usb_pipe.specs.declared.fault.PipeFault.{PipeFault}
 use Rattle.usb_pipe.specs.Leaves.{AnswerRead, ReadLeaves}
 use Rattle.usb_pipe.proofs.Interface.{read_leaves, who_reads}
-use Rattle.usb_address.specs.Claims.{Claims}
-use Rattle.usb_address.specs.Ownership.{Owned, TillFault}
-use Rattle.usb_address.proofs.Interface.{attempt_settled, below_of, less_one, no_path, no_root, port_below_at, reads_leave, same_setup}
+use Rattle.usb_address.specs.Claims.{AddressMap}
+use Rattle.usb_address.specs.Ownership.{MapHolds, WhileBusWorks}
+use Rattle.usb_address.proofs.Interface.{settled_attempt, place_ports, less_one, is_path-empty, no_root, port_below_at, reads_leave, same_setup}
 use Rattle.usb_hub.specs.Addresses.{IsBelow}
 use Rattle.usb_hub.specs.declared.port.HubPort.{HubPort}
 use Rattle.usb_hub.specs.declared.port.HubPort.TheVariants.{Root, External}
-use Rattle.usb_hub.specs.Moments.{PortTold, TellsPort}
+use Rattle.usb_hub.specs.Moments.{PortStatusAt, ReadsPort}
 use Rattle.usb_hub.specs.Port.{IsPort, RootRead, PortRead}
-use Rattle.usb_hub.specs.Requests.{AskedData, Told}
-use Rattle.usb_hub.specs.CallFailures.{Serves, NoHubFailed}
+use Rattle.usb_hub.specs.Requests.{Queried, ReadAs}
+use Rattle.usb_hub.specs.CallFailures.{HubServes, NoHubFailed}
 use Rattle.usb_hub.proofs.RestingRequests.{behind_asks_nothing, resting_course}
 use Rattle.usb_hub.proofs.Backlogs.{asked_backlog, rests_backlog}
 use Rattle.usb_backlog.specs.Marks.{KeepsAll}
 use Rattle.usb_backlog.proofs.Interface.{all_none}
-use Rattle.usb_hub.proofs.Statuses.{row_port, StatusOf, status_outcome, whole_status}
-use Rattle.usb_hub.proofs.ToldBytes.{IsRead, said}
+use Rattle.usb_hub.proofs.Statuses.{row_port, StatusOf, get_port_status-outcome, whole_status}
+use Rattle.usb_hub.proofs.ToldBytes.{IsReadFrom, said}
 use Rattle.usb_hub.proofs.CallFailures.{same_port, status_served}
 
 -- Who answered
 
 -- a device that is reached in the end, and had the target's address before
-record Answered (t : Target) (old new : World) (j : Spot) : Type 0 where
+record Answered (t : Target) (old new : World) (j : Location) : Type 0 where
   now : State
   on : reach_on new.roots j ≡ true
   stands : state_on new.roots j ≡ Some now
@@ -63,7 +63,7 @@ record Answered (t : Target) (old new : World) (j : Spot) : Type 0 where
   at : is_at before t ≡ true
 
 -- it is at the path that claims the target's address
-answered_at : (f : Claims) (t : Target) (old new : World) (j : Spot) → Owned f old → f (path_to j) ≡ Some t.addr → Answerer t old new → Answered t old new j
+answered_at : (f : AddressMap) (t : Target) (old new : World) (j : Location) → MapHolds f old → f (path_to j) ≡ Some t.addr → Answerer t old new → Answered t old new j
 answered_at f t old new j o held a = record {
   now = a.now;
   on = subst (λ x. reach new.roots x ≡ true) same a.on;
@@ -81,7 +81,7 @@ answered_at f t old new j o held a = record {
 
 -- The status of a port of a hub
 
-module _ (t : Target) (j : Spot) (i : ℕ) (old new : World) (bytes : Vec ℕ) (told : AskedData t (get_port_status (suc i)) old (Ok bytes) new) (single : new.shared ≡ false) (a : Answered t old new j) where
+module _ (t : Target) (j : Location) (i : ℕ) (old new : World) (bytes : Vec ℕ) (told : Queried t (get_port_status (suc i)) old (Ok bytes) new) (single : new.shared ≡ false) (a : Answered t old new j) where
   abbrev request : Setup
   request = get_port_status (suc i)
 
@@ -117,7 +117,7 @@ module _ (t : Target) (j : Spot) (i : ℕ) (old new : World) (bytes : Vec ℕ) (
   accepted_there = done.moment.accepts.at
 
   status : StatusOf done.row (suc i - 1) done.answer (effect_of_request (outcome was.before.spec was.before.registers request))
-  status = status_outcome was.before.spec was.before.registers done.row (suc i) done.answer
+  status = get_port_status-outcome was.before.spec was.before.registers done.row (suc i) done.answer
       (subst (λ n. first_stage done.row n (outcome was.before.spec was.before.registers request) ≡ reading done.answer n 0) length_is done.is)
 
   effect : asked_by_setup was.before (setup_of (bytes_of request)) ≡ Leaves
@@ -131,56 +131,56 @@ module _ (t : Target) (j : Spot) (i : ℕ) (old new : World) (bytes : Vec ℕ) (
   in_row = row_port accepted_there.holder.below i ∙ ap (λ x. slice_get x i) (sym done.moment.accepts.had) ∙ ap (slice_get done.row) (sym (less_one i)) ∙ status.stands
 
   stood : port_at now.roots j.row (j.rest ++ (suc i ∷ [])) ≡ Some status.port
-  stood = port_below_at now.roots j.row j.rest (suc i) [] ∙ ap (λ x. port_at (below_of x) i []) accepted_there.left ∙ ap (λ x. port_at (acted x accepted_there.holder.below) i []) effect ∙ in_row
+  stood = port_below_at now.roots j.row j.rest (suc i) [] ∙ ap (λ x. port_at (place_ports x) i []) accepted_there.left ∙ ap (λ x. port_at (acted x accepted_there.holder.below) i []) effect ∙ in_row
 
-  told_there : PortTold ((path_to j) ++ (suc i ∷ [])) (status_in bytes.items) old new
+  told_there : PortStatusAt ((path_to j) ++ (suc i ∷ [])) (status_in bytes.items) old new
   told_there = record {
     now = now;
     port = status.port;
     stood = stood;
     is = ap status_in came ∙ status_seen status.port;
     before = resting_course t request plain old now accepted_there;
-    since = λ x. behind_asks_nothing t x done.moment.since (subst (λ w. IsSettled w.roots) (sym accepted_there.last) (attempt_settled _ accepted_there.mid accepted_there.holder.made.settled));
+    since = λ x. behind_asks_nothing t x done.moment.since (subst (λ w. IsSettled w.roots) (sym accepted_there.last) (settled_attempt _ accepted_there.mid accepted_there.holder.made.settled));
     row = record { parent = path_to j; number = suc i; is = refl; reached = a.on };
     untold = asked_backlog t request sets_no_port accepted_there told.settled;
-    rested = rests_backlog t done.moment.since (subst (λ w. IsSettled w.roots) (sym accepted_there.last) (attempt_settled _ accepted_there.mid accepted_there.holder.made.settled));
+    rested = rests_backlog t done.moment.since (subst (λ w. IsSettled w.roots) (sym accepted_there.last) (settled_attempt _ accepted_there.mid accepted_there.holder.made.settled));
   }
 
-at_hub : (t : Target) (f : Claims) (hub : List ℕ) (port : ℕ) (old new : World) (bytes : Vec ℕ) → IsPath hub → IsPortNumber port → f hub ≡ Some t.addr → Owned f old → AskedData t (get_port_status port) old (Ok bytes) new
-    → PortTold (hub ++ (port ∷ [])) (status_in bytes.items) old new
+at_hub : (t : Target) (f : AddressMap) (hub : List ℕ) (port : ℕ) (old new : World) (bytes : Vec ℕ) → IsPath hub → IsPortNumber port → f hub ≡ Some t.addr → MapHolds f old → Queried t (get_port_status port) old (Ok bytes) new
+    → PortStatusAt (hub ++ (port ∷ [])) (status_in bytes.items) old new
 unfolding get_port_status
-at_hub t f [] port old new bytes is number held own told = absurd (no_path is)
+at_hub t f [] port old new bytes is number held own told = absurd (is_path-empty is)
 at_hub t f (zero ∷ e) port old new bytes is number held own told = absurd (no_root e is)
 at_hub t f (suc j ∷ e) zero old new bytes is number held own told = absurd (omega (arith, number.0))
 at_hub t f (suc j ∷ e) (suc i) old new bytes is number held own told =
     told_there t (record { row = j; rest = e }) i old new bytes told after.single
     (answered_at f t old new (record { row = j; rest = e }) own held (who_reads t (get_port_status (suc i)) bytes old new (omega arith) (same_setup (get_port_status (suc i))) told.settled told.stages after.single))
   where
-    after : Owned f new
+    after : MapHolds f new
     after = reads_leave f t (get_port_status (suc i)) (same_setup (get_port_status (suc i))) refl refl old (Ok bytes) new told.stages own
 
 -- why it is not told
-told_served : (t : Target) (n : ℕ) (old : World) (result : Result PortStatus PipeFault) (new : World) → Told status_in t (get_port_status n) old result new → NoThreeDamaged old → new.shared ≡ false → 8 ≤ t.max
-    → (x : Serves t n new) → (b : PortState) → port_there old.roots (path_to x.spot ++ (n ∷ [])) ≡ Some b → NoHubFailed result
+told_served : (t : Target) (n : ℕ) (old : World) (result : Result PortStatus PipeFault) (new : World) → ReadAs status_in t (get_port_status n) old result new → NoThreeDamaged old → new.shared ≡ false → 8 ≤ t.max
+    → (x : HubServes t n new) → (b : PortState) → port_there old.roots (path_to x.spot ++ (n ∷ [])) ≡ Some b → NoHubFailed result
 told_served t zero old result new told three single most x b stood = absurd (omega (arith, x.has.least))
 told_served t (suc i) old result new told three single most x b stood = status_served t i old new three single most x b stood status_in result told
 
-status_why : (hub : Target) (port : ℕ) (old : World) (result : Result PortStatus PipeFault) (new : World) → Told status_in hub (get_port_status port) old result new
-    → (h : Target) (n : ℕ) → External hub port ≡ External h n → NoThreeDamaged old → new.shared ≡ false → 8 ≤ h.max → (x : Serves h n new)
+port_status_why : (hub : Target) (port : ℕ) (old : World) (result : Result PortStatus PipeFault) (new : World) → ReadAs status_in hub (get_port_status port) old result new
+    → (h : Target) (n : ℕ) → External hub port ≡ External h n → NoThreeDamaged old → new.shared ≡ false → 8 ≤ h.max → (x : HubServes h n new)
     → (b : PortState) → port_there old.roots (path_to x.spot ++ (n ∷ [])) ≡ Some b → NoHubFailed result
-status_why hub port old result new told h n same =
+port_status_why hub port old result new told h n same =
     let ends : _ = same_port hub h port n same in
-    told_served h n old result new (subst (λ t. Told status_in t (get_port_status n) old result new) (sym ends.0) (subst (λ m. Told status_in hub (get_port_status m) old result new) (sym ends.1) told))
+    told_served h n old result new (subst (λ t. ReadAs status_in t (get_port_status n) old result new) (sym ends.0) (subst (λ m. ReadAs status_in hub (get_port_status m) old result new) (sym ends.1) told))
 
-pub hub_tells : (hub_port : HubPort) (hub : Target) (port : ℕ) (old : World) (result : Result PortStatus PipeFault) (new : World) → hub_port ≡ External hub port → Told status_in hub (get_port_status port) old result new → TellsPort hub_port old result new
-hub_tells hub_port hub port old result new is told = rw is (record { tells = λ f p at o status e. tells f p at o status (subst (λ r. Told status_in hub (get_port_status port) old r new) e told); why = λ h n same three single most serves b stood. status_why hub port old result new told h n same three single most serves b stood })
+pub hub_tells : (hub_port : HubPort) (hub : Target) (port : ℕ) (old : World) (result : Result PortStatus PipeFault) (new : World) → hub_port ≡ External hub port → ReadAs status_in hub (get_port_status port) old result new → ReadsPort hub_port old result new
+hub_tells hub_port hub port old result new is told = rw is (record { tells = λ f p at o status e. tells f p at o status (subst (λ r. ReadAs status_in hub (get_port_status port) old r new) e told); why = λ h n same three single most serves b stood. port_status_why hub port old result new told h n same three single most serves b stood })
   where
-    tells : (f : Claims) (p : List ℕ) → IsBelow f hub.addr port p → TillFault (Owned f) old → (status : PortStatus) → Told status_in hub (get_port_status port) old (Ok status) new → PortTold p status old new
+    tells : (f : AddressMap) (p : List ℕ) → IsBelow f hub.addr port p → WhileBusWorks (MapHolds f) old → (status : PortStatus) → ReadAs status_in hub (get_port_status port) old (Ok status) new → PortStatusAt p status old new
     tells f p at o status told =
-        let read : IsRead status_in told.answer status = said status_in (get_port_status port).length told.answer status told.told in
-        subst (λ p. PortTold p status old new) (sym at.path)
-        (subst (λ s. PortTold (at.hub ++ (port ∷ [])) s old new) (sym read.read_so)
-        (at_hub hub f at.hub port old new read.bytes at.is_path at.number at.held (o.so told.ends.sound) (subst (λ r. AskedData hub (get_port_status port) old r new) read.is told.asked)))
+        let read : IsReadFrom status_in told.answer status = said status_in (get_port_status port).length told.answer status told.told in
+        subst (λ p. PortStatusAt p status old new) (sym at.path)
+        (subst (λ s. PortStatusAt (at.hub ++ (port ∷ [])) s old new) (sym read.read_so)
+        (at_hub hub f at.hub port old new read.bytes at.is_path at.number at.held (o.so told.ends.sound) (subst (λ r. Queried hub (get_port_status port) old r new) read.is told.asked)))
 
 -- The status of a root port
 
@@ -189,10 +189,10 @@ unfolding root_port
 root_stood zero w is = absurd (omega (arith, is.0))
 root_stood (suc i) w is = row_port w.roots i ∙ slice_get-get_or (root_row w) i off (omega (arith, is.1)) ∙ ap (λ n. Some (slice_index_or (root_row w) n off)) (sym (less_one i))
 
-pub root_tells : (port : HubPort) (number : ℕ) (old : World) (result : Result PortStatus PipeFault) (new : World) → port ≡ Root number → IsPort old port → PortRead port old result new → TellsPort port old result new
+pub root_tells : (port : HubPort) (number : ℕ) (old : World) (result : Result PortStatus PipeFault) (new : World) → port ≡ Root number → IsPort old port → PortRead port old result new → ReadsPort port old result new
 root_tells port number old result new e is read = rw e (root (rw e at is) (rw e at read))
   where
-    root : IsRootPort old number → RootRead number old result new → TellsPort (Root number) old result new
+    root : IsRootPort old number → RootRead number old result new → ReadsPort (Root number) old result new
     root is r = record {
       tells = λ f p at o status told. record {
         now = old;
@@ -200,7 +200,7 @@ root_tells port number old result new e is read = rw e (root (rw e at is) (rw e 
         stood = ap (port_there old.roots) at ∙ root_stood number old is;
         is = same_status status (sym told ∙ r.status);
         before = λ x. here old;
-        since = λ x. subst (λ w. Course (AsksNothingOf x) old w) (sym r.same) (here old);
+        since = λ x. subst (λ w. Course (LeavesPortAlone x) old w) (sym r.same) (here old);
         row = record { parent = []; number = number; is = at; reached = refl };
         untold = all_none old;
         rested = subst (KeepsAll old) (sym r.same) (all_none old);

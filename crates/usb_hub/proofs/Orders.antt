@@ -7,8 +7,8 @@ use Rattle.usb_world.specs.Courses.{is_harmless}
 use Rattle.usb_world.specs.OneHolder.{HolderIn}
 use Rattle.usb_world.specs.AttemptPackets.{NobodyHolds}
 use Rattle.usb_world.specs.PortRequests.{AsksNothing, is_above}
-use Rattle.usb_world.specs.RestingPorts.{AsksNothingOf}
-use Rattle.usb_world.specs.Steps.{Course, attempt, after, ready}
+use Rattle.usb_world.specs.RestingPorts.{LeavesPortAlone}
+use Rattle.usb_world.specs.Steps.{Course, attempt, after, at_attempt}
 use Rattle.usb_world.specs.World.{World, Made}
 use Rattle.usb_world.proofs.Interface.{course_joined, elsewhere, holder_or_nobody, made_of}
 use Rattle.usb_transaction.specs.declared.target.Target.{Target}
@@ -16,28 +16,28 @@ use Rattle.usb_transaction.specs.Transactions.{setup_attempt}
 use Rattle.usb_pipe.specs.declared.fault.PipeFault.{PipeFault}
 use Rattle.usb_pipe.specs.Stages.{Writes}
 use Rattle.usb_pipe.specs.Leaves.{IsNoBusFault}
-use Rattle.usb_address.specs.Ownership.{Owned}
-use Rattle.usb_address.proofs.Interface.{ClaimedAt, Follows, claimed_holder, nobody_asks_nothing, quiet_follows, same_setup, trail_with, unshared_after}
-use Rattle.usb_hub.specs.Requests.{RestBut}
-use Rattle.usb_hub.proofs.Calls.{Sent, sent_of}
+use Rattle.usb_address.specs.Ownership.{MapHolds}
+use Rattle.usb_address.proofs.Interface.{ClaimedAt, KeepsClaim, claimed_holder, nobody_asks_nothing, quiet_follows, same_setup, trail_with, unshared_after}
+use Rattle.usb_hub.specs.Requests.{TouchesPortsBelow}
+use Rattle.usb_hub.proofs.Calls.{Sent, writes_sent}
 use Rattle.usb_hub.proofs.RestingRequests.{behind_asks_nothing}
 
 -- an attempt for an address that a path claims
 attempt_elsewhere : (a : Attempt) (w : World) (q x : List ℕ) → ClaimedAt q a.addr w → Made w (after (attempt a) w) → is_above q x ≡ false → AsksNothing (attempt a) w x
 attempt_elsewhere a w q x claimed made apart = pick (holder_or_nobody a w (made_of a w claimed.owned.settled made) (unshared_after claimed.claims a w claimed.owned))
   where
-    pick : HolderIn a w ⊎ NobodyHolds a.addr (ready w).roots → AsksNothing (attempt a) w x
+    pick : HolderIn a w ⊎ NobodyHolds a.addr (at_attempt w).roots → AsksNothing (attempt a) w x
     pick (inl h) = elsewhere a w h x (ap (λ y. is_above y x) (claimed_holder q a.addr w claimed a refl h) ∙ apart)
     pick (inr h) = nobody_asks_nothing a w x h claimed.owned.settled
 
-pub order_elsewhere : (t : Target) (request : Setup) (result : Result (Unit {0}) PipeFault) (old new : World) → Writes t request old result new → is_harmless request ≡ true → IsNoBusFault result → RestBut t.addr old new
+pub order_elsewhere : (t : Target) (request : Setup) (result : Result (Unit {0}) PipeFault) (old new : World) → Writes t request old result new → is_harmless request ≡ true → IsNoBusFault result → TouchesPortsBelow t.addr old new
 order_elsewhere t request result old new writes harmless sound f q held own x apart = course_joined trail.1 (behind_asks_nothing t x sent.behind trail.0.settled)
   where
     sent : Sent t request old new
-    sent = sent_of t request old result new sound writes
+    sent = writes_sent t request old result new sound writes
 
-    follows : Follows t request q (Owned f)
+    follows : KeepsClaim t request q (MapHolds f)
     follows = quiet_follows t request (same_setup request) f q harmless held
 
-    trail : Owned f sent.mid × Course (AsksNothingOf x) old sent.mid
-    trail = trail_with (Owned f) follows.onward (λ w made o. attempt_elsewhere (setup_attempt t (bytes_of request)) w q x (follows.claimed w o) made apart) sent.trail own
+    trail : MapHolds f sent.mid × Course (LeavesPortAlone x) old sent.mid
+    trail = trail_with (MapHolds f) follows.onward (λ w made o. attempt_elsewhere (setup_attempt t (bytes_of request)) w q x (follows.claimed w o) made apart) sent.trail own

@@ -1,5 +1,5 @@
 -- Requests that ask nothing of any port.
-use Rattle.usb_device.specs.Tree.{Spot}
+use Rattle.usb_device.specs.Tree.{Location}
 use Rattle.std.proofs.Common.{◌≡◌, ℕ, ◌≤◌, ◌==◌, ◌⊎◌, inl, inr, true, false, List, Result, refl, ap, sym, subst, ◌∙◌, arith}
 use Rattle.std.proofs.lemmas.Bool.Decides.{nat_tests}
 use Rattle.std.specs.Global.{Vec}
@@ -11,7 +11,7 @@ use Rattle.usb_world.specs.declared.types.Attempt.{Attempt}
 use Rattle.usb_world.specs.Addresses.{is_setup}
 use Rattle.usb_world.specs.AttemptPackets.{IsSettled}
 use Rattle.usb_world.specs.PortRequests.{asks_no_port}
-use Rattle.usb_world.specs.RestingPorts.{AsksNothingOf}
+use Rattle.usb_world.specs.RestingPorts.{LeavesPortAlone}
 use Rattle.usb_world.specs.World.{World}
 use Rattle.usb_world.specs.Steps.{Step, attempt, root_call, event, report, Course}
 use Rattle.usb_world.proofs.Interface.{course_then, data_asks_nothing, payload_asks_nothing, settled_wider}
@@ -25,11 +25,11 @@ use Rattle.usb_pipe.specs.Stages.{Reads, Writes}
 use Rattle.usb_pipe.specs.Leaves.{IsBehind, IsNoBusFault}
 use Rattle.usb_pipe.proofs.Interface.{read_attempts, write_attempts}
 use Rattle.usb_address.proofs.Interface.{same_setup}
-use Rattle.usb_hub.specs.Requests.{AllRest}
+use Rattle.usb_hub.specs.Requests.{TouchesNoPort}
 
 -- a step behind a SETUP asks nothing of any port
 pub behind_rests : (t : Target) (x : List ℕ) (s : Step) (w : World) → IsBehind t s w
-    → IsSettled w.roots → AsksNothingOf x s w
+    → IsSettled w.roots → LeavesPortAlone x s w
 behind_rests t x (attempt a) w k h = data_asks_nothing a w x (kind k refl refl) h
   where
     kind : {b d : Attempt} → (a ≡ b) ⊎ (a ≡ d) → is_setup b.kind ≡ false → is_setup d.kind ≡ false → is_setup a.kind ≡ false
@@ -39,29 +39,29 @@ behind_rests t x (root_call c n) w k h = elim k [ ]
 behind_rests t x event w k h = elim k [ ]
 behind_rests t x (report l) w k h = elim k [ ]
 
-pub behind_asks_nothing : (t : Target) (x : List ℕ) {w v : World} → Course (IsBehind t) w v → IsSettled w.roots → Course (AsksNothingOf x) w v
+pub behind_asks_nothing : (t : Target) (x : List ℕ) {w v : World} → Course (IsBehind t) w v → IsSettled w.roots → Course (LeavesPortAlone x) w v
 behind_asks_nothing t x c = settled_wider (behind_rests t x) c
 
 -- a course of setup data that ask nothing of ports
-pub resting_course : (t : Target) (request : Setup) → asks_no_port request ≡ true → {j : Spot} {s v : State} (old now : World) → AcceptedAt t (bytes_of request) old now j s v → AllRest old now
+pub resting_course : (t : Target) (request : Setup) → asks_no_port request ≡ true → {j : Location} {s v : State} (old now : World) → AcceptedAt t (bytes_of request) old now j s v → TouchesNoPort old now
 resting_course t request plain old now at x =
-    subst (λ w. Course (AsksNothingOf x) old w) (sym at.last)
+    subst (λ w. Course (LeavesPortAlone x) old w) (sym at.last)
     (course_then (attempt (setup_attempt t (bytes_of request))) (trail_course (λ w made. asks w) at.trail) (asks at.mid))
   where
-    asks : (w : World) → AsksNothingOf x (attempt (setup_attempt t (bytes_of request))) w
+    asks : (w : World) → LeavesPortAlone x (attempt (setup_attempt t (bytes_of request))) w
     asks w = payload_asks_nothing (setup_attempt t (bytes_of request)) w x (ap asks_no_port (same_setup request) ∙ plain)
 
 -- a whole transfer of such a request
 module _ (t : Target) (request : Setup) (plain : asks_no_port request ≡ true) where
   step_rests : (x : List ℕ) (s : Step) (w : World) → IsOfTransfer t request s w → IsSettled w.roots
-      → AsksNothingOf x s w
+      → LeavesPortAlone x s w
   step_rests x s w (inl e) h =
-      subst (λ s. AsksNothingOf x s w) (sym e)
+      subst (λ s. LeavesPortAlone x s w) (sym e)
       (payload_asks_nothing (setup_attempt t (bytes_of request)) w x
       (ap asks_no_port (same_setup request) ∙ plain))
   step_rests x s w (inr k) h = behind_rests t x s w k h
 
-  transfer_rests : (x : List ℕ) {w v : World} → Course (IsOfTransfer t request) w v → IsSettled w.roots → Course (AsksNothingOf x) w v
+  transfer_rests : (x : List ℕ) {w v : World} → Course (IsOfTransfer t request) w v → IsSettled w.roots → Course (LeavesPortAlone x) w v
   transfer_rests x c = settled_wider (step_rests x) c
 
 read_asks_no_port : (request : Setup) → IsToHost request → asks_no_port request ≡ true
@@ -70,8 +70,8 @@ read_asks_no_port request host = rw (other request.request_type PORT_OUT host (o
     other : (n m : ℕ) → 128 ≤ n → m ≤ 127 → (n == m) ≡ false
     other n m far near = grind (arith, nat_tests, far, near)
 
-pub read_rests : (t : Target) (request : Setup) (result : Result (Vec ℕ) PipeFault) (old new : World) → IsToHost request → IsSettled old.roots → Reads t request old result new → IsNoBusFault result → AllRest old new
-read_rests t request result old new host settled reads sound x = transfer_rests t request (read_asks_no_port request host) x ((read_attempts t request result old new reads).whole sound) settled
+pub reads_rests : (t : Target) (request : Setup) (result : Result (Vec ℕ) PipeFault) (old new : World) → IsToHost request → IsSettled old.roots → Reads t request old result new → IsNoBusFault result → TouchesNoPort old new
+reads_rests t request result old new host settled reads sound x = transfer_rests t request (read_asks_no_port request host) x ((read_attempts t request result old new reads).whole sound) settled
 
-pub write_rests : (t : Target) (request : Setup) (result : Result (Unit {0}) PipeFault) (old new : World) → IsSettled old.roots → Writes t request old result new → asks_no_port request ≡ true → IsNoBusFault result → AllRest old new
+pub write_rests : (t : Target) (request : Setup) (result : Result (Unit {0}) PipeFault) (old new : World) → IsSettled old.roots → Writes t request old result new → asks_no_port request ≡ true → IsNoBusFault result → TouchesNoPort old new
 write_rests t request result old new settled writes plain sound x = transfer_rests t request plain x ((write_attempts t request result old new writes).whole sound) settled

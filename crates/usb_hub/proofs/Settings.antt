@@ -22,17 +22,17 @@ use Rattle.usb_transaction.specs.Failures.{NoThreeDamaged}
 use Rattle.usb_pipe.specs.declared.fault.PipeFault.{PipeFault}
 use Rattle.usb_pipe.specs.declared.fault.PipeFault.TheVariants.{Stalled, Busy, NoAnswer, Broken, Bus, Memory}
 use Rattle.usb_pipe.specs.Leaves.{IsNoBusFault, WasRefused, EffectDone, EffectOrNone, none, some, whole, WriteLeaves, LossesOf, TookItOrLost}
-use Rattle.usb_pipe.specs.Failures.{WhyWrite}
+use Rattle.usb_pipe.specs.Failures.{WriteFailure}
 use Rattle.usb_pipe.proofs.Interface.{given_registers, write_leaves, write_losses, write_why}
-use Rattle.usb_address.proofs.Interface.{attempt_settled, same_setup}
+use Rattle.usb_address.proofs.Interface.{settled_attempt, same_setup}
 use Rattle.usb_request.specs.Layout.{setup_of, bytes_of}
 use Rattle.usb_device.specs.declared.effect.Effect.TheVariants.{PortsOff}
 use Rattle.usb_device.specs.declared.bulk.EndpointState.{EndpointState}
 use Rattle.usb_device.specs.Bulk.{rested}
 use Rattle.usb_device.specs.Effect.{asked_by_setup, effect_of_request}
-use Rattle.usb_device.specs.Tree.{full, acted, Spot, place_on}
+use Rattle.usb_device.specs.Tree.{full, acted, Location, place_on}
 use Rattle.usb_world.specs.AttemptPackets.{IsSettled}
-use Rattle.usb_hub.specs.Requests.{Ordered}
+use Rattle.usb_hub.specs.Requests.{Commanded}
 use Rattle.usb_hub.proofs.RestingRequests.{behind_asks_nothing}
 use Rattle.usb_hub.specs.Settings.{AddressAsked, takes_value, OnlySet, IsConfigured, WentOff, ConfigurationAsked}
 
@@ -41,13 +41,13 @@ use Rattle.usb_hub.specs.Settings.{AddressAsked, takes_value, OnlySet, IsConfigu
 all_spared : (t : Target) (request : Setup) (R : Relation) (old new : World) → is_harmless request ≡ true → EachSpared t request R old new → EachWas R old new
 all_spared t request R old new harmless x = λ j s on there. x j s on there (λ h. absurd (cc (harmless, h)))
 
-module _ (t : Target) (request : Setup) (harmless : is_harmless request ≡ true) (nothing : request.length ≡ 0) (result : Result (Unit {0}) PipeFault) (old new : World) (ordered : Ordered t request old result new)
+module _ (t : Target) (request : Setup) (harmless : is_harmless request ≡ true) (nothing : request.length ≡ 0) (result : Result (Unit {0}) PipeFault) (old new : World) (ordered : Commanded t request old result new)
     (single : new.shared ≡ false) where
   pub each_leaves : EachWas (WriteLeaves t request result old new) old new
   each_leaves = all_spared t request (WriteLeaves t request result old new) old new harmless (write_leaves t request result old new nothing (same_setup request) ordered.settled ordered.stages single)
 
 -- what is so of a device after it: where it accepted the request, where it was given the status stage, and where it saw nothing of it
-module _ (t : Target) (request : Setup) (old new : World) (j : Spot) (s v : State) (Q : Type 0)
+module _ (t : Target) (request : Setup) (old new : World) (j : Location) (s v : State) (Q : Type 0)
     (accepts : (row : List PortState) → OnlyControl (accepted s row request) v → v.registers ≡ (accepted s row request).registers → Q)
     (ends : (row : List PortState) (address : Option ℕ) → first_stage row request.length (outcome s.spec s.registers request) ≡ ending address → OnlyControl (accepted s row request) v → StatusGiven address (accepted s row request) v → Q)
     (rests : OnlyControl s v → v.registers ≡ s.registers → Q) where
@@ -66,9 +66,9 @@ module _ (t : Target) (request : Setup) (old new : World) (j : Spot) (s v : Stat
 
 -- what is said where the bus did not give up, and holds of a device where it did
 module _ (t : Target) (request : Setup) (R : Result (Unit {0}) PipeFault → Relation) (old new : World) (single : new.shared ≡ false) where
-  pub or_of_bus : ((result : Result (Unit {0}) PipeFault) → IsNoBusFault result → Ordered t request old result new → EachWas (R result) old new)
-      → ((fault : _) → Ordered t request old (Err (Bus fault)) new → EachWas (R (Err (Bus fault))) old new)
-      → (result : Result (Unit {0}) PipeFault) → Ordered t request old result new → EachWas (R result) old new
+  pub or_of_bus : ((result : Result (Unit {0}) PipeFault) → IsNoBusFault result → Commanded t request old result new → EachWas (R result) old new)
+      → ((fault : _) → Commanded t request old (Err (Bus fault)) new → EachWas (R (Err (Bus fault))) old new)
+      → (result : Result (Unit {0}) PipeFault) → Commanded t request old result new → EachWas (R result) old new
   or_of_bus sound cut (Ok tt) x = sound (Ok tt) tt x
   or_of_bus sound cut (Err Stalled) x = sound (Err Stalled) tt x
   or_of_bus sound cut (Err Busy) x = sound (Err Busy) tt x
@@ -82,27 +82,27 @@ Loses t request old new result j s v = IsNoBusFault result → LossesOf t reques
 
 module _ (t : Target) (request : Setup) (harmless : is_harmless request ≡ true) (nothing : request.length ≡ 0) (old new : World) (single : new.shared ≡ false) where
   -- why it failed
-  pub each_why : (result : Result (Unit {0}) PipeFault) → Ordered t request old result new → NoThreeDamaged old → EachWas (WhyWrite t result) old new
-  each_why result ordered three = or_of_bus t request (WhyWrite t) old new single sound cut result ordered
+  pub each_why : (result : Result (Unit {0}) PipeFault) → Commanded t request old result new → NoThreeDamaged old → EachWas (WriteFailure t result) old new
+  each_why result ordered three = or_of_bus t request (WriteFailure t) old new single sound cut result ordered
     where
-      sound : (result : Result (Unit {0}) PipeFault) → IsNoBusFault result → Ordered t request old result new → EachWas (WhyWrite t result) old new
-      sound result n x = all_spared t request (WhyWrite t result) old new harmless (write_why t request result old new nothing (same_setup request) x.settled three x.stages n single)
+      sound : (result : Result (Unit {0}) PipeFault) → IsNoBusFault result → Commanded t request old result new → EachWas (WriteFailure t result) old new
+      sound result n x = all_spared t request (WriteFailure t result) old new harmless (write_why t request result old new nothing (same_setup request) x.settled three x.stages n single)
 
-      cut : (fault : _) → Ordered t request old (Err (Bus fault)) new → EachWas (WhyWrite t (Err (Bus fault))) old new
+      cut : (fault : _) → Commanded t request old (Err (Bus fault)) new → EachWas (WriteFailure t (Err (Bus fault))) old new
       cut fault x =
-          each_wider (WriteLeaves t request (Err (Bus fault)) old new) (WhyWrite t (Err (Bus fault))) (λ j s v w. record { answered = λ l e. absurd cc; waited = λ l b n e. absurd cc }) old new
+          each_wider (WriteLeaves t request (Err (Bus fault)) old new) (WriteFailure t (Err (Bus fault))) (λ j s v w. record { answered = λ l e. absurd cc; waited = λ l b n e. absurd cc }) old new
           (each_leaves t request harmless nothing (Err (Bus fault)) old new x single)
 
   -- what it lost, where the bus did not give up
-  each_loses : begins_no_stretch request ≡ true → (result : Result (Unit {0}) PipeFault) → Ordered t request old result new → EachWas (Loses t request old new result) old new
+  each_loses : begins_no_stretch request ≡ true → (result : Result (Unit {0}) PipeFault) → Commanded t request old result new → EachWas (Loses t request old new result) old new
   each_loses plain result ordered = or_of_bus t request (Loses t request old new) old new single sound cut result ordered
     where
-      sound : (result : Result (Unit {0}) PipeFault) → IsNoBusFault result → Ordered t request old result new → EachWas (Loses t request old new result) old new
+      sound : (result : Result (Unit {0}) PipeFault) → IsNoBusFault result → Commanded t request old result new → EachWas (Loses t request old new result) old new
       sound result n x =
           each_wider (LossesOf t request result old new) (Loses t request old new result) (λ j s v y n. y) old new
           (all_spared t request (LossesOf t request result old new) old new harmless (write_losses t request result old new (same_setup request) plain x.settled x.stages n single))
 
-      cut : (fault : _) → Ordered t request old (Err (Bus fault)) new → EachWas (Loses t request old new (Err (Bus fault))) old new
+      cut : (fault : _) → Commanded t request old (Err (Bus fault)) new → EachWas (Loses t request old new (Err (Bus fault))) old new
       cut fault x = each_wider (WriteLeaves t request (Err (Bus fault)) old new) (Loses t request old new (Err (Bus fault))) (λ j s v w n. elim n [ ]) old new (each_leaves t request harmless nothing (Err (Bus fault)) old new x single)
 
 -- SET_ADDRESS
@@ -166,7 +166,7 @@ module _ (t : Target) (a : ℕ) (most : a ≤ 127) (old new : World) where
       let ends : _ = asked_ends s.spec.stalls.address a row address (sym (stage_is s row) ∙ e) in
       (ends.0, given_either s.spec.stalls.address a row address s v ends.1 (subst (λ y. StatusGiven address y v) (begun_is s row) x))
 
-  module _ (j : Spot) (s v : State) where
+  module _ (j : Location) (s v : State) where
     failed_same : (fault : PipeFault) → IsNoBusFault {A = Unit {0}} (Err fault) → EffectOrNone t request fault old j s v → v.registers ≡ s.registers
     failed_same fault n (none frame same) = same
     failed_same fault n (some row now at frame same) = registers_of s v row same
@@ -204,14 +204,14 @@ module _ (t : Target) (a : ℕ) (most : a ≤ 127) (old new : World) where
       could = x.0.could;
     }
 
-pub address_asked : (t : Target) (a : ℕ) (result : Result (Unit {0}) PipeFault) (old new : World) → a ≤ 127 → Ordered t (set_address a) old result new → new.shared ≡ false → EachWas (AddressAsked t a result old new) old new
+pub address_asked : (t : Target) (a : ℕ) (result : Result (Unit {0}) PipeFault) (old new : World) → a ≤ 127 → Commanded t (set_address a) old result new → new.shared ≡ false → EachWas (AddressAsked t a result old new) old new
 unfolding set_address
 address_asked t a result old new most ordered single =
     each_wider (λ j s v. WriteLeaves t (set_address a) result old new j s v × Loses t (set_address a) old new result j s v) (AddressAsked t a result old new) (λ j s v. address_leaves t a most old new j s v result) old new
     (each_both (WriteLeaves t (set_address a) result old new) (Loses t (set_address a) old new result) old new
     (each_leaves t (set_address a) refl refl result old new ordered single) (each_loses t (set_address a) refl refl old new single refl result ordered))
 
-pub address_why : (t : Target) (a : ℕ) (result : Result (Unit {0}) PipeFault) (old new : World) → Ordered t (set_address a) old result new → NoThreeDamaged old → new.shared ≡ false → EachWas (WhyWrite t result) old new
+pub address_why : (t : Target) (a : ℕ) (result : Result (Unit {0}) PipeFault) (old new : World) → Commanded t (set_address a) old result new → NoThreeDamaged old → new.shared ≡ false → EachWas (WriteFailure t result) old new
 unfolding set_address
 address_why t a result old new ordered three single = each_why t (set_address a) refl refl old new single result ordered three
 
@@ -249,9 +249,9 @@ accepts_value s value e = split s.spec.stalls.set_config e
     split true e = absurd cc
     split false e = (refl, e)
 
-set_ends : (b : Bool) (value : ℕ) (row : List PortState) (address : Option ℕ) → first_stage row 0 (set_to b value) ≡ ending address → (b ≡ true) × (address ≡ None)
-set_ends true value row address e = (refl, cc)
-set_ends false value row address e = absurd cc
+first_stage-set : (b : Bool) (value : ℕ) (row : List PortState) (address : Option ℕ) → first_stage row 0 (set_to b value) ≡ ending address → (b ≡ true) × (address ≡ None)
+first_stage-set true value row address e = (refl, cc)
+first_stage-set false value row address e = absurd cc
 
 set_refuses : (b : Bool) (value : ℕ) (row : List PortState) → first_stage row 0 (set_to b value) ≡ refused → b ≡ false
 set_refuses true value row e = absurd cc
@@ -309,14 +309,14 @@ module _ (t : Target) (value : ℕ) (old new : World) where
   set_of : (s v : State) (row : List PortState) → OnlyControl (accepted s row order) v → v.registers ≡ (accepted s row order).registers → OnlySet s v × Set (takes_it s value) value s v
   set_of s v row h r = set_frame (takes_it s value) value row s v (subst (λ y. OnlyControl y v) (set_is s row) h) (r ∙ ap (λ y. y.registers) (set_is s row))
 
-  module _ (j : Spot) (s v : State) where
+  module _ (j : Location) (s v : State) where
     none_set : OnlyControl s v → v.registers ≡ s.registers → OnlySet s v
     none_set h r = settings_frame s v s.bulk_out s.bulk_in s.changes s.held s.registers.configuration h r
 
     whole_set : (row : List PortState) (address : Option ℕ) → first_stage row order.length (outcome s.spec s.registers order) ≡ ending address → OnlyControl (accepted s row order) v → StatusGiven address (accepted s row order) v
         → (takes_it s value ≡ true) × OnlySet s v × IsConfigured value s v
     whole_set row address e h given =
-        let ends : _ = set_ends (takes_it s value) value row address (sym (set_stage s row) ∙ e) in
+        let ends : _ = first_stage-set (takes_it s value) value row address (sym (set_stage s row) ∙ e) in
         let parts : _ = set_of s v row h (given_registers address (accepted s row order) v ends.1 given) in
         (ends.0, parts.0, subst (λ b. Set b value s v) ends.0 parts.1)
 
@@ -331,7 +331,7 @@ module _ (t : Target) (value : ℕ) (old new : World) where
       state = d.moment.accepts.state;
       ports = at.holder.below;
       off = subst (λ x. place_on d.moment.now.roots j ≡ Some (full at.holder.port d.moment.accepts.state (acted x at.holder.below))) effect at.left;
-      since = λ x. behind_asks_nothing t x d.moment.since (subst (λ w. IsSettled w.roots) (sym at.last) (attempt_settled _ at.mid at.holder.made.settled));
+      since = λ x. behind_asks_nothing t x d.moment.since (subst (λ w. IsSettled w.roots) (sym at.last) (settled_attempt _ at.mid at.holder.made.settled));
     }
       where
         at : AcceptedAt t (bytes_of order) old d.moment.now j s d.moment.accepts.state
@@ -360,12 +360,12 @@ module _ (t : Target) (value : ℕ) (old new : World) where
       could = x.could;
     }
 
-pub configuration_asked : (t : Target) (value : ℕ) (result : Result (Unit {0}) PipeFault) (old new : World) → Ordered t (set_configuration value) old result new → new.shared ≡ false → EachWas (ConfigurationAsked t value result new) old new
+pub configuration_asked : (t : Target) (value : ℕ) (result : Result (Unit {0}) PipeFault) (old new : World) → Commanded t (set_configuration value) old result new → new.shared ≡ false → EachWas (ConfigurationAsked t value result new) old new
 unfolding set_configuration
 configuration_asked t value result old new ordered single =
     each_wider (WriteLeaves t (set_configuration value) result old new) (ConfigurationAsked t value result new) (λ j s v. configuration_leaves t value old new j s v result) old new
     (each_leaves t (set_configuration value) refl refl result old new ordered single)
 
-pub configuration_why : (t : Target) (value : ℕ) (result : Result (Unit {0}) PipeFault) (old new : World) → Ordered t (set_configuration value) old result new → NoThreeDamaged old → new.shared ≡ false → EachWas (WhyWrite t result) old new
+pub configuration_why : (t : Target) (value : ℕ) (result : Result (Unit {0}) PipeFault) (old new : World) → Commanded t (set_configuration value) old result new → NoThreeDamaged old → new.shared ≡ false → EachWas (WriteFailure t result) old new
 unfolding set_configuration
 configuration_why t value result old new ordered three single = each_why t (set_configuration value) refl refl old new single result ordered three

@@ -11,7 +11,7 @@ use Rattle.usb_device.specs.Request.{outcome, port_named, told_port}
 use Rattle.usb_device.specs.Spec.{Spec}
 use Rattle.usb_device.specs.Transfer.{reading, reads_port, first_stage}
 use Rattle.usb_device.specs.Tree.{Ports, ended, vacant, taken, port_at, row_of}
-use Rattle.usb_address.proofs.Interface.{named}
+use Rattle.usb_address.proofs.Interface.{port_named-cases}
 
 same_reading : (a b : List ℕ) (n m k l : ℕ) → reading a n k ≡ reading b m l → a ≡ b
 same_reading a b n m k l h = ap (λ g. elim g as (λ _. List ℕ) [ reading x y z ↦ x | _ ↦ [] ]) h
@@ -39,10 +39,10 @@ pub record StatusOf (row : List PortState) (i : ℕ) (answer : List ℕ) (o : Ef
   pub told : answer ≡ status_of port
   pub nothing : o ≡ Leaves
 
-pub status_outcome : (sp : Spec) (g : Registers) (row : List PortState) (n : ℕ) (answer : List ℕ) → first_stage row 4 (outcome sp g (get_port_status n)) ≡ reading answer 4 0
+pub get_port_status-outcome : (sp : Spec) (g : Registers) (row : List PortState) (n : ℕ) (answer : List ℕ) → first_stage row 4 (outcome sp g (get_port_status n)) ≡ reading answer 4 0
     → StatusOf row (n - 1) answer (effect_of_request (outcome sp g (get_port_status n)))
 unfolding outcome get_port_status
-status_outcome sp g row n answer h = by_port (port_named sp.hub g n) (named sp.hub g n) h
+get_port_status-outcome sp g row n answer h = by_port (port_named sp.hub g n) (port_named-cases sp.hub g n) h
   where
     by_row : (i : ℕ) (o : Option PortState) → slice_get row i ≡ o → reads_port 4 o ≡ reading answer 4 0 → StatusOf row i answer Leaves
     by_row i None e h = absurd (cc h)

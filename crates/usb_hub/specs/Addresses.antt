@@ -5,31 +5,31 @@ use Rattle.usb_port.specs.Path.{IsPath, IsPortNumber}
 use Rattle.usb_port.specs.declared.status.PortStatus.{PortStatus}
 use Rattle.usb_device.specs.Progress.{OnlyStage}
 use Rattle.usb_device.specs.Rows.{State}
-use Rattle.usb_device.specs.Tree.{Spot, path_to, reach_on, state_on}
+use Rattle.usb_device.specs.Tree.{Location, path_to, reach_on, state_on}
 use Rattle.usb_world.specs.Addresses.{after_reset, after_taking}
 use Rattle.usb_world.specs.Devices.{Relation, Was, EachWas}
 use Rattle.usb_world.specs.Paths.{is_way}
 use Rattle.usb_world.specs.World.{World}
 use Rattle.usb_pipe.specs.declared.fault.PipeFault.{PipeFault}
-use Rattle.usb_address.specs.Claims.{Claims, claims_apart}
-use Rattle.usb_address.specs.Ownership.{Owned, TillFault, KeepsAddresses}
+use Rattle.usb_address.specs.Claims.{AddressMap, map_without}
+use Rattle.usb_address.specs.Ownership.{MapHolds, WhileBusWorks, KeepsAddresses}
 use Rattle.usb_hub.specs.declared.port.HubPort.{HubPort}
 use Rattle.usb_hub.specs.declared.port.HubPort.TheVariants.{Root, External}
 
 -- nothing of a device changed but where its transfer stands: its description, its registers and its other endpoints are as they were
-abbrev pub StaysAs : Spot → State → State → Type 0
+abbrev pub StaysAs : Location → State → State → Type 0
 StaysAs x s v = OnlyStage s v
 
 -- so it is of each reachable device that is not at the path nor below it
 abbrev pub EachElsewhere : List ℕ → Relation → World → World → Type 0
-EachElsewhere path R old new = (x : Spot) (s : State) → is_way path (path_to x) ≡ false → reach_on new.roots x ≡ true → state_on new.roots x ≡ Some s → Was R old x s
+EachElsewhere path R old new = (x : Location) (s : State) → is_way path (path_to x) ≡ false → reach_on new.roots x ≡ true → state_on new.roots x ≡ Some s → Was R old x s
 
 -- where no address was held twice, each device that is reachable was so before, and stays as it was
 pub record KeepsDevices (old new : World) : Type 0 where
   pub stays : new.shared ≡ false → EachWas StaysAs old new
 
 -- the path of a port of the hub whose path claims the address
-pub record IsBelow (f : Claims) (address port : ℕ) (p : List ℕ) : Type 0 where
+pub record IsBelow (f : AddressMap) (address port : ℕ) (p : List ℕ) : Type 0 where
   pub hub : List ℕ
   pub is_path : IsPath hub
   pub number : IsPortNumber port
@@ -37,30 +37,30 @@ pub record IsBelow (f : Claims) (address port : ℕ) (p : List ℕ) : Type 0 whe
   pub held : f hub ≡ Some address
 
 -- the path of a port; a hub is known by what its path claims, also where it is gone
-abbrev pub IsAt : Claims → HubPort → List ℕ → Type 0
+abbrev pub IsAt : AddressMap → HubPort → List ℕ → Type 0
 IsAt f (Root number) p = p ≡ number ∷ []
 IsAt f (External hub port) p = IsBelow f hub.addr port p
 
 -- some path claims the address
 pub record IsClaimed (address : ℕ) (old : World) : Type 0 where
-  pub held : (f : Claims) → TillFault (Owned f) old → (p : List ℕ) × (f p ≡ Some address)
+  pub held : (f : AddressMap) → WhileBusWorks (MapHolds f) old → (p : List ℕ) × (f p ≡ Some address)
 
 -- no device is reachable at the port or below it
-pub record Bares (port : HubPort) (old new : World) : Type 0 where
-  pub bares : (f : Claims) (p : List ℕ) → IsAt f port p → TillFault (Owned f) old → TillFault (Owned (claims_apart f p)) new
+pub record Isolates (port : HubPort) (old new : World) : Type 0 where
+  pub bares : (f : AddressMap) (p : List ℕ) → IsAt f port p → WhileBusWorks (MapHolds f) old → WhileBusWorks (MapHolds (map_without f p)) new
 
 -- where address 0 is claimed at the port or below it alone: the device there has address 0, and none below it is reachable; or all have what they had.
 -- As long as the bus is at work, devices elsewhere stay as they were.
 pub record Resets (port : HubPort) (old new : World) : Type 0 where
-  pub resets : (f : Claims) (p : List ℕ) → IsAt f port p → ((x : List ℕ) → f x ≡ Some 0 → is_way p x ≡ true) → TillFault (Owned f) old
-      → TillFault (λ w. Owned f w ⊎ Owned (after_reset f p) w) new
-  pub others : (f : Claims) (p : List ℕ) → IsAt f port p → ((x : List ℕ) → f x ≡ Some 0 → is_way p x ≡ true) → TillFault (Owned f) old
+  pub resets : (f : AddressMap) (p : List ℕ) → IsAt f port p → ((x : List ℕ) → f x ≡ Some 0 → is_way p x ≡ true) → WhileBusWorks (MapHolds f) old
+      → WhileBusWorks (λ w. MapHolds f w ⊎ MapHolds (after_reset f p) w) new
+  pub others : (f : AddressMap) (p : List ℕ) → IsAt f port p → ((x : List ℕ) → f x ≡ Some 0 → is_way p x ≡ true) → WhileBusWorks (MapHolds f) old
       → new.fault ≡ None → EachElsewhere p StaysAs old new
 
 -- where a path alone claims the target's address, and none claims the new one beside it: the device there has the new one, or all have what they had
 pub record GivesAddress (target address : ℕ) (old new : World) : Type 0 where
-  pub gives : (f : Claims) (p : List ℕ) → ((x : List ℕ) → f x ≡ Some target → x ≡ p) → ((x y : List ℕ) → f x ≡ Some address → f y ≡ Some target → ⊥)
-      → target ≢ address → TillFault (Owned f) old → TillFault (λ w. Owned f w ⊎ Owned (after_taking f p address) w) new
+  pub gives : (f : AddressMap) (p : List ℕ) → ((x : List ℕ) → f x ≡ Some target → x ≡ p) → ((x y : List ℕ) → f x ≡ Some address → f y ≡ Some target → ⊥)
+      → target ≢ address → WhileBusWorks (MapHolds f) old → WhileBusWorks (λ w. MapHolds f w ⊎ MapHolds (after_taking f p address) w) new
 
 -- whoever answered had the target's address
 pub record KeepsAnswered {A : Type 0} (address : ℕ) (old : World) (result : Result A PipeFault) (new : World) : Type 0 where
@@ -71,7 +71,7 @@ pub record KeepsAnswered {A : Type 0} (address : ℕ) (old : World) (result : Re
 pub record KeepsAsked (port : HubPort) (old : World) (result : Result PortStatus PipeFault) (new : World) : Type 0 where
   pub keeps : KeepsAddresses old new
   pub devices : KeepsDevices old new
-  pub bare : (status : PortStatus) → result ≡ Ok status → status.enabled ≡ false → Bares port old new
+  pub bare : (status : PortStatus) → result ≡ Ok status → status.enabled ≡ false → Isolates port old new
 
 -- PORT_POWER keeps them, PORT_RESET takes one
 pub record KeepsSet (port : HubPort) (feature : ℕ) (old new : World) : Type 0 where
@@ -83,4 +83,4 @@ pub record KeepsSet (port : HubPort) (feature : ℕ) (old new : World) : Type 0 
 pub record KeepsCleared (port : HubPort) (feature : ℕ) (old : World) (result : Result (Unit {0}) PipeFault) (new : World) : Type 0 where
   pub keeps : KeepsAddresses old new
   pub devices : KeepsDevices old new
-  pub bare : feature ≡ PORT_ENABLE → result ≡ Ok tt → Bares port old new
+  pub bare : feature ≡ PORT_ENABLE → result ≡ Ok tt → Isolates port old new

@@ -2,7 +2,7 @@
 use Rattle.std.specs.Prelude.{◌≡◌, ◌≢◌, ℕ, ◌≤◌, true, false, Some, Result, Ok, Err, ⊤}
 use Rattle.usb_device.specs.Rows.{State}
 use Rattle.usb_device.specs.Spec.{Spec, Hub, IsSpec}
-use Rattle.usb_device.specs.Tree.{Spot, reach_on, state_on}
+use Rattle.usb_device.specs.Tree.{Location, reach_on, state_on}
 use Rattle.usb_world.specs.World.{World}
 use Rattle.usb_transaction.specs.declared.target.Target.{Target}
 use Rattle.usb_transaction.specs.Failures.{Listens}
@@ -19,8 +19,8 @@ pub record HasPort (spec : Spec) (number : ℕ) : Type 0 where
   pub ruled : IsSpec spec
 
 -- a configured hub with an address is reached, hears its target, and has the port
-pub record Serves (target : Target) (number : ℕ) (w : World) : Type 0 where
-  pub spot : Spot
+pub record HubServes (target : Target) (number : ℕ) (w : World) : Type 0 where
+  pub spot : Location
   pub state : State
   pub on : reach_on w.roots spot ≡ true
   pub stands : state_on w.roots spot ≡ Some state

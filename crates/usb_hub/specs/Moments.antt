@@ -9,24 +9,24 @@ use Rattle.usb_device.specs.Tree.{Ports, called, place, path_to}
 use Rattle.usb_device.specs.View.{port_there}
 use Rattle.usb_world.specs.declared.types.Attempt.{Attempt}
 use Rattle.usb_world.specs.declared.types.BusFault.{BusFault}
-use Rattle.usb_world.specs.Courses.{Spares, spares_step}
+use Rattle.usb_world.specs.Courses.{KeepsPendingAt, step_keeps_pending}
 use Rattle.usb_world.specs.Paths.{is_way}
 use Rattle.usb_world.specs.PortRequests.{AsksNothing, row_reached}
-use Rattle.usb_world.specs.RestingPorts.{AsksNothingOf}
-use Rattle.usb_world.specs.Steps.{Step, attempt, root_call, event, report, after, ready, Course, AttemptFails}
-use Rattle.usb_world.specs.WayEffects.{spares}
+use Rattle.usb_world.specs.RestingPorts.{LeavesPortAlone}
+use Rattle.usb_world.specs.Steps.{Step, attempt, root_call, event, report, after, at_attempt, Course, AttemptFails}
+use Rattle.usb_world.specs.WayEffects.{keeps_pending}
 use Rattle.usb_world.specs.World.{World, Attempted}
-use Rattle.usb_address.specs.Claims.{Claims}
+use Rattle.usb_address.specs.Claims.{AddressMap}
 use Rattle.usb_backlog.specs.Marks.{KeepsAll, KeepsCall}
-use Rattle.usb_address.specs.Ownership.{Owned, TillFault}
+use Rattle.usb_address.specs.Ownership.{MapHolds, WhileBusWorks}
 use Rattle.usb_transaction.specs.declared.target.Target.{Target}
 use Rattle.usb_transaction.specs.Failures.{NoThreeDamaged}
 use Rattle.usb_pipe.specs.declared.fault.PipeFault.{PipeFault}
 use Rattle.usb_pipe.specs.declared.fault.PipeFault.TheVariants.{Bus}
 use Rattle.usb_pipe.specs.Leaves.{IsNoBusFault}
 use Rattle.usb_hub.specs.Addresses.{IsAt}
-use Rattle.usb_hub.specs.Requests.{AllRest}
-use Rattle.usb_hub.specs.CallFailures.{Serves, NoHubFailed}
+use Rattle.usb_hub.specs.Requests.{TouchesNoPort}
+use Rattle.usb_hub.specs.CallFailures.{HubServes, NoHubFailed}
 use Rattle.usb_hub.specs.declared.port.HubPort.{HubPort}
 use Rattle.usb_hub.specs.declared.port.HubPort.TheVariants.{External}
 
@@ -40,13 +40,13 @@ pub record OnReachedRow (w : World) (p : List ℕ) : Type 0 where
 -- The status of a port
 
 -- the status is the port's at a moment of the call, and the call asked nothing of any port
-pub record PortTold (p : List ℕ) (status : PortStatus) (old new : World) : Type 0 where
+pub record PortStatusAt (p : List ℕ) (status : PortStatus) (old new : World) : Type 0 where
   pub now : World
   pub port : PortState
   pub stood : port_there now.roots p ≡ Some port
   pub is : status ≡ seen port
-  pub before : AllRest old now
-  pub since : AllRest now new
+  pub before : TouchesNoPort old now
+  pub since : TouchesNoPort now new
   pub row : OnReachedRow new p
   -- what is left to do, up to then and since
   pub untold : KeepsAll old now
@@ -54,38 +54,38 @@ pub record PortTold (p : List ℕ) (status : PortStatus) (old new : World) : Typ
 
 -- So it is of the port at a path, which a hub's port is by what the hub's path claims. Where no three attempts running are damaged, and no address was
 -- held twice, a hub that is reached in the end and serves the port, which stood there, tells its status.
-pub record TellsPort (port : HubPort) (old : World) (result : Result PortStatus PipeFault) (new : World) : Type 0 where
-  pub tells : (f : Claims) (p : List ℕ) → IsAt f port p → TillFault (Owned f) old → (status : PortStatus) → result ≡ Ok status → PortTold p status old new
-  pub why : (hub : Target) (number : ℕ) → port ≡ External hub number → NoThreeDamaged old → new.shared ≡ false → 8 ≤ hub.max → (serves : Serves hub number new)
+pub record ReadsPort (port : HubPort) (old : World) (result : Result PortStatus PipeFault) (new : World) : Type 0 where
+  pub tells : (f : AddressMap) (p : List ℕ) → IsAt f port p → WhileBusWorks (MapHolds f) old → (status : PortStatus) → result ≡ Ok status → PortStatusAt p status old new
+  pub why : (hub : Target) (number : ℕ) → port ≡ External hub number → NoThreeDamaged old → new.shared ≡ false → 8 ≤ hub.max → (serves : HubServes hub number new)
       → (b : PortState) → port_there old.roots (path_to serves.spot ++ (number ∷ [])) ≡ Some b → NoHubFailed result
 
 -- A call at a port
 
 -- the ports that a step's own change comes to: the events that are due come before an attempt
-abbrev pub met_by : Step → World → Ports
-met_by (attempt a) w = (ready w).roots
-met_by (root_call c n) w = w.roots
-met_by event w = w.roots
-met_by (report line) w = w.roots
+abbrev pub ports_at_step : Step → World → Ports
+ports_at_step (attempt a) w = (at_attempt w).roots
+ports_at_step (root_call c n) w = w.roots
+ports_at_step event w = w.roots
+ports_at_step (report line) w = w.roots
 
 -- a step that is about a port: it asks nothing of the ports that are not at or below it, and clears what is pending there only where the call does
 pub record IsAbout (p : List ℕ) (c : PortCall) (s : Step) (w : World) : Type 0 where
   pub others : (x : List ℕ) → is_way p x ≡ false → AsksNothing s w x
-  pub spares : spares c [] ≡ true → spares_step s w p ≡ true
+  pub spares : keeps_pending c [] ≡ true → step_keeps_pending s w p ≡ true
 
 -- besides, it leaves the port itself, or makes the call there
 pub record ActsAt (p : List ℕ) (c : PortCall) (s : Step) (w : World) : Type 0 where
-  pub port : (place (after s w).roots p ≡ place (met_by s w) p) ⊎ (place (after s w).roots p ≡ option_map (called c) (place (met_by s w) p))
+  pub port : (place (after s w).roots p ≡ place (ports_at_step s w) p) ⊎ (place (after s w).roots p ≡ option_map (called c) (place (ports_at_step s w) p))
   pub about : IsAbout p c s w
 
 -- the port was called at a moment, with nothing before it but steps that are about this port; since then nothing was asked of any port
-pub record PortDone (p : List ℕ) (c : PortCall) (old new : World) : Type 0 where
+pub record PortCallDone (p : List ℕ) (c : PortCall) (old new : World) : Type 0 where
   pub before : World
   pub repeats : Course (ActsAt p c) old before
   pub last : Step
   pub acts : ActsAt p c last before
-  pub done : place (after last before).roots p ≡ option_map (called c) (place (met_by last before) p)
-  pub since : AllRest (after last before) new
+  pub done : place (after last before).roots p ≡ option_map (called c) (place (ports_at_step last before) p)
+  pub since : TouchesNoPort (after last before) new
   pub row : OnReachedRow new p
   -- what is left to do, up to then and since
   pub acted : KeepsCall p c old (after last before)
@@ -100,19 +100,19 @@ pub record UpToFault (K : Step → World → Type 0) (old : World) (fault : BusF
   pub fails : mid.fault ≡ None → AttemptFails last mid (Err fault) new
 
 -- a call at the port of a path; where it is PORT_RESET, no path but this and those below it claims address 0
-pub record IsCall (f : Claims) (port : HubPort) (p : List ℕ) (call : Option PortCall) (c : PortCall) (old : World) : Type 0 where
+pub record IsCall (f : AddressMap) (port : HubPort) (p : List ℕ) (call : Option PortCall) (c : PortCall) (old : World) : Type 0 where
   pub at : IsAt f port p
   pub is : call ≡ Some c
   pub alone : is_reset c ≡ true → (x : List ℕ) → f x ≡ Some 0 → is_way p x ≡ true
-  pub owned : TillFault (Owned f) old
+  pub owned : WhileBusWorks (MapHolds f) old
 
 -- It acts where it is done. Whatever its answer is, it asks nothing of the ports that are not at or below its own, and what is pending there
 -- stays, where the call itself does not clear it. Where no three attempts running are damaged, and no address was held twice, it is done at a hub
 -- that is reached in the end and serves the port.
-pub record CallsPort (port : HubPort) (call : Option PortCall) (old : World) (result : Result (Unit {0}) PipeFault) (new : World) : Type 0 where
-  pub done : (f : Claims) (p : List ℕ) (c : PortCall) → IsCall f port p call c old → result ≡ Ok tt → PortDone p c old new
-  pub rests : (f : Claims) (p : List ℕ) (c : PortCall) → IsCall f port p call c old → IsNoBusFault result → (x : List ℕ) → is_way p x ≡ false → Course (AsksNothingOf x) old new
-  pub spares : (f : Claims) (p : List ℕ) (c : PortCall) → IsCall f port p call c old → IsNoBusFault result → spares c [] ≡ true → Course (Spares p) old new
-  pub backlog : (f : Claims) (p : List ℕ) (c : PortCall) → IsCall f port p call c old → IsNoBusFault result → KeepsCall p c old new
-  pub cut : (f : Claims) (p : List ℕ) (c : PortCall) → IsCall f port p call c old → (fault : BusFault) → result ≡ Err (Bus fault) → UpToFault (IsAbout p c) old fault new
-  pub why : (hub : Target) (number : ℕ) → port ≡ External hub number → NoThreeDamaged old → new.shared ≡ false → Serves hub number new → NoHubFailed result
+pub record CommandsPort (port : HubPort) (call : Option PortCall) (old : World) (result : Result (Unit {0}) PipeFault) (new : World) : Type 0 where
+  pub done : (f : AddressMap) (p : List ℕ) (c : PortCall) → IsCall f port p call c old → result ≡ Ok tt → PortCallDone p c old new
+  pub rests : (f : AddressMap) (p : List ℕ) (c : PortCall) → IsCall f port p call c old → IsNoBusFault result → (x : List ℕ) → is_way p x ≡ false → Course (LeavesPortAlone x) old new
+  pub spares : (f : AddressMap) (p : List ℕ) (c : PortCall) → IsCall f port p call c old → IsNoBusFault result → keeps_pending c [] ≡ true → Course (KeepsPendingAt p) old new
+  pub backlog : (f : AddressMap) (p : List ℕ) (c : PortCall) → IsCall f port p call c old → IsNoBusFault result → KeepsCall p c old new
+  pub cut : (f : AddressMap) (p : List ℕ) (c : PortCall) → IsCall f port p call c old → (fault : BusFault) → result ≡ Err (Bus fault) → UpToFault (IsAbout p c) old fault new
+  pub why : (hub : Target) (number : ℕ) → port ≡ External hub number → NoThreeDamaged old → new.shared ≡ false → HubServes hub number new → NoHubFailed result

@@ -5,17 +5,17 @@ use Rattle.usb_request.specs.declared.setup.Setup.{Setup}
 use Rattle.usb_world.specs.AttemptPackets.{IsSettled}
 use Rattle.usb_world.specs.Courses.{is_harmless}
 use Rattle.usb_world.specs.PortRequests.{asks_no_port, is_above}
-use Rattle.usb_world.specs.RestingPorts.{AsksNothingOf}
+use Rattle.usb_world.specs.RestingPorts.{LeavesPortAlone}
 use Rattle.usb_world.specs.Steps.{Course}
 use Rattle.usb_world.specs.World.{World}
 use Rattle.usb_transaction.specs.declared.target.Target.{Target}
-use Rattle.usb_transaction.specs.Transactions.{Worked}
+use Rattle.usb_transaction.specs.Transactions.{AttemptsMade}
 use Rattle.usb_port.specs.Status.{has_bit}
-use Rattle.usb_address.specs.Claims.{Claims}
+use Rattle.usb_address.specs.Claims.{AddressMap}
 use Rattle.usb_backlog.specs.Marks.{KeepsAll}
 use Rattle.usb_request.specs.Codes.{PORT_OUT, SET_FEATURE}
 use Rattle.usb_device.specs.Request.{Is}
-use Rattle.usb_address.specs.Ownership.{Owned}
+use Rattle.usb_address.specs.Ownership.{MapHolds}
 use Rattle.usb_pipe.specs.declared.fault.PipeFault.{PipeFault}
 use Rattle.usb_pipe.specs.declared.fault.PipeFault.TheVariants.{Stalled, Memory}
 use Rattle.usb_pipe.specs.Control.{FaultAfter}
@@ -25,37 +25,37 @@ use Rattle.usb_hub.specs.declared.status.DeviceStatus.{DeviceStatus}
 
 -- how few attempts came before each end of a request that takes so many transactions at least
 abbrev pub EndsAfter : {A : Type 0} → ℕ → World → Result A PipeFault → World → Type 0
-EndsAfter least old result new = MatchResult result (λ done. Worked least old new) (λ fault. FaultAfter 1 old fault new)
+EndsAfter least old result new = MatchResult result (λ done. AttemptsMade least old new) (λ fault. FaultAfter 1 old fault new)
 
 -- over these steps nothing is asked of any port
-abbrev pub AllRest : World → World → Type 0
-AllRest w v = (x : List ℕ) → Course (AsksNothingOf x) w v
+abbrev pub TouchesNoPort : World → World → Type 0
+TouchesNoPort w v = (x : List ℕ) → Course (LeavesPortAlone x) w v
 
 -- where a path claims the address, nothing is asked of the ports that are not below it
-abbrev pub RestBut : ℕ → World → World → Type 0
-RestBut address w v = (f : Claims) (q : List ℕ) → f q ≡ Some address → Owned f w → (x : List ℕ) → is_above q x ≡ false → Course (AsksNothingOf x) w v
+abbrev pub TouchesPortsBelow : ℕ → World → World → Type 0
+TouchesPortsBelow address w v = (f : AddressMap) (q : List ℕ) → f q ≡ Some address → MapHolds f w → (x : List ℕ) → is_above q x ≡ false → Course (LeavesPortAlone x) w v
 
 -- a target was asked for data: how few attempts were made, and which they were; no more bytes came than the request says, and nothing
 -- was asked of any port
-pub record AskedData (target : Target) (request : Setup) (old : World) (answer : Result (Vec ℕ) PipeFault) (new : World) : Type 0 where
+pub record Queried (target : Target) (request : Setup) (old : World) (answer : Result (Vec ℕ) PipeFault) (new : World) : Type 0 where
   pub settled : IsSettled old.roots
   pub ends : EndsAfter 3 old answer new
   pub stages : Reads target request old answer new
   pub most : IfOk answer (λ bytes. length bytes.items ≤ request.length)
-  pub rests : IsNoBusFault answer → AllRest old new
+  pub rests : IsNoBusFault answer → TouchesNoPort old new
   pub backlog : IsNoBusFault answer → KeepsAll old new
 
 -- a target was ordered to do what has no data
-pub record Ordered (target : Target) (request : Setup) (old : World) (result : Result (Unit {0}) PipeFault) (new : World) : Type 0 where
+pub record Commanded (target : Target) (request : Setup) (old : World) (result : Result (Unit {0}) PipeFault) (new : World) : Type 0 where
   pub settled : IsSettled old.roots
   pub ends : EndsAfter 2 old result new
   pub stages : Writes target request old result new
   pub room : result ≢ Err Memory
   -- a request that is not about ports asks nothing of any
-  pub rests : asks_no_port request ≡ true → IsNoBusFault result → AllRest old new
+  pub rests : asks_no_port request ≡ true → IsNoBusFault result → TouchesNoPort old new
   pub backlog : Is request PORT_OUT SET_FEATURE ≡ false → IsNoBusFault result → KeepsAll old new
   -- one that resets no port asks nothing but of ports below the target's device
-  pub elsewhere : is_harmless request ≡ true → IsNoBusFault result → RestBut target.addr old new
+  pub elsewhere : is_harmless request ≡ true → IsNoBusFault result → TouchesPortsBelow target.addr old new
 
 -- what an answer says that is to have so many bytes: one of another length is told as a stall
 abbrev pub said_in : {A : Type 0} → (List ℕ → A) → ℕ → Result (Vec ℕ) PipeFault → Result A PipeFault
@@ -63,9 +63,9 @@ said_in read size (Ok bytes) = if length bytes.items == size then Ok (read bytes
 said_in read size (Err fault) = Err fault
 
 -- a target was asked for data of just so many bytes as the request says, and what is told is what they say
-pub record Told {A : Type 0} (read : List ℕ → A) (target : Target) (request : Setup) (old : World) (result : Result A PipeFault) (new : World) : Type 0 where
+pub record ReadAs {A : Type 0} (read : List ℕ → A) (target : Target) (request : Setup) (old : World) (result : Result A PipeFault) (new : World) : Type 0 where
   pub answer : Result (Vec ℕ) PipeFault
-  pub asked : AskedData target request old answer new
+  pub asked : Queried target request old answer new
   pub told : result ≡ said_in read request.length answer
   pub ends : EndsAfter 3 old result new
 

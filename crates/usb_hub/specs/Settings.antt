@@ -5,10 +5,10 @@ use Rattle.usb_device.specs.Request.{is_value}
 use Rattle.usb_device.specs.Rows.{State}
 use Rattle.usb_device.specs.Bulk.{rested}
 use Rattle.usb_device.specs.Progress.{OnlyControl}
-use Rattle.usb_device.specs.Tree.{Ports, full, all_off, Spot, place_on}
+use Rattle.usb_device.specs.Tree.{Ports, full, all_off, Location, place_on}
 use Rattle.usb_world.specs.World.{World}
 use Rattle.usb_world.specs.Steps.{Course}
-use Rattle.usb_world.specs.RestingPorts.{AsksNothingOf}
+use Rattle.usb_world.specs.RestingPorts.{LeavesPortAlone}
 use Rattle.usb_transaction.specs.declared.target.Target.{Target}
 use Rattle.usb_transaction.specs.Leaves.{is_at}
 use Rattle.usb_pipe.specs.declared.fault.PipeFault.{PipeFault}
@@ -17,7 +17,7 @@ use Rattle.usb_pipe.specs.Leaves.{CanEnd, IsNoBusFault, TookItOrLost}
 
 -- A device was asked to take an address: nothing of it changed but where its transfer stands, and its address to this one. Where that is done, it
 -- took it at the host's ACK, or one loss more is counted; where it failed, neither.
-pub record AddressAsked (t : Target) (address : ℕ) (result : Result (Unit {0}) PipeFault) (old new : World) (x : Spot) (s v : State) : Type 0 where
+pub record AddressAsked (t : Target) (address : ℕ) (result : Result (Unit {0}) PipeFault) (old new : World) (x : Location) (s v : State) : Type 0 where
   pub others : is_at s t ≡ false → v ≡ s
   pub frame : OnlyControl s v
   pub either : (v.registers ≡ s.registers) ⊎ (v.registers ≡ record s.registers { address = address })
@@ -43,13 +43,13 @@ pub record IsConfigured (value : ℕ) (s v : State) : Type 0 where
   pub fresh : IsFresh v
 
 -- at a moment of the call all ports of the device there were off, and nothing was asked of any port since
-pub record WentOff (new : World) (x : Spot) : Type 0 where
+pub record WentOff (new : World) (x : Location) : Type 0 where
   pub now : World
   pub b : PortState
   pub state : State
   pub ports : Ports
   pub off : place_on now.roots x ≡ Some (full b state (all_off ports))
-  pub since : (path : List ℕ) → Course (AsksNothingOf path) now new
+  pub since : (path : List ℕ) → Course (LeavesPortAlone path) now new
 
 -- where its transfer stands, its configuration and its endpoints: what a configuration may change
 abbrev pub OnlySet : State → State → Type 0
@@ -66,7 +66,7 @@ OnlySet s v =
     }
 
 -- A device was asked to take a configuration. Where that is done, it has it, and its ports went off; where it failed, it has it or has what it had.
-pub record ConfigurationAsked (t : Target) (value : ℕ) (result : Result (Unit {0}) PipeFault) (new : World) (x : Spot) (s v : State) : Type 0 where
+pub record ConfigurationAsked (t : Target) (value : ℕ) (result : Result (Unit {0}) PipeFault) (new : World) (x : Location) (s v : State) : Type 0 where
   pub others : is_at s t ≡ false → v ≡ s
   pub frame : OnlySet s v
   pub either : (v.registers ≡ s.registers) ⊎ IsConfigured value s v

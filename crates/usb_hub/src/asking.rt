@@ -3,10 +3,10 @@ ghost use Rattle.std.specs.Prelude.{◌≡◌, ◌≤◌, true};
 ghost use Rattle.usb_transaction.specs.Transactions.{IsTarget};
 ghost use Rattle.usb_request.specs.Layout.{IsToHost, IsToDevice};
 ghost use Rattle.usb_pipe.specs.Control.{control_bound, write_bound};
-ghost use Rattle.usb_bus.specs.Traces.{Went};
+ghost use Rattle.usb_bus.specs.Traces.{Steps};
 ghost use Rattle.usb_address.specs.Ownership.{KeepsAddresses};
 ghost use Rattle.usb_hub.specs.Addresses.{KeepsAnswered};
-ghost use Rattle.usb_hub.specs.Requests.{AskedData, Told, Ordered};
+ghost use Rattle.usb_hub.specs.Requests.{Queried, ReadAs, Commanded};
 
 use std::alloc::Global;
 use usb_pipe::{Bus, PipeFault, Setup, Target, control_in, control_none};
@@ -16,7 +16,7 @@ use usb_pipe::{Bus, PipeFault, Setup, Target, control_in, control_none};
 /// # Errors
 ///
 /// Those of `control_in`.
-#[tactic(auto, using(crate::proofs::AddressesKept::answered))]
+#[tactic(auto, using(crate::proofs::AddressesKept::reads_keeps_addresses))]
 pub(crate) fn ask<B: Bus>(
     alloc: Global,
     bus: &mut B,
@@ -26,10 +26,10 @@ pub(crate) fn ask<B: Bus>(
     requires target { IsTarget target }
     requires reads { IsToHost setup }
     requires some { 1 ≤ setup.length }
-    ensures went { B.modelled ≡ true
-        → Went B.world B.trace (control_bound target.max setup.length) bus.old bus.new }
+    ensures steps { B.modelled ≡ true
+        → Steps B.world B.trace (control_bound target.max setup.length) bus.old bus.new }
     ensures asked { B.modelled ≡ true
-        → AskedData target setup (B.world bus.old) result (B.world bus.new) }
+        → Queried target setup (B.world bus.old) result (B.world bus.new) }
     ensures addresses { B.modelled ≡ true
         → KeepsAnswered target.addr (B.world bus.old) result (B.world bus.new) }
 {
@@ -51,10 +51,10 @@ pub(crate) fn ask_all<B: Bus, const N: usize>(
     requires reads { IsToHost setup }
     requires some { 1 ≤ setup.length }
     requires size { setup.length ≡ N }
-    ensures went { B.modelled ≡ true
-        → Went B.world B.trace (control_bound target.max setup.length) bus.old bus.new }
+    ensures steps { B.modelled ≡ true
+        → Steps B.world B.trace (control_bound target.max setup.length) bus.old bus.new }
     ensures told { B.modelled ≡ true
-        → Told (λ bytes. bytes) target setup (B.world bus.old) result (B.world bus.new) }
+        → ReadAs (λ bytes. bytes) target setup (B.world bus.old) result (B.world bus.new) }
     ensures keeps { B.modelled ≡ true → KeepsAddresses (B.world bus.old) (B.world bus.new) }
 {
     let answer = ask(alloc, bus, target, setup)?;
@@ -73,9 +73,9 @@ pub(crate) fn order<B: Bus>(bus: &mut B, target: Target, setup: Setup) -> Result
     requires target { IsTarget target }
     requires writes { IsToDevice setup }
     requires none { setup.length ≡ 0 }
-    ensures went { B.modelled ≡ true → Went B.world B.trace write_bound bus.old bus.new }
+    ensures steps { B.modelled ≡ true → Steps B.world B.trace write_bound bus.old bus.new }
     ensures ordered { B.modelled ≡ true
-        → Ordered target setup (B.world bus.old) result (B.world bus.new) }
+        → Commanded target setup (B.world bus.old) result (B.world bus.new) }
 {
     control_none(bus, target, setup)
 }

@@ -3,13 +3,13 @@
 ghost use Rattle.std.specs.Prelude.{◌+◌, ◌*◌, ◌≡◌, true, IfErr};
 ghost use Rattle.usb_transaction.specs.Transactions.{IsTarget};
 ghost use Rattle.usb_pipe.specs.Control.{FaultAfter, control_bound, write_bound};
-ghost use Rattle.usb_bus.specs.Traces.{Went};
+ghost use Rattle.usb_bus.specs.Traces.{Steps};
 ghost use Rattle.usb_address.specs.Ownership.{KeepsAddresses};
 ghost use Rattle.usb_hub.specs.Addresses.{KeepsDevices};
 ghost use Rattle.usb_request.specs.HubRequests.{get_hub_status};
-ghost use Rattle.usb_hub.specs.Changes.{ClearsEach, ClearsOfHub, ClearsOfPort, ClearsTold, ToldBus, done_or_unknown, hub_status};
+ghost use Rattle.usb_hub.specs.Changes.{ClearsEach, ClearsOfHub, ClearsOfPort, ClearsIfReported, ToldBus, done_or_unknown, hub_status};
 ghost use Rattle.usb_hub.specs.Port.{IsAsked, order_bound};
-ghost use Rattle.usb_hub.specs.Requests.{Told};
+ghost use Rattle.usb_hub.specs.Requests.{ReadAs};
 
 use crate::asking::{ask_all, order};
 use crate::external::clear_hub_port;
@@ -27,7 +27,7 @@ use usb_request::hub_feature::{C_HUB_LOCAL_POWER, C_HUB_OVER_CURRENT};
 /// Those of `control_none` but `Stalled`.
 pub fn clear_port_change<B: Bus>(bus: &mut B, port: HubPort, feature: u16) -> Result<(), PipeFault>
     requires { IsAsked B.modelled (B.world bus.old) port }
-    ensures went { B.modelled ≡ true → Went B.world B.trace (order_bound port) bus.old bus.new }
+    ensures steps { B.modelled ≡ true → Steps B.world B.trace (order_bound port) bus.old bus.new }
     ensures fault { B.modelled ≡ true
         → IfErr result (λ fault. FaultAfter 1 (B.world bus.old) fault (B.world bus.new)) }
     ensures addresses { B.modelled ≡ true → KeepsAddresses (B.world bus.old) (B.world bus.new) }
@@ -52,8 +52,8 @@ pub fn clear_port_change<B: Bus>(bus: &mut B, port: HubPort, feature: u16) -> Re
 #[tactic(auto, using(usb_address::proofs::Interface::keeps_then))]
 pub fn clear_hub_changes<B: Bus>(alloc: Global, bus: &mut B, hub: Target) -> Result<(), PipeFault>
     requires { IsTarget hub }
-    ensures went { B.modelled ≡ true
-        → Went B.world B.trace (control_bound hub.max 4 + 2 * write_bound) bus.old bus.new }
+    ensures steps { B.modelled ≡ true
+        → Steps B.world B.trace (control_bound hub.max 4 + 2 * write_bound) bus.old bus.new }
     ensures fault { B.modelled ≡ true → ToldBus result (B.world bus.new) }
     ensures addresses { B.modelled ≡ true → KeepsAddresses (B.world bus.old) (B.world bus.new) }
     ensures cleared { B.modelled ≡ true
@@ -68,10 +68,10 @@ pub fn clear_hub_changes<B: Bus>(alloc: Global, bus: &mut B, hub: Target) -> Res
 /// The status of a hub itself (11.24.2.6).
 fn own_status<B: Bus>(alloc: Global, bus: &mut B, hub: Target) -> Result<HubStatus, PipeFault>
     requires { IsTarget hub }
-    ensures went { B.modelled ≡ true
-        → Went B.world B.trace (control_bound hub.max 4) bus.old bus.new }
+    ensures steps { B.modelled ≡ true
+        → Steps B.world B.trace (control_bound hub.max 4) bus.old bus.new }
     ensures told { B.modelled ≡ true
-        → Told hub_status hub get_hub_status (B.world bus.old) result (B.world bus.new) }
+        → ReadAs hub_status hub get_hub_status (B.world bus.old) result (B.world bus.new) }
     ensures addresses { B.modelled ≡ true → KeepsAddresses (B.world bus.old) (B.world bus.new) }
 {
     let bytes = ask_all(alloc, bus, hub, Setup::get_hub_status())?;
@@ -82,7 +82,7 @@ fn own_status<B: Bus>(alloc: Global, bus: &mut B, hub: Target) -> Result<HubStat
 #[tactic(auto, using(usb_address::proofs::Interface::keeps_then))]
 fn clear_each<B: Bus>(bus: &mut B, hub: Target, status: HubStatus) -> Result<(), PipeFault>
     requires { IsTarget hub }
-    ensures went { B.modelled ≡ true → Went B.world B.trace (2 * write_bound) bus.old bus.new }
+    ensures steps { B.modelled ≡ true → Steps B.world B.trace (2 * write_bound) bus.old bus.new }
     ensures fault { B.modelled ≡ true → ToldBus result (B.world bus.new) }
     ensures addresses { B.modelled ≡ true → KeepsAddresses (B.world bus.old) (B.world bus.new) }
     ensures cleared { B.modelled ≡ true
@@ -96,11 +96,11 @@ fn clear_each<B: Bus>(bus: &mut B, hub: Target, status: HubStatus) -> Result<(),
 #[tactic(auto, using(usb_address::proofs::Interface::keeps_none))]
 fn clear_told<B: Bus>(bus: &mut B, hub: Target, told: bool, feature: u16) -> Result<(), PipeFault>
     requires { IsTarget hub }
-    ensures went { B.modelled ≡ true → Went B.world B.trace write_bound bus.old bus.new }
+    ensures steps { B.modelled ≡ true → Steps B.world B.trace write_bound bus.old bus.new }
     ensures fault { B.modelled ≡ true → ToldBus result (B.world bus.new) }
     ensures addresses { B.modelled ≡ true → KeepsAddresses (B.world bus.old) (B.world bus.new) }
     ensures cleared { B.modelled ≡ true
-        → ClearsTold told hub feature (B.world bus.old) result (B.world bus.new) }
+        → ClearsIfReported told hub feature (B.world bus.old) result (B.world bus.new) }
 {
     if !told {
         return Ok(());

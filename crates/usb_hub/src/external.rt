@@ -5,10 +5,10 @@ ghost use Rattle.usb_port.specs.Status.{status_in};
 ghost use Rattle.usb_request.specs.declared.feature.TheConstants.{PORT_RESET};
 ghost use Rattle.usb_request.specs.Requests.{get_port_status, set_port_feature as set_feature, clear_port_feature as clear_feature};
 ghost use Rattle.usb_pipe.specs.Control.{control_bound, write_bound};
-ghost use Rattle.usb_bus.specs.Traces.{Went};
+ghost use Rattle.usb_bus.specs.Traces.{Steps};
 ghost use Rattle.usb_address.specs.Ownership.{KeepsAddresses};
 ghost use Rattle.usb_hub.specs.Addresses.{KeepsDevices};
-ghost use Rattle.usb_hub.specs.Requests.{Told, Ordered};
+ghost use Rattle.usb_hub.specs.Requests.{ReadAs, Commanded};
 
 use crate::PortStatus;
 use crate::asking::{ask_all, order};
@@ -27,9 +27,9 @@ pub fn hub_port_status<B: Bus>(
     port: u8,
 ) -> Result<PortStatus, PipeFault>
     requires { IsTarget hub }
-    ensures went { B.modelled ≡ true
-        → Went B.world B.trace (control_bound hub.max 4) bus.old bus.new }
-    ensures told { B.modelled ≡ true → Told status_in hub (get_port_status port)
+    ensures steps { B.modelled ≡ true
+        → Steps B.world B.trace (control_bound hub.max 4) bus.old bus.new }
+    ensures told { B.modelled ≡ true → ReadAs status_in hub (get_port_status port)
         (B.world bus.old) result (B.world bus.new) }
     ensures keeps { B.modelled ≡ true → KeepsAddresses (B.world bus.old) (B.world bus.new) }
     ensures devices { B.modelled ≡ true → KeepsDevices (B.world bus.old) (B.world bus.new) }
@@ -51,8 +51,8 @@ pub fn set_hub_port<B: Bus>(
     feature: u16,
 ) -> Result<(), PipeFault>
     requires { IsTarget hub }
-    ensures went { B.modelled ≡ true → Went B.world B.trace write_bound bus.old bus.new }
-    ensures ordered { B.modelled ≡ true → Ordered hub (set_feature feature port)
+    ensures steps { B.modelled ≡ true → Steps B.world B.trace write_bound bus.old bus.new }
+    ensures ordered { B.modelled ≡ true → Commanded hub (set_feature feature port)
         (B.world bus.old) result (B.world bus.new) }
     ensures keeps { B.modelled ≡ true
         → feature ≢ PORT_RESET → KeepsAddresses (B.world bus.old) (B.world bus.new) }
@@ -67,7 +67,7 @@ pub fn set_hub_port<B: Bus>(
 /// # Errors
 ///
 /// Those of `control_none`; after `Busy` and `NoAnswer` the feature may be cleared.
-#[tactic(auto, using(crate::proofs::AddressesKept::cleared_keeps, crate::proofs::Devices::cleared_stays))]
+#[tactic(auto, using(crate::proofs::AddressesKept::cleared_keeps, crate::proofs::Devices::clear_feature_keeps))]
 pub fn clear_hub_port<B: Bus>(
     bus: &mut B,
     hub: Target,
@@ -75,8 +75,8 @@ pub fn clear_hub_port<B: Bus>(
     feature: u16,
 ) -> Result<(), PipeFault>
     requires { IsTarget hub }
-    ensures went { B.modelled ≡ true → Went B.world B.trace write_bound bus.old bus.new }
-    ensures ordered { B.modelled ≡ true → Ordered hub (clear_feature feature port)
+    ensures steps { B.modelled ≡ true → Steps B.world B.trace write_bound bus.old bus.new }
+    ensures ordered { B.modelled ≡ true → Commanded hub (clear_feature feature port)
         (B.world bus.old) result (B.world bus.new) }
     ensures keeps { B.modelled ≡ true → KeepsAddresses (B.world bus.old) (B.world bus.new) }
     ensures devices { B.modelled ≡ true → KeepsDevices (B.world bus.old) (B.world bus.new) }

@@ -27,21 +27,21 @@
 //!   (the first bytes of a descriptor, where the target's maximum is the device's; its status whole), a STALL is told
 //!   only of what it does not give, and neither a silent nor an always busy device answers (`DeviceAsked`,
 //!   `ConfigAsked`, `StringAsked`, `HubAsked`, `StatusAsked`). Where no three attempts running are damaged, a device
-//!   that hears its target answers, and only an always busy one is given up as busy (`WhyAsked`).
+//!   that hears its target answers, and only an always busy one is given up as busy (`ReadFailure`).
 //! - `set_address`: where it is done the device took the address at the host's ACK, or one more loss is counted; where
 //!   it failed, neither (`AddressAsked`). `set_configuration`: where it is done the device has it, its endpoints began
 //!   again, and its ports went off; where it failed it has that, or what it had (`ConfigurationAsked`).
 //! - `port_status`: the status is the port's at a moment of the call, before and after which nothing is asked of any
-//!   port, and the hub is still reached (`PortTold`).
+//!   port, and the hub is still reached (`PortStatusAt`).
 //! - `set_port`, `clear_port`: a call that is done acted at the port, at a moment of it; before that there were only
-//!   repeats of it, and since then nothing was asked of any port (`PortDone`). Whatever the answer, nothing is asked of
+//!   repeats of it, and since then nothing was asked of any port (`PortCallDone`). Whatever the answer, nothing is asked of
 //!   a port that is not at or below this one, and a change of connection there that the call does not clear stays
-//!   pending (`CallsPort`). `SetWent` is the course of `set_port`: within its count at a hub's port and with PORT_RESET
+//!   pending (`CallsPort`). `SetSteps` is the course of `set_port`: within its count at a hub's port and with PORT_RESET
 //!   at a root port, where PORT_POWER may set a change of connection.
 //! - `clear_port_change`, `clear_hub_changes`: the requests were made, just for the changes that were told, and keep all
 //!   addresses; a STALL of one counts as done (`Clears`, `ClearsOfHub`).
 //! - Calls at a hub's port fail only where three attempts running are damaged, or the hub is not reached, does not hear
-//!   its target, is not configured or has no such port (`Serves`, `usb_hub/specs/CallFailures.antt`).
+//!   its target, is not configured or has no such port (`HubServes`, `usb_hub/specs/CallFailures.antt`).
 //! - But for PORT_RESET, a call at a port leaves each device that is still reachable as it was, but for where its
 //!   transfer stands on endpoint 0 (`KeepsDevices`); PORT_RESET does so of each that is not at the port nor below it
 //!   (`Resets`).

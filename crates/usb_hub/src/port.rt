@@ -1,11 +1,11 @@
 //! The ports of hubs, the root's among them.
 ghost use Rattle.std.specs.Prelude.{IfErr, ◌≡◌, true};
 ghost use Rattle.usb_port.specs.Calls.{set_call, clear_call, IsSetFeature, IsClearFeature};
-ghost use Rattle.usb_bus.specs.Traces.{Went};
+ghost use Rattle.usb_bus.specs.Traces.{Steps};
 ghost use Rattle.usb_pipe.specs.Control.{FaultAfter};
 ghost use Rattle.usb_hub.specs.Addresses.{KeepsAsked, KeepsSet, KeepsCleared};
-ghost use Rattle.usb_hub.specs.Moments.{TellsPort, CallsPort};
-ghost use Rattle.usb_hub.specs.Port.{IsAsked, PortRead, SetWent, PortSet, PortCleared, status_bound, order_bound};
+ghost use Rattle.usb_hub.specs.Moments.{ReadsPort, CommandsPort};
+ghost use Rattle.usb_hub.specs.Port.{IsAsked, PortRead, SetSteps, PortSet, PortCleared, status_bound, order_bound};
 
 use crate::external::{clear_hub_port, hub_port_status, set_hub_port};
 use crate::{PipeFault, PortStatus};
@@ -38,11 +38,11 @@ pub fn port_status<B: Bus>(
     port: HubPort,
 ) -> Result<PortStatus, PipeFault>
     requires { IsAsked B.modelled (B.world bus.old) port }
-    ensures went { B.modelled ≡ true → Went B.world B.trace (status_bound port) bus.old bus.new }
+    ensures steps { B.modelled ≡ true → Steps B.world B.trace (status_bound port) bus.old bus.new }
     ensures fault { B.modelled ≡ true
         → IfErr result (λ fault. FaultAfter 1 (B.world bus.old) fault (B.world bus.new)) }
     ensures status { B.modelled ≡ true → PortRead port (B.world bus.old) result (B.world bus.new) }
-    ensures told { B.modelled ≡ true → TellsPort port (B.world bus.old) result (B.world bus.new) }
+    ensures told { B.modelled ≡ true → ReadsPort port (B.world bus.old) result (B.world bus.new) }
     ensures addresses { B.modelled ≡ true
         → KeepsAsked port (B.world bus.old) result (B.world bus.new) }
 {
@@ -63,7 +63,7 @@ pub fn set_port<B: Bus>(bus: &mut B, port: HubPort, feature: u16) -> Result<(), 
     requires port { IsAsked B.modelled (B.world bus.old) port }
     requires named { IsSetFeature feature }
     // PORT_POWER of a root port may set its C_PORT_CONNECTION.
-    ensures went { B.modelled ≡ true → SetWent port feature (B.world bus.old) (B.trace bus.old)
+    ensures steps { B.modelled ≡ true → SetSteps port feature (B.world bus.old) (B.trace bus.old)
         (B.world bus.new) (B.trace bus.new) }
     ensures fault { B.modelled ≡ true
         → IfErr result (λ fault. FaultAfter 1 (B.world bus.old) fault (B.world bus.new)) }
@@ -72,7 +72,7 @@ pub fn set_port<B: Bus>(bus: &mut B, port: HubPort, feature: u16) -> Result<(), 
     ensures addresses { B.modelled ≡ true
         → KeepsSet port feature (B.world bus.old) (B.world bus.new) }
     ensures ports { B.modelled ≡ true
-        → CallsPort port (set_call feature) (B.world bus.old) result (B.world bus.new) }
+        → CommandsPort port (set_call feature) (B.world bus.old) result (B.world bus.new) }
 {
     match port {
         HubPort::Root(number) => {
@@ -93,7 +93,7 @@ pub fn set_port<B: Bus>(bus: &mut B, port: HubPort, feature: u16) -> Result<(), 
 pub fn clear_port<B: Bus>(bus: &mut B, port: HubPort, feature: u16) -> Result<(), PipeFault>
     requires port { IsAsked B.modelled (B.world bus.old) port }
     requires named { IsClearFeature feature }
-    ensures went { B.modelled ≡ true → Went B.world B.trace (order_bound port) bus.old bus.new }
+    ensures steps { B.modelled ≡ true → Steps B.world B.trace (order_bound port) bus.old bus.new }
     ensures fault { B.modelled ≡ true
         → IfErr result (λ fault. FaultAfter 1 (B.world bus.old) fault (B.world bus.new)) }
     ensures effect { B.modelled ≡ true
@@ -101,7 +101,7 @@ pub fn clear_port<B: Bus>(bus: &mut B, port: HubPort, feature: u16) -> Result<()
     ensures addresses { B.modelled ≡ true
         → KeepsCleared port feature (B.world bus.old) result (B.world bus.new) }
     ensures ports { B.modelled ≡ true
-        → CallsPort port (clear_call feature) (B.world bus.old) result (B.world bus.new) }
+        → CommandsPort port (clear_call feature) (B.world bus.old) result (B.world bus.new) }
 {
     match port {
         HubPort::Root(number) => {

@@ -1,17 +1,17 @@
 //! The standard's requests to a device (9.4).
 ghost use Rattle.std.specs.Prelude.{◌≡◌, ◌≤◌, false, true};
-ghost use Rattle.usb_bus.specs.Traces.{Went};
+ghost use Rattle.usb_bus.specs.Traces.{Steps};
 ghost use Rattle.usb_world.specs.Devices.{EachWas};
 ghost use Rattle.usb_request.specs.Codes.{HUB_LENGTH};
 ghost use Rattle.usb_transaction.specs.Transactions.{IsTarget};
 ghost use Rattle.usb_transaction.specs.Failures.{NoThreeDamaged};
 ghost use Rattle.usb_pipe.specs.Control.{control_bound, write_bound};
-ghost use Rattle.usb_pipe.specs.Failures.{WhyWrite};
+ghost use Rattle.usb_pipe.specs.Failures.{WriteFailure};
 ghost use Rattle.usb_request.specs.Requests.{get_device_descriptor, get_configuration_descriptor, get_string_descriptor, get_hub_descriptor, get_status as status_request, set_address as address_request, set_configuration as configuration_request};
 ghost use Rattle.usb_address.specs.Ownership.{KeepsAddresses};
 ghost use Rattle.usb_hub.specs.Addresses.{KeepsAnswered, GivesAddress};
-ghost use Rattle.usb_hub.specs.GivenAnswers.{DeviceAsked, ConfigAsked, StringAsked, HubAsked, StatusAsked, WhyAsked};
-ghost use Rattle.usb_hub.specs.Requests.{AskedData, Told, Ordered, device_status};
+ghost use Rattle.usb_hub.specs.GivenAnswers.{DeviceAsked, ConfigAsked, StringAsked, HubAsked, StatusAsked, ReadFailure};
+ghost use Rattle.usb_hub.specs.Requests.{Queried, ReadAs, Commanded, device_status};
 ghost use Rattle.usb_hub.specs.Settings.{AddressAsked, ConfigurationAsked};
 
 use crate::DeviceStatus;
@@ -32,15 +32,15 @@ pub fn get_device<B: Bus>(
 ) -> Result<Vec<u8>, PipeFault>
     requires target { IsTarget target }
     requires some { 1 ≤ length }
-    ensures went { B.modelled ≡ true
-        → Went B.world B.trace (control_bound target.max length) bus.old bus.new }
-    ensures asked { B.modelled ≡ true → AskedData target (get_device_descriptor length)
+    ensures steps { B.modelled ≡ true
+        → Steps B.world B.trace (control_bound target.max length) bus.old bus.new }
+    ensures asked { B.modelled ≡ true → Queried target (get_device_descriptor length)
         (B.world bus.old) result (B.world bus.new) }
     ensures what { B.modelled ≡ true → (B.world bus.new).shared ≡ false
         → EachWas (DeviceAsked target length result) (B.world bus.old) (B.world bus.new) }
     ensures why { B.modelled ≡ true → NoThreeDamaged (B.world bus.old) → 8 ≤ target.max
         → (B.world bus.new).shared ≡ false
-        → EachWas (WhyAsked target length result) (B.world bus.old) (B.world bus.new) }
+        → EachWas (ReadFailure target length result) (B.world bus.old) (B.world bus.new) }
     ensures addresses { B.modelled ≡ true
         → KeepsAnswered target.addr (B.world bus.old) result (B.world bus.new) }
 {
@@ -62,15 +62,15 @@ pub fn get_config<B: Bus>(
 ) -> Result<Vec<u8>, PipeFault>
     requires target { IsTarget target }
     requires some { 1 ≤ length }
-    ensures went { B.modelled ≡ true
-        → Went B.world B.trace (control_bound target.max length) bus.old bus.new }
-    ensures asked { B.modelled ≡ true → AskedData target (get_configuration_descriptor index length)
+    ensures steps { B.modelled ≡ true
+        → Steps B.world B.trace (control_bound target.max length) bus.old bus.new }
+    ensures asked { B.modelled ≡ true → Queried target (get_configuration_descriptor index length)
         (B.world bus.old) result (B.world bus.new) }
     ensures what { B.modelled ≡ true → (B.world bus.new).shared ≡ false
         → EachWas (ConfigAsked target index length result) (B.world bus.old) (B.world bus.new) }
     ensures why { B.modelled ≡ true → NoThreeDamaged (B.world bus.old) → 8 ≤ target.max
         → (B.world bus.new).shared ≡ false
-        → EachWas (WhyAsked target length result) (B.world bus.old) (B.world bus.new) }
+        → EachWas (ReadFailure target length result) (B.world bus.old) (B.world bus.new) }
     ensures keeps { B.modelled ≡ true → KeepsAddresses (B.world bus.old) (B.world bus.new) }
 {
     ask(
@@ -95,15 +95,15 @@ pub fn get_string<B: Bus>(
     language: u16,
 ) -> Result<Vec<u8>, PipeFault>
     requires target { IsTarget target }
-    ensures went { B.modelled ≡ true
-        → Went B.world B.trace (control_bound target.max 255) bus.old bus.new }
-    ensures asked { B.modelled ≡ true → AskedData target (get_string_descriptor index language)
+    ensures steps { B.modelled ≡ true
+        → Steps B.world B.trace (control_bound target.max 255) bus.old bus.new }
+    ensures asked { B.modelled ≡ true → Queried target (get_string_descriptor index language)
         (B.world bus.old) result (B.world bus.new) }
     ensures what { B.modelled ≡ true → (B.world bus.new).shared ≡ false
         → EachWas (StringAsked target index result) (B.world bus.old) (B.world bus.new) }
     ensures why { B.modelled ≡ true → NoThreeDamaged (B.world bus.old) → 8 ≤ target.max
         → (B.world bus.new).shared ≡ false
-        → EachWas (WhyAsked target 255 result) (B.world bus.old) (B.world bus.new) }
+        → EachWas (ReadFailure target 255 result) (B.world bus.old) (B.world bus.new) }
     ensures keeps { B.modelled ≡ true → KeepsAddresses (B.world bus.old) (B.world bus.new) }
 {
     ask(
@@ -125,15 +125,15 @@ pub fn hub_descriptor<B: Bus>(
     target: Target,
 ) -> Result<Vec<u8>, PipeFault>
     requires { IsTarget target }
-    ensures went { B.modelled ≡ true
-        → Went B.world B.trace (control_bound target.max HUB_LENGTH) bus.old bus.new }
+    ensures steps { B.modelled ≡ true
+        → Steps B.world B.trace (control_bound target.max HUB_LENGTH) bus.old bus.new }
     ensures asked { B.modelled ≡ true
-        → AskedData target get_hub_descriptor (B.world bus.old) result (B.world bus.new) }
+        → Queried target get_hub_descriptor (B.world bus.old) result (B.world bus.new) }
     ensures what { B.modelled ≡ true → (B.world bus.new).shared ≡ false
         → EachWas (HubAsked target result) (B.world bus.old) (B.world bus.new) }
     ensures why { B.modelled ≡ true → NoThreeDamaged (B.world bus.old) → 8 ≤ target.max
         → (B.world bus.new).shared ≡ false
-        → EachWas (WhyAsked target HUB_LENGTH result) (B.world bus.old) (B.world bus.new) }
+        → EachWas (ReadFailure target HUB_LENGTH result) (B.world bus.old) (B.world bus.new) }
     ensures keeps { B.modelled ≡ true → KeepsAddresses (B.world bus.old) (B.world bus.new) }
 {
     ask(alloc, bus, target, Setup::get_hub_descriptor())
@@ -150,15 +150,15 @@ pub fn get_status<B: Bus>(
     target: Target,
 ) -> Result<DeviceStatus, PipeFault>
     requires { IsTarget target }
-    ensures went { B.modelled ≡ true
-        → Went B.world B.trace (control_bound target.max 2) bus.old bus.new }
-    ensures told { B.modelled ≡ true → Told device_status target status_request
+    ensures steps { B.modelled ≡ true
+        → Steps B.world B.trace (control_bound target.max 2) bus.old bus.new }
+    ensures told { B.modelled ≡ true → ReadAs device_status target status_request
         (B.world bus.old) result (B.world bus.new) }
     ensures what { B.modelled ≡ true → (B.world bus.new).shared ≡ false
         → EachWas (StatusAsked target result) (B.world bus.old) (B.world bus.new) }
     ensures why { B.modelled ≡ true → NoThreeDamaged (B.world bus.old) → 8 ≤ target.max
         → (B.world bus.new).shared ≡ false
-        → EachWas (WhyAsked target 2 result) (B.world bus.old) (B.world bus.new) }
+        → EachWas (ReadFailure target 2 result) (B.world bus.old) (B.world bus.new) }
     ensures keeps { B.modelled ≡ true → KeepsAddresses (B.world bus.old) (B.world bus.new) }
 {
     let bytes = ask_all(alloc, bus, target, Setup::get_status())?;
@@ -171,20 +171,20 @@ pub fn get_status<B: Bus>(
 /// # Errors
 ///
 /// Those of `control_none`; after `Busy` and `NoAnswer` the device may have the address.
-#[tactic(auto, using(crate::proofs::AddressesKept::gives))]
+#[tactic(auto, using(crate::proofs::AddressesKept::address_given))]
 pub fn set_address<B: Bus>(bus: &mut B, target: Target, address: u8) -> Result<(), PipeFault>
     requires target { IsTarget target }
     requires least { 1 ≤ address }
     requires most { address ≤ 127 }
-    ensures went { B.modelled ≡ true → Went B.world B.trace write_bound bus.old bus.new }
-    ensures ordered { B.modelled ≡ true → Ordered target (address_request address)
+    ensures steps { B.modelled ≡ true → Steps B.world B.trace write_bound bus.old bus.new }
+    ensures ordered { B.modelled ≡ true → Commanded target (address_request address)
         (B.world bus.old) result (B.world bus.new) }
     ensures what { B.modelled ≡ true → (B.world bus.new).shared ≡ false
         → EachWas (AddressAsked target address result (B.world bus.old) (B.world bus.new))
         (B.world bus.old) (B.world bus.new) }
     ensures why { B.modelled ≡ true
         → NoThreeDamaged (B.world bus.old) → (B.world bus.new).shared ≡ false
-        → EachWas (WhyWrite target result) (B.world bus.old) (B.world bus.new) }
+        → EachWas (WriteFailure target result) (B.world bus.old) (B.world bus.new) }
     ensures gives { B.modelled ≡ true
         → GivesAddress target.addr address (B.world bus.old) (B.world bus.new) }
 {
@@ -200,15 +200,15 @@ pub fn set_address<B: Bus>(bus: &mut B, target: Target, address: u8) -> Result<(
 #[tactic(auto, using(crate::proofs::AddressesKept::configured))]
 pub fn set_configuration<B: Bus>(bus: &mut B, target: Target, value: u8) -> Result<(), PipeFault>
     requires target { IsTarget target }
-    ensures went { B.modelled ≡ true → Went B.world B.trace write_bound bus.old bus.new }
-    ensures ordered { B.modelled ≡ true → Ordered target (configuration_request value)
+    ensures steps { B.modelled ≡ true → Steps B.world B.trace write_bound bus.old bus.new }
+    ensures ordered { B.modelled ≡ true → Commanded target (configuration_request value)
         (B.world bus.old) result (B.world bus.new) }
     ensures what { B.modelled ≡ true → (B.world bus.new).shared ≡ false
         → EachWas (ConfigurationAsked target value result (B.world bus.new))
         (B.world bus.old) (B.world bus.new) }
     ensures why { B.modelled ≡ true
         → NoThreeDamaged (B.world bus.old) → (B.world bus.new).shared ≡ false
-        → EachWas (WhyWrite target result) (B.world bus.old) (B.world bus.new) }
+        → EachWas (WriteFailure target result) (B.world bus.old) (B.world bus.new) }
     ensures keeps { B.modelled ≡ true → KeepsAddresses (B.world bus.old) (B.world bus.new) }
 {
     order(bus, target, Setup::set_configuration(value))

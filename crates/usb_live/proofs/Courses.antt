@@ -21,10 +21,10 @@ use Rattle.usb_wire.specs.declared.question.Question.{Question}
 use Rattle.usb_wire.specs.declared.question.Question.TheVariants.{Hello, Wait, Port}
 use Rattle.usb_serve.specs.declared.runs.Item.{Item}
 use Rattle.usb_serve.specs.declared.runs.Item.TheVariants.{Listing, Sent, Received, Cleared}
-use Rattle.usb_stream.specs.Stream.{AsksNothing, AsksOnce, Attempts, AttemptsBy, Calls, Kept, Opens, Tells, bus_fault, greeted, kept_of, question_by, question_for, roots_if, setup_with, speed_of, streams, unasked, unread_of, written_of}
+use Rattle.usb_stream.specs.Stream.{AsksNoQuestion, AsksOnce, AttemptsByLine, AttemptsBy, Calls, Kept, SaysHello, WritesLines, bus_fault, greeted, kept_of, question_by, question_for, roots_if, setup_with, line_speed, streams, unasked, unread_of, written_of}
 use Rattle.usb_stream.specs.declared.bus.StreamBus.{StreamBus}
 use Rattle.usb_stream.specs.declared.fault.LiveFault.{LiveFault}
-use Rattle.usb_live.specs.Course.{Course, CourseTo, EndsBy, IsAt, Lives, is_nothing, is_wait, owed_by, owed_left, questions_in, settles, stage_behind, stage_of, told_text}
+use Rattle.usb_live.specs.Course.{LiveCourse, CourseTo, EndsBy, StandsAtStage, Lives, is_nothing, is_wait, owed_by, owed_left, questions_in, settles, stage_behind, stage_behind_answer, told_text}
 use Rattle.usb_live.specs.declared.end.LiveEnd.{LiveEnd}
 use Rattle.usb_live.specs.declared.end.LiveEnd.TheVariants.{Line, Memory, Rounds}
 use Rattle.usb_live.specs.declared.owed.Owed.{Owed}
@@ -50,7 +50,7 @@ asked_on : {st : Stage} {o : Owed} {limit : ℕ} {u b : Option (List ℕ)} (r0 r
 asked_on r0 r1 w0 w1 j k q result c sound plain h =
     let fewer = left_behind q r0 r1 w0 w1 j result k h in
     let few = c.few in
-    record { asked = c.asked + questions_in result; course = Course.asked q result c.course sound plain h; few = omega (arith, fewer, few); at = tt }
+    record { asked = c.asked + questions_in result; course = LiveCourse.asked q result c.course sound plain h; few = omega (arith, fewer, few); at = tt }
 
 -- what is wanted was asked
 wanted_on : {st : Stage} {limit : ℕ} {u b : Option (List ℕ)} (r0 r1 w0 w1 : Option (List ℕ)) (j k : Kept)
@@ -59,11 +59,11 @@ wanted_on : {st : Stage} {limit : ℕ} {u b : Option (List ℕ)} (r0 r1 w0 w1 : 
 wanted_on r0 r1 w0 w1 j k result c sound h =
     let fewer = left_behind Wait r0 r1 w0 w1 j result k h in
     let few = c.few in
-    record { asked = c.asked + questions_in result; course = Course.wanted result c.course sound h; few = omega (arith, fewer, few); at = tt }
+    record { asked = c.asked + questions_in result; course = LiveCourse.wanted result c.course sound h; few = omega (arith, fewer, few); at = tt }
 
-still_on : {st : Stage} {o : Owed} {limit : ℕ} {u b : Option (List ℕ)} (r0 r1 w0 w1 : Option (List ℕ)) (j k : Kept) → CourseTo st o limit u b r0 w0 j
-    → AsksNothing (streams r0 r1 w0 w1) j k → CourseTo Asks o limit u b r1 w1 k
-still_on r0 r1 w0 w1 j k c h = record { asked = c.asked; course = Course.still c.course h; few = ap (λ (x : Kept). c.asked + x.left) h.same ∙ c.few; at = tt }
+course_nothing_asked : {st : Stage} {o : Owed} {limit : ℕ} {u b : Option (List ℕ)} (r0 r1 w0 w1 : Option (List ℕ)) (j k : Kept) → CourseTo st o limit u b r0 w0 j
+    → AsksNoQuestion (streams r0 r1 w0 w1) j k → CourseTo Asks o limit u b r1 w1 k
+course_nothing_asked r0 r1 w0 w1 j k c h = record { asked = c.asked; course = LiveCourse.still c.course h; few = ap (λ (x : Kept). c.asked + x.left) h.same ∙ c.few; at = tt }
 
 -- an attempt does not ask what is wanted
 abbrev asks_wait : Option Question → Bool
@@ -84,14 +84,14 @@ by_plain OutTok speed e most None = refl
 by_plain InTok speed e most payload = refl
 
 attempt_plain : (a : Attempt) → asks_wait (question_for a) ≡ false
-attempt_plain a = by_plain a.kind (speed_of a.low a.pre) (record { address = a.addr; number = a.ep }) a.max a.payload
+attempt_plain a = by_plain a.kind (line_speed a.low a.pre) (record { address = a.addr; number = a.ep }) a.max a.payload
 
 attempts_on : {st : Stage} {o : Owed} {limit : ℕ} {u b : Option (List ℕ)} (r0 r1 w0 w1 : Option (List ℕ)) (j k : Kept) (q : Option Question)
     (most : ℕ) (result : Result Outcome BusFault) → asks_wait q ≡ false
     → CourseTo st o limit u b r0 w0 j → j.fault ≡ None → AttemptsBy q most (streams r0 r1 w0 w1) j result k → CourseTo Asks o limit u b r1 w1 k
 attempts_on r0 r1 w0 w1 j k (Some q) most (Ok outcome) plain c sound h = asked_on r0 r1 w0 w1 j k q (Ok h.got) c sound plain h.asked
 attempts_on r0 r1 w0 w1 j k (Some q) most (Err told) plain c sound h = asked_on r0 r1 w0 w1 j k q (Err h.f) c sound plain h.asked
-attempts_on r0 r1 w0 w1 j k None most result plain c sound h = still_on r0 r1 w0 w1 j k c h.0
+attempts_on r0 r1 w0 w1 j k None most result plain c sound h = course_nothing_asked r0 r1 w0 w1 j k c h.0
 
 -- ---- one call, of a bus that may have a fault
 
@@ -108,7 +108,7 @@ by_fault rem con limit u b old new st ow None is same on c = on is
 pub attempt_on : {R W : Type 0} (rem : R → Option (List ℕ)) (con : W → Option (List ℕ)) (limit : ℕ) (u b : Option (List ℕ)) (old new : StreamBus R W) (st : Stage)
     (ow : Owed) (a : Attempt) (result : Result Outcome BusFault)
     → ((f : LiveFault) → (kept_of old).fault ≡ Some f → (result ≡ Err (bus_fault f)) × (new ≡ old))
-    → ((kept_of old).fault ≡ None → Attempts a (streams (unread_of rem old) (unread_of rem new) (written_of con old) (written_of con new)) (kept_of old) result (kept_of new))
+    → ((kept_of old).fault ≡ None → AttemptsByLine a (streams (unread_of rem old) (unread_of rem new) (written_of con old) (written_of con new)) (kept_of old) result (kept_of new))
     → CourseTo st ow limit u b (unread_of rem old) (written_of con old) (kept_of old)
     → CourseTo Asks ow limit u b (unread_of rem new) (written_of con new) (kept_of new)
 attempt_on rem con limit u b old new st ow a result again asks c =
@@ -121,17 +121,17 @@ beyond_or p roots one beyond (inl more) = beyond more
 beyond_or p roots one beyond (inr most) = one (omega arith) most
 
 -- a port is none, or one that there is, or none again
-within : (port roots : ℕ) {T : Type 0} → (port ≡ 0 → T) → (1 ≤ port → port ≤ roots → T) → (roots < port → T) → T
-within zero roots none one beyond = none refl
-within (suc p) roots none one beyond = beyond_or p roots one beyond (cases_lt roots (suc p))
+port_within_roots : (port roots : ℕ) {T : Type 0} → (port ≡ 0 → T) → (1 ≤ port → port ≤ roots → T) → (roots < port → T) → T
+port_within_roots zero roots none one beyond = none refl
+port_within_roots (suc p) roots none one beyond = beyond_or p roots one beyond (cases_lt roots (suc p))
 
 calls_by : {st : Stage} {o : Owed} {limit : ℕ} {u b : Option (List ℕ)} (r0 r1 w0 w1 : Option (List ℕ)) (j k : Kept) (port : ℕ) (call : Option PortCall)
     → CourseTo st o limit u b r0 w0 j → j.fault ≡ None → Calls port call (streams r0 r1 w0 w1) j k → CourseTo Asks o limit u b r1 w1 k
-calls_by r0 r1 w0 w1 j k port None c sound h = still_on r0 r1 w0 w1 j k c h
+calls_by r0 r1 w0 w1 j k port None c sound h = course_nothing_asked r0 r1 w0 w1 j k c h
 calls_by r0 r1 w0 w1 j k port (Some call) c sound h =
-    within port j.roots (λ e. still_on r0 r1 w0 w1 j k c (h.1 e))
+    port_within_roots port j.roots (λ e. course_nothing_asked r0 r1 w0 w1 j k c (h.1 e))
     (λ least most. let one = h.0 least most in asked_on r0 r1 w0 w1 j k (Port port call) one.result c sound refl one.asked)
-    (λ beyond. still_on r0 r1 w0 w1 j k c (h.2 beyond))
+    (λ beyond. course_nothing_asked r0 r1 w0 w1 j k c (h.2 beyond))
 
 pub call_on : {R W : Type 0} (rem : R → Option (List ℕ)) (con : W → Option (List ℕ)) (limit : ℕ) (u b : Option (List ℕ)) (old new : StreamBus R W) (st : Stage)
     (ow : Owed) (port : ℕ) (call : Option PortCall)
@@ -147,7 +147,7 @@ call_on rem con limit u b old new st ow port call again asks c =
 
 waits_by : {st : Stage} {limit : ℕ} {u b : Option (List ℕ)} (r0 r1 w0 w1 : Option (List ℕ)) (j k : Kept) (result : Result Answer LiveFault)
     → CourseTo st owed.Nothing limit u b r0 w0 j → j.fault ≡ None → AsksOnce Wait (streams r0 r1 w0 w1) j result k
-    → CourseTo (stage_of result) (owed_by result) limit u b r1 w1 k
+    → CourseTo (stage_behind_answer result) (owed_by result) limit u b r1 w1 k
 unfolding wanted_on
 waits_by r0 r1 w0 w1 j k (Ok answer.End) c sound h =
     let on = wanted_on r0 r1 w0 w1 j k (Ok answer.End) c sound h in
@@ -183,50 +183,50 @@ pub wait_on : {R W : Type 0} (rem : R → Option (List ℕ)) (con : W → Option
     → ((f : LiveFault) → (kept_of old).fault ≡ Some f → (result ≡ Err f) × (new ≡ old))
     → ((kept_of old).fault ≡ None → AsksOnce Wait (streams (unread_of rem old) (unread_of rem new) (written_of con old) (written_of con new)) (kept_of old) result (kept_of new))
     → CourseTo st owed.Nothing limit u b (unread_of rem old) (written_of con old) (kept_of old)
-    → CourseTo (stage_of result) (owed_by result) limit u b (unread_of rem new) (written_of con new) (kept_of new)
+    → CourseTo (stage_behind_answer result) (owed_by result) limit u b (unread_of rem new) (written_of con new) (kept_of new)
 wait_on {R} {W} rem con limit u b old new st result (Some f) is again asks c =
     let (told, same) = again f is in
-    subst (λ (a : Result Answer LiveFault). CourseTo (stage_of a) (owed_by a) limit u b (unread_of rem new) (written_of con new) (kept_of new)) (sym told)
+    subst (λ (a : Result Answer LiveFault). CourseTo (stage_behind_answer a) (owed_by a) limit u b (unread_of rem new) (written_of con new) (kept_of new)) (sym told)
     (subst (λ (x : StreamBus R W). CourseTo Asks owed.Nothing limit u b (unread_of rem x) (written_of con x) (kept_of x)) (sym same) (on_asks c))
 wait_on rem con limit u b old new st result None is again asks c =
     waits_by (unread_of rem old) (unread_of rem new) (written_of con old) (written_of con new) (kept_of old) (kept_of new) result c is (asks is)
 
 told_on : {st : Stage} {o : Owed} {limit : ℕ} {u b : Option (List ℕ)} (r w0 w1 : Option (List ℕ)) (j k : Kept) (number : ℕ) (item : Item)
     (result : Result (Unit {0}) LiveFault) → CourseTo st o limit u b r w0 j → j.fault ≡ None → k.left ≡ j.left → settles o item ≡ true
-    → Tells (told_text number item) w0 w1 j result k → CourseTo Asks (owed_left o result) limit u b r w1 k
+    → WritesLines (told_text number item) w0 w1 j result k → CourseTo Asks (owed_left o result) limit u b r w1 k
 told_on r w0 w1 j k number item result c sound same fits h = record {
   asked = c.asked;
-  course = Course.told number item result c.course sound fits h;
+  course = LiveCourse.told number item result c.course sound fits h;
   few = ap (λ (n : ℕ). c.asked + n) same ∙ c.few;
   at = tt;
 }
 
 -- none of the questions is used
-same_left : (lines : List ℕ) (w0 w1 : Option (List ℕ)) (j : Kept) (result : Result (Unit {0}) LiveFault) (k : Kept) → Tells lines w0 w1 j result k → k.left ≡ j.left
+same_left : (lines : List ℕ) (w0 w1 : Option (List ℕ)) (j : Kept) (result : Result (Unit {0}) LiveFault) (k : Kept) → WritesLines lines w0 w1 j result k → k.left ≡ j.left
 same_left lines w0 w1 j (Ok done) k h = ap (λ (x : Kept). x.left) h.1
 same_left lines w0 w1 j (Err f) k h = ap (λ (x : Kept). x.left) h.2
 
-tells_by : {o : Owed} {limit : ℕ} {u b : Option (List ℕ)} (st : Stage) (r w0 w1 : Option (List ℕ)) (j k : Kept) (number : ℕ) (item : Item) (done : Unit {0})
-    → CourseTo st o limit u b r w0 j → j.fault ≡ None → settles o item ≡ true → Tells (told_text number item) w0 w1 j (Ok done) k
+course_tells : {o : Owed} {limit : ℕ} {u b : Option (List ℕ)} (st : Stage) (r w0 w1 : Option (List ℕ)) (j k : Kept) (number : ℕ) (item : Item) (done : Unit {0})
+    → CourseTo st o limit u b r w0 j → j.fault ≡ None → settles o item ≡ true → WritesLines (told_text number item) w0 w1 j (Ok done) k
     → CourseTo (stage_behind st item) owed.Nothing limit u b r w1 k
 unfolding told_on
-tells_by Asks r w0 w1 j k number item done c sound fits h =
+course_tells Asks r w0 w1 j k number item done c sound fits h =
     told_on r w0 w1 j k number item (Ok done) c sound
     (same_left (told_text number item) w0 w1 j (Ok done) k h) fits h
-tells_by Over r w0 w1 j k number item done c sound fits h =
+course_tells Over r w0 w1 j k number item done c sound fits h =
     told_on r w0 w1 j k number item (Ok done) c sound
     (same_left (told_text number item) w0 w1 j (Ok done) k h) fits h
-tells_by EndWanted r w0 w1 j k number (Listing entries taken) done c sound fits h =
+course_tells EndWanted r w0 w1 j k number (Listing entries taken) done c sound fits h =
     let same = same_left (told_text number (Listing entries taken)) w0 w1 j (Ok done) k h in
     let on = told_on r w0 w1 j k number (Listing entries taken) (Ok done) c sound same fits h in
     record { asked = on.asked; course = on.course; few = on.few; at = record { w = w0; j = j; wanted = c.at; number = number; entries = entries; listed = h } }
-tells_by EndWanted r w0 w1 j k number (Sent path sent) done c sound fits h =
+course_tells EndWanted r w0 w1 j k number (Sent path sent) done c sound fits h =
     told_on r w0 w1 j k number (Sent path sent) (Ok done) c sound
     (same_left (told_text number (Sent path sent)) w0 w1 j (Ok done) k h) fits h
-tells_by EndWanted r w0 w1 j k number (Received path got) done c sound fits h =
+course_tells EndWanted r w0 w1 j k number (Received path got) done c sound fits h =
     told_on r w0 w1 j k number (Received path got) (Ok done) c sound
     (same_left (told_text number (Received path got)) w0 w1 j (Ok done) k h) fits h
-tells_by EndWanted r w0 w1 j k number (Cleared path all) done c sound fits h =
+course_tells EndWanted r w0 w1 j k number (Cleared path all) done c sound fits h =
     told_on r w0 w1 j k number (Cleared path all) (Ok done) c sound
     (same_left (told_text number (Cleared path all)) w0 w1 j (Ok done) k h) fits h
 
@@ -235,20 +235,20 @@ pub tell_on : {R W : Type 0} (rem : R → Option (List ℕ)) (con : W → Option
     (ow : Owed) (number : ℕ) (item : Item) (text : List ℕ) (result : Result (Unit {0}) LiveFault) (o : Option LiveFault)
     → is_ok result ≡ true → text ≡ told_text number item → settles ow item ≡ true → (kept_of old).fault ≡ o
     → ((f : LiveFault) → (kept_of old).fault ≡ Some f → (result ≡ Err f) × (new ≡ old)) → unread_of rem new ≡ unread_of rem old
-    → ((kept_of old).fault ≡ None → Tells text (written_of con old) (written_of con new) (kept_of old) result (kept_of new))
+    → ((kept_of old).fault ≡ None → WritesLines text (written_of con old) (written_of con new) (kept_of old) result (kept_of new))
     → CourseTo st ow limit u b (unread_of rem old) (written_of con old) (kept_of old)
     → CourseTo (stage_behind st item) owed.Nothing limit u b (unread_of rem new) (written_of con new) (kept_of new)
 tell_on rem con limit u b old new st ow number item text (Err e) o ok spelled fits is again reader told c = cc
 tell_on rem con limit u b old new st ow number item text (Ok done) (Some f) ok spelled fits is again reader told c = let (clash, same) = again f is in cc
 tell_on rem con limit u b old new st ow number item text (Ok done) None ok spelled fits is again reader told c =
-    let so = subst (λ (t : List ℕ). Tells t (written_of con old) (written_of con new) (kept_of old) (Ok done) (kept_of new)) spelled (told is) in
+    let so = subst (λ (t : List ℕ). WritesLines t (written_of con old) (written_of con new) (kept_of old) (Ok done) (kept_of new)) spelled (told is) in
     subst (λ (r : Option (List ℕ)). CourseTo (stage_behind st item) owed.Nothing limit u b r (written_of con new) (kept_of new)) (sym reader)
-    (tells_by st (unread_of rem old) (written_of con old) (written_of con new) (kept_of old) (kept_of new) number item done c is fits so)
+    (course_tells st (unread_of rem old) (written_of con old) (written_of con new) (kept_of old) (kept_of new) number item done c is fits so)
 
 -- the writer failed, and what is owed is owed still
 tells_off : {st : Stage} {o : Owed} {limit : ℕ} {u b : Option (List ℕ)} (r w0 w1 : Option (List ℕ)) (j k : Kept) (number : ℕ) (item : Item)
     (result : Result (Unit {0}) LiveFault) → is_ok result ≡ false → CourseTo st o limit u b r w0 j → j.fault ≡ None → settles o item ≡ true
-    → Tells (told_text number item) w0 w1 j result k → CourseTo Asks o limit u b r w1 k
+    → WritesLines (told_text number item) w0 w1 j result k → CourseTo Asks o limit u b r w1 k
 tells_off r w0 w1 j k number item (Ok done) bad c sound fits h = cc
 tells_off r w0 w1 j k number item (Err f) bad c sound fits h =
     told_on r w0 w1 j k number item (Err f) c sound (same_left (told_text number item) w0 w1 j (Err f) k h) fits h
@@ -258,12 +258,12 @@ pub tell_off : {R W : Type 0} (rem : R → Option (List ℕ)) (con : W → Optio
     (ow : Owed) (number : ℕ) (item : Item) (text : List ℕ) (result : Result (Unit {0}) LiveFault) → is_ok result ≡ false
     → text ≡ told_text number item → settles ow item ≡ true
     → ((f : LiveFault) → (kept_of old).fault ≡ Some f → (result ≡ Err f) × (new ≡ old)) → unread_of rem new ≡ unread_of rem old
-    → ((kept_of old).fault ≡ None → Tells text (written_of con old) (written_of con new) (kept_of old) result (kept_of new))
+    → ((kept_of old).fault ≡ None → WritesLines text (written_of con old) (written_of con new) (kept_of old) result (kept_of new))
     → CourseTo st ow limit u b (unread_of rem old) (written_of con old) (kept_of old)
     → CourseTo Asks ow limit u b (unread_of rem new) (written_of con new) (kept_of new)
 tell_off rem con limit u b old new st ow number item text result bad spelled fits again reader told c =
     by_fault rem con limit u b old new st ow (kept_of old).fault refl (λ f is. (again f is).1)
-    (λ is. let so = subst (λ (t : List ℕ). Tells t (written_of con old) (written_of con new) (kept_of old) result (kept_of new)) spelled (told is) in
+    (λ is. let so = subst (λ (t : List ℕ). WritesLines t (written_of con old) (written_of con new) (kept_of old) result (kept_of new)) spelled (told is) in
     subst (λ (r : Option (List ℕ)). CourseTo Asks ow limit u b r (written_of con new) (kept_of new)) (sym reader)
     (tells_off (unread_of rem old) (written_of con old) (written_of con new) (kept_of old) (kept_of new) number item result bad c is fits so)) c
 
@@ -293,15 +293,15 @@ left_greeted (Ok (answer.Receive path packets)) k = refl
 left_greeted (Ok (answer.Clear path)) k = refl
 left_greeted (Err f) k = refl
 
-opened : {limit : ℕ} (u r b w : Option (List ℕ)) (mid : Kept) (result : Result Answer LiveFault) → AsksOnce Hello (streams u r b w) (unasked limit) result mid
+greeted_course : {limit : ℕ} (u r b w : Option (List ℕ)) (mid : Kept) (result : Result Answer LiveFault) → AsksOnce Hello (streams u r b w) (unasked limit) result mid
     → CourseTo Asks owed.Nothing limit u b r w (greeted result mid)
-opened {limit} u r b w mid result h =
+greeted_course {limit} u r b w mid result h =
     let fewer = left_behind Hello u r b w (unasked limit) result mid h in
     let same = left_greeted result mid in
-    record { asked = questions_in result; course = Course.opened mid result h; few = omega (arith, fewer, same); at = tt }
+    record { asked = questions_in result; course = LiveCourse.opened mid result h; few = omega (arith, fewer, same); at = tt }
 
-pub opens : {limit : ℕ} (u r b w : Option (List ℕ)) (k : Kept) → Opens limit (streams u r b w) k → CourseTo Asks owed.Nothing limit u b r w k
-opens {limit} u r b w k h = subst (λ (x : Kept). CourseTo Asks owed.Nothing limit u b r w x) (sym h.kept) (opened u r b w h.mid h.result h.asked)
+pub opens : {limit : ℕ} (u r b w : Option (List ℕ)) (k : Kept) → SaysHello limit (streams u r b w) k → CourseTo Asks owed.Nothing limit u b r w k
+opens {limit} u r b w k h = subst (λ (x : Kept). CourseTo Asks owed.Nothing limit u b r w x) (sym h.kept) (greeted_course u r b w h.mid h.result h.asked)
 
 -- ---- the end
 
@@ -310,7 +310,7 @@ pub lives : {st : Stage} {o : Owed} {limit : ℕ} {u b r w : Option (List ℕ)} 
     → CourseTo st o limit u b r w k → Lives limit u r b w ended
 lives {st} {o} {limit} {u} {b} {r} {w} {k} fault lines (Ok done) is same by c =
     let few = c.few in
-    let over = subst (λ (s : Stage). IsAt s limit u b r w k c.asked) by.1 c.at in
+    let over = subst (λ (s : Stage). StandsAtStage s limit u b r w k c.asked) by.1 c.at in
     record { asked = c.asked; kept = k; owes = o; course = c.course; few = omega (arith, few); ends = over }
 lives {st} {o} {limit} {u} {b} {r} {w} {k} fault lines (Err (Line number f)) is same by c =
     let few = c.few in

@@ -11,7 +11,7 @@ use Rattle.usb_serve.specs.declared.runs.Item.{Item}
 use Rattle.usb_serve.specs.declared.runs.Item.TheVariants.{Listing, Sent, Received, Cleared}
 use Rattle.usb_serve.specs.declared.transfer.TransferFault.{TransferFault}
 use Rattle.usb_serve.specs.ServeResults.{item_lines}
-use Rattle.usb_stream.specs.Stream.{AskedWell, AsksNothing, AsksOnce, Kept, Tells, greeted, questions, streams, unasked}
+use Rattle.usb_stream.specs.Stream.{AskedWell, AsksNoQuestion, AsksOnce, Kept, WritesLines, greeted, questions, streams, unasked}
 use Rattle.usb_stream.specs.declared.fault.LiveFault.{LiveFault}
 use Rattle.usb_live.specs.declared.end.LiveEnd.{LiveEnd}
 use Rattle.usb_live.specs.declared.end.LiveEnd.TheVariants.{Line, Memory, Rounds}
@@ -73,22 +73,22 @@ questions_in (Err f) = questions f
 -- so many questions were asked, from the hello on, each was answered by the lines that were read next or left a fault,
 -- and items were told between them: behind what was wanted the one that this owes, once, and before it is asked again what
 -- is wanted; behind a fault nothing was asked or told
-pub data Course (limit : ℕ) (unread before : Option (List ℕ)) : Owed → Option (List ℕ) → Option (List ℕ) → Kept → ℕ → Type 0 where
+pub data LiveCourse (limit : ℕ) (unread before : Option (List ℕ)) : Owed → Option (List ℕ) → Option (List ℕ) → Kept → ℕ → Type 0 where
   opened : {left now : Option (List ℕ)} (k : Kept) (result : Result Answer LiveFault)
       → AsksOnce Hello (streams unread left before now) (unasked limit) result k
-      → Course limit unread before owed.Nothing left now (greeted result k) (questions_in result)
+      → LiveCourse limit unread before owed.Nothing left now (greeted result k) (questions_in result)
   asked : {o : Owed} {r left w now : Option (List ℕ)} {j k : Kept} {n : ℕ} (q : Question) (result : Result Answer LiveFault)
-      → Course limit unread before o r w j n → j.fault ≡ None → is_wait q ≡ false
-      → AsksOnce q (streams r left w now) j result k → Course limit unread before o left now k (n + questions_in result)
+      → LiveCourse limit unread before o r w j n → j.fault ≡ None → is_wait q ≡ false
+      → AsksOnce q (streams r left w now) j result k → LiveCourse limit unread before o left now k (n + questions_in result)
   wanted : {r left w now : Option (List ℕ)} {j k : Kept} {n : ℕ} (result : Result Answer LiveFault)
-      → Course limit unread before owed.Nothing r w j n → j.fault ≡ None
+      → LiveCourse limit unread before owed.Nothing r w j n → j.fault ≡ None
       → AsksOnce Wait (streams r left w now) j result k
-      → Course limit unread before (owed_by result) left now k (n + questions_in result)
+      → LiveCourse limit unread before (owed_by result) left now k (n + questions_in result)
   told : {o : Owed} {left w now : Option (List ℕ)} {j k : Kept} {n : ℕ} (number : ℕ) (item : Item) (result : Result (Unit {0}) LiveFault)
-      → Course limit unread before o left w j n → j.fault ≡ None → settles o item ≡ true
-      → Tells (told_text number item) w now j result k → Course limit unread before (owed_left o result) left now k n
-  still : {o : Owed} {r left w now : Option (List ℕ)} {j k : Kept} {n : ℕ} → Course limit unread before o r w j n
-      → AsksNothing (streams r left w now) j k → Course limit unread before o left now k n
+      → LiveCourse limit unread before o left w j n → j.fault ≡ None → settles o item ≡ true
+      → WritesLines (told_text number item) w now j result k → LiveCourse limit unread before (owed_left o result) left now k n
+  still : {o : Owed} {r left w now : Option (List ℕ)} {j k : Kept} {n : ℕ} → LiveCourse limit unread before o r w j n
+      → AsksNoQuestion (streams r left w now) j k → LiveCourse limit unread before o left now k n
 
 -- the host asked last what is wanted, and that was the end
 pub record WantsEnd (limit : ℕ) (unread before left now : Option (List ℕ)) (k : Kept) (n : ℕ) : Type 0 where
@@ -96,7 +96,7 @@ pub record WantsEnd (limit : ℕ) (unread before left now : Option (List ℕ)) (
   pub w : Option (List ℕ)
   pub j : Kept
   pub m : ℕ
-  pub course : Course limit unread before owed.Nothing r w j m
+  pub course : LiveCourse limit unread before owed.Nothing r w j m
   pub sound : j.fault ≡ None
   pub ended : AskedWell Wait (streams r left w now) j answer.End k
   pub one : n ≡ m + 1
@@ -108,36 +108,36 @@ pub record IsOver (limit : ℕ) (unread before left now : Option (List ℕ)) (k 
   pub wanted : WantsEnd limit unread before left w j n
   pub number : ℕ
   pub entries : Entries
-  pub listed : Tells (flat_map (λ line. line) (listing_lines number entries)) w now j (Ok tt) k
+  pub listed : WritesLines (flat_map (λ line. line) (listing_lines number entries)) w now j (Ok tt) k
 
 -- how far it is behind an answer to what is wanted, and behind an item that was told
-abbrev pub stage_of : Result Answer LiveFault → Stage
-stage_of (Ok answer.End) = EndWanted
-stage_of other = Asks
+abbrev pub stage_behind_answer : Result Answer LiveFault → Stage
+stage_behind_answer (Ok answer.End) = EndWanted
+stage_behind_answer other = Asks
 
 abbrev pub stage_behind : Stage → Item → Stage
 stage_behind EndWanted (Listing entries taken) = Over
 stage_behind stage item = Asks
 
-abbrev pub IsAt : Stage → ℕ → Option (List ℕ) → Option (List ℕ) → Option (List ℕ) → Option (List ℕ) → Kept → ℕ → Type 0
-IsAt Asks limit unread before left now k n = ⊤
-IsAt EndWanted limit unread before left now k n = WantsEnd limit unread before left now k n
-IsAt Over limit unread before left now k n = IsOver limit unread before left now k n
+abbrev pub StandsAtStage : Stage → ℕ → Option (List ℕ) → Option (List ℕ) → Option (List ℕ) → Option (List ℕ) → Kept → ℕ → Type 0
+StandsAtStage Asks limit unread before left now k n = ⊤
+StandsAtStage EndWanted limit unread before left now k n = WantsEnd limit unread before left now k n
+StandsAtStage Over limit unread before left now k n = IsOver limit unread before left now k n
 
 -- a course of at most so many questions
 pub record CourseTo (stage : Stage) (o : Owed) (limit : ℕ) (unread before left now : Option (List ℕ)) (k : Kept) : Type 0 where
   pub asked : ℕ
-  pub course : Course limit unread before o left now k asked
+  pub course : LiveCourse limit unread before o left now k asked
   pub few : asked + k.left ≡ limit
-  pub at : IsAt stage limit unread before left now k asked
+  pub at : StandsAtStage stage limit unread before left now k asked
 
 -- it ended because the end was wanted, or because of a fault, which is told with the number of lines that were read; the
 -- limit is also told behind as many rounds with no fault
-abbrev pub EndsAs : Result (Unit {0}) LiveEnd → ℕ → Option (List ℕ) → Option (List ℕ) → Option (List ℕ) → Option (List ℕ) → Kept → ℕ → Type 0
-EndsAs (Ok done) limit unread before left now k n = IsOver limit unread before left now k n
-EndsAs (Err (Line number f)) limit unread before left now k n = (k.fault ≡ Some f) × (number ≡ k.lines)
-EndsAs (Err (Rounds number)) limit unread before left now k n = (k.fault ≡ None) × (number ≡ k.lines)
-EndsAs (Err Memory) limit unread before left now k n = k.fault ≡ None
+abbrev pub EndsLiveAs : Result (Unit {0}) LiveEnd → ℕ → Option (List ℕ) → Option (List ℕ) → Option (List ℕ) → Option (List ℕ) → Kept → ℕ → Type 0
+EndsLiveAs (Ok done) limit unread before left now k n = IsOver limit unread before left now k n
+EndsLiveAs (Err (Line number f)) limit unread before left now k n = (k.fault ≡ Some f) × (number ≡ k.lines)
+EndsLiveAs (Err (Rounds number)) limit unread before left now k n = (k.fault ≡ None) × (number ≡ k.lines)
+EndsLiveAs (Err Memory) limit unread before left now k n = k.fault ≡ None
 
 -- of a private function: why it ended, by the fault that is kept and the number of lines that were read
 abbrev pub EndsBy : Option LiveFault → ℕ → Stage → Result (Unit {0}) LiveEnd → Type 0
@@ -151,6 +151,6 @@ pub record Lives (limit : ℕ) (unread left before now : Option (List ℕ)) (end
   pub asked : ℕ
   pub kept : Kept
   pub owes : Owed
-  pub course : Course limit unread before owes left now kept asked
+  pub course : LiveCourse limit unread before owes left now kept asked
   pub few : asked ≤ limit
-  pub ends : EndsAs ended limit unread before left now kept asked
+  pub ends : EndsLiveAs ended limit unread before left now kept asked

@@ -1,6 +1,6 @@
 //! How far a course is.
 ghost use Rattle.std.specs.Prelude.{◌≡◌};
-ghost use Rattle.usb_live.specs.Course.{stage_behind, stage_of};
+ghost use Rattle.usb_live.specs.Course.{stage_behind, stage_behind_answer};
 
 use usb_serve::Item;
 use usb_stream::LiveFault;
@@ -19,7 +19,7 @@ pub(crate) enum Stage {
 
 /// How far it is behind an answer to what is wanted.
 pub(crate) fn stage_of(answer: &Result<Answer, LiveFault>) -> Stage
-    ensures { result ≡ stage_of answer.now }
+    ensures { result ≡ stage_behind_answer answer.now }
 {
     match answer {
         Ok(Answer::End) => Stage::EndWanted,

@@ -17,6 +17,6 @@ counts_with c Ack = record c { attempts = count_with c.attempts }
 counts_with c Stall = record c { attempts = count_with c.attempts }
 
 -- behind an attempt: with its answer, where it was made
-abbrev pub counts_after : Counts → Result Outcome BusFault → Counts
-counts_after c (Ok outcome) = counts_with c outcome
-counts_after c (Err fault) = c
+abbrev pub counts_behind : Counts → Result Outcome BusFault → Counts
+counts_behind c (Ok outcome) = counts_with c outcome
+counts_behind c (Err fault) = c

@@ -2,7 +2,7 @@
 ghost use Rattle.std.specs.Prelude.{◌≡◌, true};
 ghost use Rattle.usb_bus.specs.Traces.{Attempts};
 ghost use Rattle.usb_world.specs.World.{IsAttempt};
-ghost use Rattle.usb_own_bus.specs.Counted.{counts_after, counts_with};
+ghost use Rattle.usb_own_bus.specs.Counted.{counts_behind, counts_with};
 
 use std::fmt;
 use usb_bus::{Attempt, Bus, BusFault, Outcome};
@@ -97,7 +97,7 @@ impl<B: Bus> Bus for CountedBus<B> {
         requires { IsAttempt attempt.now }
         ensures attempts { B.modelled ≡ true → Attempts attempt.now (B.world self.old.bus)
             (B.trace self.old.bus) result (B.world self.new.bus) (B.trace self.new.bus) }
-        ensures counted { self.new.counts ≡ counts_after self.old.counts result }
+        ensures counted { self.new.counts ≡ counts_behind self.old.counts result }
     {
         let result = self.bus.attempt(attempt);
         if let Ok(outcome) = &result {

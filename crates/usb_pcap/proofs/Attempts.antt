@@ -15,7 +15,7 @@ use Rattle.usb_pcap.specs.declared.attempt.TracedAttempt.{TracedAttempt}
 use Rattle.usb_pcap.specs.Text.{decimal_in, strip}
 use Rattle.usb_pcap.specs.Packet.{packet_in, packet_mark_in}
 use Rattle.usb_pcap.specs.Attempt.{IsAttemptLine, IsMarkedAnswer, IsSent, IsTraced, answer_in, attempt_answered, attempt_begun, attempt_in, behind_pre, data_follow, host_ack_in, host_data_in, host_in, is_ack_packet, is_answer, is_data_packet, kept_where, may_be_marked, next_in, no_time, one_answer, outgoing_of, payload_if, read_attempt, reply_if, sent, traced, whole_line}
-use Rattle.usb_pcap.proofs.Reading.{decimal_in-some, found_some, if_some, map_some, strip-some}
+use Rattle.usb_pcap.proofs.Reading.{decimal_in-some, found_some, if-some, map_some, strip-some}
 use Rattle.usb_pcap.proofs.Packets.{packet_in-some, packet_mark_in-some}
 
 behind_pre-some : (pre : Bool) (text rest : List ℕ) → behind_pre pre text ≡ Some rest → text ≡ pre_text pre ++ rest
@@ -32,7 +32,7 @@ host_in-some pre text r e =
     option_and_then_some (λ rest. option_and_then (λ packet. option_and_then (outgoing_of pre packet.0) (packet_mark_in packet.1)) (packet_in rest)) (behind_pre pre text) r e (λ rest first e.
     option_and_then_some (λ packet. option_and_then (outgoing_of pre packet.0) (packet_mark_in packet.1)) (packet_in rest) r e (λ packet second e.
     option_and_then_some (outgoing_of pre packet.0) (packet_mark_in packet.1) r e (λ mark third e.
-    if_some (may_be_marked pre mark.0 packet.0) (Some (record { packet = packet.0; mark = mark.0 }, mark.1)) r e (λ fits_form is.
+    if-some (may_be_marked pre mark.0 packet.0) (Some (record { packet = packet.0; mark = mark.0 }, mark.1)) r e (λ fits_form is.
     let own = packet_in-some rest packet second in
     let s : Outgoing = record { packet = packet.0; mark = mark.0 } in
     let spelled : text ≡ host_text pre s ++ mark.1 =
@@ -52,7 +52,7 @@ next_in-some pre text r e =
 
 kept_where-some : (fits_form : Packet → Bool) (s r : Outgoing × List ℕ) → kept_where fits_form s ≡ Some r → (s ≡ r) × (fits_form r.0.packet ≡ true)
 kept_where-some fits_form s r e =
-    if_some (fits_form s.0.packet) (Some s) r e (λ h is. let same = same_Some s r is in (same, subst (λ (q : Outgoing × List ℕ). fits_form q.0.packet ≡ true) same h))
+    if-some (fits_form s.0.packet) (Some s) r e (λ h is. let same = same_Some s r is in (same, subst (λ (q : Outgoing × List ℕ). fits_form q.0.packet ≡ true) same h))
 
 host_data_in-some : (pre : Bool) (text : List ℕ) (r : Outgoing × List ℕ) → host_data_in pre text ≡ Some r
     → NextAs pre text r × (is_data_packet r.0.packet ≡ true)
@@ -79,7 +79,7 @@ answer_in-some text r e =
     found_some (strip (codes " / collision") text) (λ rest. Some ((Collision, Whole), rest)) _ r e
     (λ rest found is. subst (AnsweredAs text) (same_Some ((Collision, Whole), rest) r is) (strip-some (codes " / collision") text rest found, refl)) (λ e.
     option_and_then_some one_answer (next_in false text) r e (λ s first e.
-    if_some (is_answer s.0.packet) (Some ((One s.0.packet, s.0.mark), s.1)) r e (λ fits_form is.
+    if-some (is_answer s.0.packet) (Some ((One s.0.packet, s.0.mark), s.1)) r e (λ fits_form is.
     let own = next_in-some false text s first in
     subst (AnsweredAs text) (same_Some ((One s.0.packet, s.0.mark), s.1) r is) (own.0 ∙ simp append_assoc, (fits_form, own.1))))))
 
@@ -128,7 +128,7 @@ unfolding attempt_in
 attempt_in-some text r e =
     option_and_then_some (λ n. if nat_lt n.0 no_time then option_and_then (attempt_begun n.0) (strip (codes " ") n.1) else None)
     (decimal_in text) r e (λ n first e.
-    if_some (nat_lt n.0 no_time) (option_and_then (attempt_begun n.0) (strip (codes " ") n.1)) r e (λ few e.
+    if-some (nat_lt n.0 no_time) (option_and_then (attempt_begun n.0) (strip (codes " ") n.1)) r e (λ few e.
     option_and_then_some (attempt_begun n.0) (strip (codes " ") n.1) r e (λ rest blank e.
     let front : text ≡ decimal n.0 ++ codes " " ++ rest = (decimal_in-some text n first).0 ∙ ap (λ l. decimal n.0 ++ l) (strip-some (codes " ") n.1 rest blank) ∙ simp append_assoc in
     subst (λ t. TracedAs t r) (sym front) (attempt_begun-some n.0 rest r (ltb-true n.0 no_time few) e))))

@@ -105,21 +105,21 @@ stands_long w now text b s t other h number full front long =
     }
 
 -- the records of a line, by its first bytes
-abbrev Tells : OpenLine → List ℕ → Type 0
-Tells s records = (line : List ℕ) → s.front.items ≡ take longest line → s.is_long ≡ nat_lt longest (length line) → LineRecords line records
+abbrev TellsRecords : OpenLine → List ℕ → Type 0
+TellsRecords s records = (line : List ℕ) → s.front.items ≡ take longest line → s.is_long ≡ nat_lt longest (length line) → LineRecords line records
 
 -- the line is none of a run, by its first bytes
 abbrev Refuses : OpenLine → Type 0
 Refuses s = (line : List ℕ) → s.front.items ≡ take longest line → s.is_long ≡ nat_lt longest (length line) → IsRunLine line → ⊥
 
-closed : (w now : Option (List ℕ)) (text records : List ℕ) (s : OpenLine) (h : StandsBehind w now text s) → Tells s records → IsCapture (h.n + 1) (text ++ 10 ∷ []) (h.file ++ records)
-closed w now text records s h tells =
+capture_closed : (w now : Option (List ℕ)) (text records : List ℕ) (s : OpenLine) (h : StandsBehind w now text s) → TellsRecords s records → IsCapture (h.n + 1) (text ++ 10 ∷ []) (h.file ++ records)
+capture_closed w now text records s h tells =
     subst (λ t. IsCapture (h.n + 1) (t ++ 10 ∷ []) (h.file ++ records)) (sym h.split) (IsCapture.line h.line records h.one (tells h.line h.begins h.long) h.captured)
 
 next_number-next : (n k m : ℕ) → k ≡ next_number n → m ≡ min (k + 1) (2 ^ 64 - 1) → m ≡ next_number (n + 1)
 next_number-next n k m e f = omega arith
 
-pub stands_closed : (w mid now : Option (List ℕ)) (text records : List ℕ) (s t : OpenLine) → StandsBehind w mid text s → Tells s records
+pub stands_closed : (w mid now : Option (List ℕ)) (text records : List ℕ) (s t : OpenLine) → StandsBehind w mid text s → TellsRecords s records
     → Appends mid now records → t.number ≡ min (s.number + 1) (2 ^ 64 - 1) → t.front.items ≡ [] → t.is_long ≡ false → StandsBehind w now (text ++ 10 ∷ []) t
 stands_closed w mid now text records s t h tells gone number front long = record {
   n = h.n + 1;
@@ -127,7 +127,7 @@ stands_closed w mid now text records s t h tells gone number front long = record
   line = [];
   file = h.file ++ records;
   split = sym (append-nil (text ++ 10 ∷ []));
-  captured = closed w mid text records s h tells;
+  captured = capture_closed w mid text records s h tells;
   gone = Appends-trans w mid now h.file records h.gone gone;
   one = All-nil _;
   begins = front;
@@ -135,7 +135,7 @@ stands_closed w mid now text records s t h tells gone number front long = record
   number = next_number-next h.n s.number t.number h.number number;
 }
 
-pub went_front : (w mid now : Option (List ℕ)) (text records : List ℕ) (s : OpenLine) → StandsBehind w mid text s → Tells s records
+pub went_front : (w mid now : Option (List ℕ)) (text records : List ℕ) (s : OpenLine) → StandsBehind w mid text s → TellsRecords s records
     → AppendsFront mid now records → (n : ℕ) × WroteFront w now (text ++ 10 ∷ []) n
 went_front w mid now text records s h tells gone = (
   h.n + 1,
@@ -144,7 +144,7 @@ went_front w mid now text records s h tells gone = (
     rest = [];
     file = h.file ++ records;
     split = sym (append-nil (text ++ 10 ∷ []));
-    captured = closed w mid text records s h tells;
+    captured = capture_closed w mid text records s h tells;
     gone = front_after_first w mid now h.file records h.gone gone;
   },
 )

@@ -40,9 +40,9 @@ abbrev stopped_by : Piece → List Piece → Bool
 stopped_by p [] = true
 stopped_by p (q ∷ form) = is_free p || stops_before p q
 
-abbrev parted : List Piece → Bool
-parted [] = true
-parted (p ∷ form) = distinct p && stopped_by p form && parted form
+abbrev has_pieces : List Piece → Bool
+has_pieces [] = true
+has_pieces (p ∷ form) = distinct p && stopped_by p form && has_pieces form
 
 free_stops : (p : Piece) (rest : List ℕ) → is_free p ≡ true → StopsAt p rest
 free_stops p [] h = tt
@@ -72,14 +72,14 @@ next_stops p Piece.bytes first more rest h is e = absurd (cc)
 next_stops p Piece.string first more rest h is e = absurd (cc)
 next_stops p Piece.name first more rest h is e = absurd (cc)
 
-either : {P : Type 0} (a b : Bool) → (a || b) ≡ true → (a ≡ true → P) → (b ≡ true → P) → P
-either true b h k l = k refl
-either false b h k l = l h
+or_cases : {P : Type 0} (a b : Bool) → (a || b) ≡ true → (a ≡ true → P) → (b ≡ true → P) → P
+or_cases true b h k l = k refl
+or_cases false b h k l = l h
 
 ends : (p : Piece) (form : List Piece) (rest : List ℕ) → stopped_by p form ≡ true → IsForm form rest → StopsAt p rest
 ends p [] rest h e = subst (StopsAt p) (sym e) tt
 ends p (q ∷ form) rest h (first, more, is, of, e) =
-    either (is_free p) (stops_before p q) h (free_stops p rest) (λ stops. next_stops p q first more rest stops is e)
+    or_cases (is_free p) (stops_before p q) h (free_stops p rest) (λ stops. next_stops p q first more rest stops is e)
 
 -- ---- fitting
 
@@ -103,30 +103,30 @@ fits_none : (text : List ℕ) → text ≡ [] → fits_form [] text ≡ true
 unfolding fits_form
 fits_none text e = rw e refl
 
-pub fits_form-complete : (form : List Piece) (text : List ℕ) → parted form ≡ true → IsForm form text → fits_form form text ≡ true
+pub fits_form-complete : (form : List Piece) (text : List ℕ) → has_pieces form ≡ true → IsForm form text → fits_form form text ≡ true
 fits_form-complete [] text h e = fits_none text e
 fits_form-complete (p ∷ form) text h (first, more, is, of, e) =
-    let one = and_parts (distinct p && stopped_by p form) (parted form) h in
+    let one = and_parts (distinct p && stopped_by p form) (has_pieces form) h in
     let two = and_parts (distinct p) (stopped_by p form) one.0 in
     subst (λ t. fits_form (p ∷ form) t ≡ true) (sym e)
     (fits_more p form (first ++ more) more (piece-complete p first more two.0 is (ends p form more two.1 of)) ∙ fits_form-complete form more one.1 of)
 
 abbrev all_parted : List (List Piece) → Bool
 all_parted [] = true
-all_parted (form ∷ forms) = parted form && all_parted forms
+all_parted (form ∷ forms) = has_pieces form && all_parted forms
 
 has_form-sound : (forms : List (List Piece)) (line : List ℕ) → has_form forms line ≡ true → HasForm forms line
 has_form-sound [] line e = absurd (cc)
-has_form-sound (form ∷ forms) line e = either (fits_form form line) (has_form forms line) e (λ h. inl (fits_form-sound form line h)) (λ h. inr (has_form-sound forms line h))
+has_form-sound (form ∷ forms) line e = or_cases (fits_form form line) (has_form forms line) e (λ h. inl (fits_form-sound form line h)) (λ h. inr (has_form-sound forms line h))
 
-or_right : (a : Bool) → (a || true) ≡ true
-or_right true = refl
-or_right false = refl
+or-true_right : (a : Bool) → (a || true) ≡ true
+or-true_right true = refl
+or-true_right false = refl
 
 has_form-complete : (forms : List (List Piece)) (line : List ℕ) → all_parted forms ≡ true → HasForm forms line → has_form forms line ≡ true
 has_form-complete [] line h is = absurd is
-has_form-complete (form ∷ forms) line h (inl is) = rw (fits_form-complete form line (and_parts (parted form) (all_parted forms) h).0 is) refl
-has_form-complete (form ∷ forms) line h (inr is) = rw (has_form-complete forms line (and_parts (parted form) (all_parted forms) h).1 is) (or_right (fits_form form line))
+has_form-complete (form ∷ forms) line h (inl is) = rw (fits_form-complete form line (and_parts (has_pieces form) (all_parted forms) h).0 is) refl
+has_form-complete (form ∷ forms) line h (inr is) = rw (has_form-complete forms line (and_parts (has_pieces form) (all_parted forms) h).1 is) (or-true_right (fits_form form line))
 
 pub is_report-sound : (line : List ℕ) → has_form report_forms line ≡ true → IsReport line
 is_report-sound line e = has_form-sound report_forms line e

@@ -11,7 +11,8 @@ use Rattle.usb_pcap.specs.declared.item.Item.TheVariants.{Port, Byte, Letter}
 use Rattle.usb_pcap.specs.Text.{decimal_in, if_found, is_digit, number_on, strip, strip_any, with_digit}
 use Rattle.usb_port.specs.Path.{is_port_digit}
 use Rattle.usb_pcap.specs.Grammar.{AreUnits, IsUnit, IsOneOf, IsPiece, Piece, behind_bytes, behind_escape, behind_item, behind_items, behind_piece, is_escape, is_plain}
-use Rattle.usb_pcap.proofs.Reading.{decimal_in-some, found_some, if_either, if_some, map_some, strip-some}
+use Rattle.usb_pcap.proofs.Reading.{decimal_in-some, found_some, if_either, if-some, map_some, strip-some}
+use Rattle.usb_world.proofs.Interface.{not-true}
 
 -- ---- words
 
@@ -21,24 +22,24 @@ strip-append [] rest = refl
 strip-append (c ∷ word) rest = let same : (c == c) ≡ true = grind (arith, nat_tests) in rw same (strip-append word rest)
 
 -- two words differ where both have a character
-abbrev pub apart : List ℕ → List ℕ → Bool
-apart [] v = false
-apart (c ∷ w) [] = false
-apart (c ∷ w) (d ∷ v) = if d == c then apart w v else true
+abbrev pub differ_at_key : List ℕ → List ℕ → Bool
+differ_at_key [] v = false
+differ_at_key (c ∷ w) [] = false
+differ_at_key (c ∷ w) (d ∷ v) = if d == c then differ_at_key w v else true
 
-apart_step : (b x : Bool) (o : Option (List ℕ)) → (if b then x else true) ≡ true → (x ≡ true → o ≡ None) → (if b then o else None) ≡ None
-apart_step true x o e k = k e
-apart_step false x o e k = refl
+if_none_or : (b x : Bool) (o : Option (List ℕ)) → (if b then x else true) ≡ true → (x ≡ true → o ≡ None) → (if b then o else None) ≡ None
+if_none_or true x o e k = k e
+if_none_or false x o e k = refl
 
-apart-strip : (w v rest : List ℕ) → apart w v ≡ true → strip w (v ++ rest) ≡ None
+apart-strip : (w v rest : List ℕ) → differ_at_key w v ≡ true → strip w (v ++ rest) ≡ None
 unfolding strip
 apart-strip [] v rest e = absurd (cc)
 apart-strip (c ∷ w) [] rest e = absurd (cc)
-apart-strip (c ∷ w) (d ∷ v) rest e = apart_step (d == c) (apart w v) (strip w (v ++ rest)) e (apart-strip w v rest)
+apart-strip (c ∷ w) (d ∷ v) rest e = if_none_or (d == c) (differ_at_key w v) (strip w (v ++ rest)) e (apart-strip w v rest)
 
 abbrev pub all_apart : List ℕ → List (List ℕ) → Bool
 all_apart w [] = true
-all_apart w (v ∷ vs) = apart w v && all_apart w vs
+all_apart w (v ∷ vs) = differ_at_key w v && all_apart w vs
 
 abbrev pub distinct_words : List (List ℕ) → Bool
 distinct_words [] = true
@@ -46,8 +47,8 @@ distinct_words (w ∷ ws) = all_apart w ws && distinct_words ws
 
 apart_each : (w : List ℕ) (ws : List (List ℕ)) (text rest : List ℕ) → all_apart w ws ≡ true → IsOneOf ws text → strip w (text ++ rest) ≡ None
 apart_each w [] text rest e is = absurd is
-apart_each w (v ∷ vs) text rest e (inl same) = let both = and_parts (apart w v) (all_apart w vs) e in subst (λ t. strip w (t ++ rest) ≡ None) (sym same) (apart-strip w v rest both.0)
-apart_each w (v ∷ vs) text rest e (inr is) = let both = and_parts (apart w v) (all_apart w vs) e in apart_each w vs text rest both.1 is
+apart_each w (v ∷ vs) text rest e (inl same) = let both = and_parts (differ_at_key w v) (all_apart w vs) e in subst (λ t. strip w (t ++ rest) ≡ None) (sym same) (apart-strip w v rest both.0)
+apart_each w (v ∷ vs) text rest e (inr is) = let both = and_parts (differ_at_key w v) (all_apart w vs) e in apart_each w vs text rest both.1 is
 
 if_found-none : {A B : Type 0} (o : Option A) (read : A → Option B) (other : Option B) → o ≡ None → if_found o read other ≡ other
 if_found-none None read other e = refl
@@ -83,7 +84,7 @@ escape-sound s (u ∷ a ∷ []) rest back e = absurd (cc)
 escape-sound s (u ∷ a ∷ b ∷ []) rest back e = absurd (cc)
 escape-sound s (u ∷ a ∷ b ∷ c ∷ []) rest back e = absurd (cc)
 escape-sound s (u ∷ a ∷ b ∷ c ∷ d ∷ text) rest back e =
-    if_some (u == 117 && is_escape a b c d) (Some text) rest e (λ fit is.
+    if-some (u == 117 && is_escape a b c d) (Some text) rest e (λ fit is.
     let both = and_parts (u == 117) (is_escape a b c d) fit in
     let small = eqb-true u 117 both.0 in
     let same = same_Some text rest is in
@@ -94,7 +95,7 @@ unfolding behind_item
 item-sound Port [] rest e = absurd (cc)
 item-sound Port (c ∷ []) rest e = absurd (cc)
 item-sound Port (c ∷ d ∷ text) rest e =
-    if_some (c == 46 && is_port_digit d) (Some text) rest e (λ fit is.
+    if-some (c == 46 && is_port_digit d) (Some text) rest e (λ fit is.
     let both = and_parts (c == 46) (is_port_digit d) fit in
     let dot = eqb-true c 46 both.0 in
     let same = same_Some text rest is in
@@ -102,12 +103,12 @@ item-sound Port (c ∷ d ∷ text) rest e =
 item-sound Byte [] rest e = absurd (cc)
 item-sound Byte (h ∷ []) rest e = absurd (cc)
 item-sound Byte (h ∷ l ∷ text) rest e =
-    if_some (is_digit h && is_digit l) (Some text) rest e (λ fit is. (h ∷ l ∷ [], (h, l, fit, refl), ap (λ t. h ∷ l ∷ t) (same_Some text rest is)))
+    if-some (is_digit h && is_digit l) (Some text) rest e (λ fit is. (h ∷ l ∷ [], (h, l, fit, refl), ap (λ t. h ∷ l ∷ t) (same_Some text rest is)))
 item-sound Letter [] rest e = absurd (cc)
 item-sound Letter (c ∷ text) rest e =
     if_either (is_plain c) (Some text) (if c == 92 then behind_escape text else None) rest e
     (λ fit is. (c ∷ [], inl (c, fit, refl), ap (λ t. c ∷ t) (same_Some text rest is)))
-    (λ non more. if_some (c == 92) (behind_escape text) rest more (λ back is. escape-sound c text rest (eqb-true c 92 back) is))
+    (λ non more. if-some (c == 92) (behind_escape text) rest more (λ back is. escape-sound c text rest (eqb-true c 92 back) is))
 
 item-complete : (kind : Item) (item rest : List ℕ) → IsUnit kind item → behind_item kind (item ++ rest) ≡ Some rest
 unfolding behind_item
@@ -202,29 +203,25 @@ abbrev pub StopsAt : Piece → List ℕ → Type 0
 StopsAt piece [] = Unit {0}
 StopsAt piece (c ∷ rest) = halts piece c ≡ true
 
-denied : (b : Bool) → not b ≡ true → b ≡ false
-denied true e = absurd (cc)
-denied false e = refl
-
 port_end : (rest : List ℕ) → StopsAt Piece.path rest → behind_item Port rest ≡ None
 unfolding behind_item
 port_end [] h = refl
 port_end (c ∷ []) h = refl
-port_end (c ∷ d ∷ rest) h = let non = denied (c == 46) h in rw non refl
+port_end (c ∷ d ∷ rest) h = let non = not-true (c == 46) h in rw non refl
 
 byte_end : (rest : List ℕ) → StopsAt Piece.bytes rest → behind_item Byte rest ≡ None
 unfolding behind_item
 byte_end [] h = refl
 byte_end (c ∷ []) h = refl
-byte_end (c ∷ d ∷ rest) h = let non = denied (is_digit c) h in rw non refl
+byte_end (c ∷ d ∷ rest) h = let non = not-true (is_digit c) h in rw non refl
 
 letter_end : (rest : List ℕ) → StopsAt Piece.string rest → behind_item Letter rest ≡ None
 unfolding behind_item
 letter_end [] h = refl
 letter_end (c ∷ rest) h =
     let both = and_parts (not (is_plain c)) (not (c == 92)) h in
-    let other = denied (is_plain c) both.0 in
-    let non = denied (c == 92) both.1 in
+    let other = not-true (is_plain c) both.0 in
+    let non = not-true (c == 92) both.1 in
     rw (other, non) refl
 
 -- ---- numbers
@@ -264,9 +261,9 @@ other_next value c rest other = rw other refl
 pub number_halts : (value i : ℕ) (text : List ℕ) → i < length text → number_on 0 text ≡ number_on value (drop i text) → is_ascii_digit (get_or text i 0) ≡ false → Some value ≡ number_on 0 text
 number_halts value i text below before other = sym (before ∙ number_at value i text below ∙ other_next value (get_or text i 0) (drop (i + 1) text) other)
 
-pub number_ends : (value i : ℕ) (text : List ℕ) → length text ≤ i → number_on 0 text ≡ number_on value (drop i text) → Some value ≡ number_on 0 text
+pub number_on-end : (value i : ℕ) (text : List ℕ) → length text ≤ i → number_on 0 text ≡ number_on value (drop i text) → Some value ≡ number_on 0 text
 unfolding number_on
-number_ends value i text over before = sym (before ∙ ap (number_on value) (drop_of_length-le text {i = i} over))
+number_on-end value i text over before = sym (before ∙ ap (number_on value) (drop_of_length-le text {i = i} over))
 
 by_room : (b : Bool) (n : ℕ) (rest : List ℕ) → (if b then number_on n rest else None) ≡ option_and_then (λ more. number_on more rest) (if b then Some n else None)
 by_room true n rest = refl
@@ -291,7 +288,7 @@ number_over value i text found below before digit e is =
 number_stop : (n : ℕ) (rest : List ℕ) → StopsAt Piece.number rest → number_on n rest ≡ Some n
 unfolding number_on
 number_stop n [] h = refl
-number_stop n (c ∷ rest) h = let non = denied (is_ascii_digit c) h in rw non refl
+number_stop n (c ∷ rest) h = let non = not-true (is_ascii_digit c) h in rw non refl
 
 pub decimal_in-complete : (n : ℕ) (rest : List ℕ) → n < 2 ^ 64 → StopsAt Piece.number rest → decimal_in (decimal n ++ rest) ≡ Some (n, rest)
 unfolding decimal_in
@@ -319,7 +316,7 @@ piece-sound (Piece.word w) text rest e = (w, refl, strip-some w text rest e)
 piece-sound (Piece.one_of words) text rest e = strip_any-sound words text rest e
 piece-sound Piece.path [] rest e = absurd (cc)
 piece-sound Piece.path (d ∷ text) rest e =
-    if_some (is_port_digit d) (Some (behind_items Port 6 text)) rest e (λ fit is.
+    if-some (is_port_digit d) (Some (behind_items Port 6 text)) rest e (λ fit is.
     let (more, are, whole) = items-sound Port 6 text in
     (d ∷ more, (d, more, fit, are, refl), ap (λ l. d ∷ l) (whole ∙ ap (λ l. more ++ l) (same_Some (behind_items Port 6 text) rest is))))
 piece-sound Piece.number text rest e =
@@ -334,7 +331,7 @@ piece-sound Piece.name [] rest e = absurd (cc)
 piece-sound Piece.name (c ∷ text) rest e =
     (c ∷ text, (λ none. absurd (cc)), sym (ap (λ l. (c ∷ text) ++ l) (sym (same_Some [] rest e)) ∙ append-nil (c ∷ text)))
 
-dash_apart : (h : ℕ) → is_digit h ≡ true → (h == 45) ≡ false
+pub dash_apart : (h : ℕ) → is_digit h ≡ true → (h == 45) ≡ false
 dash_apart h digit = grind (arith, nat_tests)
 
 no_dash : (first rest : List ℕ) → IsUnit Byte first → strip (codes "-") (first ++ rest) ≡ None

@@ -1,7 +1,6 @@
 -- What a run prints of an attempt is read as that attempt.
 use Rattle.std.proofs.Common.{◌≡◌, ◌⊎◌, ℕ, zero, suc, ◌+◌, ◌*◌, ◌/◌, ◌%◌, ◌<◌, ◌≤◌, inl, inr, ◌==◌, ◌&&◌, Bool, true, false, List, [], ◌∷◌, ◌++◌, length, slice_index, Option, Some, None, IfSome, is_some, option_map, codes, decimal, refl, sym, ap, ap₂, subst, ◌∙◌, arith, append_assoc, append-nil, length-append}
 use Rattle.std.proofs.lemmas.Bool.{and_parts, cases_lt, eqb-true, lt-ltb, ltb-true}
-use Rattle.std.proofs.lemmas.Bool.Decides.{nat_tests}
 use Rattle.hex.specs.Hex.{encode_upper, encode_with, upper_digits}
 use Rattle.usb_packet.specs.declared.TokenKind.{TokenKind}
 use Rattle.usb_packet.specs.declared.TokenKind.TheVariants.{OutTok, InTok, SetupTok}
@@ -23,7 +22,7 @@ use Rattle.usb_pcap.specs.Text.{bytes_on, is_digit, strip, value_of}
 use Rattle.usb_pcap.specs.Grammar.{Piece}
 use Rattle.usb_pcap.specs.Packet.{bit_in, data_in, handshake_in, packet_in, packet_mark_in, token_in}
 use Rattle.usb_pcap.specs.Attempt.{IsAttemptLine, IsMarkedAnswer, IsSent, IsTraced, answer_in, attempt_answered, attempt_begun, attempt_in, behind_pre, data_follow, host_ack_in, host_data_in, host_in, is_ack_packet, is_answer, is_data_packet, may_be_marked, next_in, no_time, payload_if, read_attempt, reply_if, traced}
-use Rattle.usb_pcap.proofs.Items.{StopsAt, decimal_in-complete}
+use Rattle.usb_pcap.proofs.Items.{StopsAt, decimal_in-complete, dash_apart}
 
 -- ---- bytes
 
@@ -99,12 +98,9 @@ token_in-complete kind addr ep rest few low end =
     let second = decimal_in-complete ep rest (omega arith) (blank_number rest end) in
     rw (first, second, lt-ltb addr 128 few, lt-ltb ep 16 low) refl
 
-digit_no_dash : (h : ℕ) → is_digit h ≡ true → (h == 45) ≡ false
-digit_no_dash h digit = grind (arith, nat_tests)
-
-dash_none : (h : ℕ) (text : List ℕ) → (h == 45) ≡ false → strip (codes "-") (h ∷ text) ≡ None
+strip-dash : (h : ℕ) (text : List ℕ) → (h == 45) ≡ false → strip (codes "-") (h ∷ text) ≡ None
 unfolding strip
-dash_none h text other = rw other refl
+strip-dash h text other = rw other refl
 
 data_behind : (toggle : Toggle) (b : ℕ) (bytes text rest : List ℕ) → strip (codes "-") text ≡ None → bytes_on [] text ≡ Some (b ∷ bytes, rest)
     → data_in toggle text ≡ Some (Payload toggle (record { items = b ∷ bytes }), rest)
@@ -122,9 +118,9 @@ data_in-complete toggle (b ∷ bytes) rest small few end =
     let high = digit_spelled (b / 16) (omega arith) in
     let h : ℕ = slice_index upper_digits (b / 16) in
     let l : ℕ = slice_index upper_digits (b % 16) in
-    let other = digit_no_dash h high.0 in
+    let other = dash_apart h high.0 in
     data_behind toggle b bytes (encode_upper (b ∷ bytes) ++ rest) rest
-    (subst (λ t. strip (codes "-") (t ++ rest) ≡ None) (sym (encode_step b bytes)) (dash_none h (l ∷ (encode_upper bytes ++ rest)) other))
+    (subst (λ t. strip (codes "-") (t ++ rest) ≡ None) (sym (encode_step b bytes)) (strip-dash h (l ∷ (encode_upper bytes ++ rest)) other))
     (bytes_on-complete (b ∷ bytes) [] rest small (omega (arith, few)) end)
 
 abbrev is_spoken : Packet → Bool
@@ -174,20 +170,20 @@ packet_in-complete Pre rest h fields data_fits end = absurd (cc)
 -- ---- marks
 
 -- a text that is at its end, or goes on with a further packet
-abbrev Ends : List ℕ → Type 0
-Ends rest = (rest ≡ []) ⊎ ((more : List ℕ) × (rest ≡ codes " / " ++ more))
+abbrev EndsWord : List ℕ → Type 0
+EndsWord rest = (rest ≡ []) ⊎ ((more : List ℕ) × (rest ≡ codes " / " ++ more))
 
-abbrev IsSmall : Mark → Type 0
-IsSmall Whole = Unit {0}
-IsSmall Lost = Unit {0}
-IsSmall PreLost = Unit {0}
-IsSmall (Flipped bit) = bit < 65536
+abbrev IsSmallMark : Mark → Type 0
+IsSmallMark Whole = Unit {0}
+IsSmallMark Lost = Unit {0}
+IsSmallMark PreLost = Unit {0}
+IsSmallMark (Flipped bit) = bit < 65536
 
 bit_in-complete : (bit : ℕ) (rest : List ℕ) → bit < 65536 → bit_in (decimal bit ++ (codes "]" ++ rest)) ≡ Some (Flipped bit, rest)
 unfolding bit_in strip
 bit_in-complete bit rest few = rw (decimal_in-complete bit (codes "]" ++ rest) (omega arith) refl, lt-ltb bit 65536 few) refl
 
-whole_read : (rest : List ℕ) → Ends rest → packet_mark_in rest ≡ Some (Whole, rest)
+whole_read : (rest : List ℕ) → EndsWord rest → packet_mark_in rest ≡ Some (Whole, rest)
 unfolding packet_mark_in strip
 whole_read rest (inl e) = subst (λ t. packet_mark_in t ≡ Some (Whole, t)) (sym e) refl
 whole_read rest (inr (more, e)) = subst (λ t. packet_mark_in t ≡ Some (Whole, t)) (sym e) refl
@@ -204,13 +200,13 @@ pre_lost_read : (rest : List ℕ) → packet_mark_in (codes " [pre lost]" ++ res
 unfolding packet_mark_in strip
 pre_lost_read rest = refl
 
-mark-complete : (m : Mark) (rest : List ℕ) → IsSmall m → Ends rest → packet_mark_in (mark_text m ++ rest) ≡ Some (m, rest)
+mark-complete : (m : Mark) (rest : List ℕ) → IsSmallMark m → EndsWord rest → packet_mark_in (mark_text m ++ rest) ≡ Some (m, rest)
 mark-complete Whole rest small end = whole_read rest end
 mark-complete Lost rest small end = lost_read rest
 mark-complete PreLost rest small end = pre_lost_read rest
 mark-complete (Flipped bit) rest small end = flip_begun ((decimal bit ++ codes "]") ++ rest) ∙ ap bit_in (append_assoc (decimal bit) (codes "]") rest) ∙ bit_in-complete bit rest small
 
-mark_blank : (m : Mark) (rest : List ℕ) → Ends rest → Blank (mark_text m ++ rest)
+mark_blank : (m : Mark) (rest : List ℕ) → EndsWord rest → Blank (mark_text m ++ rest)
 mark_blank Whole rest (inl e) = subst Blank (sym e) tt
 mark_blank Whole rest (inr (more, e)) = subst Blank (sym e) refl
 mark_blank Lost rest end = refl
@@ -227,7 +223,7 @@ few_bits Nak fits_form = omega arith
 few_bits Stall fits_form = omega arith
 few_bits Pre fits_form = omega arith
 
-mark_small : (pre : Bool) (m : Mark) (p : Packet) → HasData p → may_be_marked pre m p ≡ true → IsSmall m
+mark_small : (pre : Bool) (m : Mark) (p : Packet) → HasData p → may_be_marked pre m p ≡ true → IsSmallMark m
 mark_small pre Whole p fits_form h = tt
 mark_small pre Lost p fits_form h = tt
 mark_small pre PreLost p fits_form h = tt
@@ -240,7 +236,7 @@ unfolding strip
 pre_behind false text = refl
 pre_behind true text = refl
 
-host_in-complete : (pre : Bool) (s : Outgoing) (rest : List ℕ) → IsSent pre s → is_spoken s.packet ≡ true → Ends rest → host_in pre (host_text pre s ++ rest) ≡ Some (s, rest)
+host_in-complete : (pre : Bool) (s : Outgoing) (rest : List ℕ) → IsSent pre s → is_spoken s.packet ≡ true → EndsWord rest → host_in pre (host_text pre s ++ rest) ≡ Some (s, rest)
 unfolding host_in
 host_in-complete pre s rest sends spoken end =
     let whole : host_text pre s ++ rest ≡ pre_text pre ++ (text_of s.packet ++ (mark_text s.mark ++ rest)) = simp append_assoc in
@@ -254,7 +250,7 @@ next_begun : (pre : Bool) (text : List ℕ) → next_in pre (codes " / " ++ text
 unfolding next_in strip
 next_begun pre text = refl
 
-next_in-complete : (pre : Bool) (s : Outgoing) (rest : List ℕ) → IsSent pre s → is_spoken s.packet ≡ true → Ends rest → next_in pre (next_text pre (Some s) ++ rest) ≡ Some (s, rest)
+next_in-complete : (pre : Bool) (s : Outgoing) (rest : List ℕ) → IsSent pre s → is_spoken s.packet ≡ true → EndsWord rest → next_in pre (next_text pre (Some s) ++ rest) ≡ Some (s, rest)
 next_in-complete pre s rest sends spoken end =
     ap (next_in pre) (append_assoc (codes " / ") (host_text pre s) rest) ∙ next_begun pre (host_text pre s ++ rest) ∙ host_in-complete pre s rest sends spoken end
 
@@ -294,11 +290,11 @@ token_spoken Nak b h = refl
 token_spoken Stall b h = refl
 token_spoken Pre b h = absurd (cc)
 
-host_data-complete : (pre : Bool) (s : Outgoing) (rest : List ℕ) → IsSent pre s → is_data_packet s.packet ≡ true → Ends rest → host_data_in pre (next_text pre (Some s) ++ rest) ≡ Some (s, rest)
+host_data-complete : (pre : Bool) (s : Outgoing) (rest : List ℕ) → IsSent pre s → is_data_packet s.packet ≡ true → EndsWord rest → host_data_in pre (next_text pre (Some s) ++ rest) ≡ Some (s, rest)
 unfolding host_data_in
 host_data-complete pre s rest sends is end = rw (next_in-complete pre s rest sends (data_spoken s.packet is) end, is) refl
 
-host_ack-complete : (pre : Bool) (s : Outgoing) (rest : List ℕ) → IsSent pre s → is_ack_packet s.packet ≡ true → Ends rest → host_ack_in pre (next_text pre (Some s) ++ rest) ≡ Some (s, rest)
+host_ack-complete : (pre : Bool) (s : Outgoing) (rest : List ℕ) → IsSent pre s → is_ack_packet s.packet ≡ true → EndsWord rest → host_ack_in pre (next_text pre (Some s) ++ rest) ≡ Some (s, rest)
 unfolding host_ack_in
 host_ack-complete pre s rest sends is end = rw (next_in-complete pre s rest sends (ack_spoken s.packet is) end, is) refl
 
@@ -331,7 +327,7 @@ collision_read : (rest : List ℕ) → answer_in (codes " / " ++ (codes "collisi
 unfolding answer_in strip
 collision_read rest = refl
 
-answer_in-complete : (a : ExchangeAnswer) (m : Mark) (rest : List ℕ) → IsMarkedAnswer a m → Ends rest → answer_in (codes " / " ++ (answer_text a ++ (mark_text m ++ rest))) ≡ Some ((a, m), rest)
+answer_in-complete : (a : ExchangeAnswer) (m : Mark) (rest : List ℕ) → IsMarkedAnswer a m → EndsWord rest → answer_in (codes " / " ++ (answer_text a ++ (mark_text m ++ rest))) ≡ Some ((a, m), rest)
 answer_in-complete answer.Nothing m rest e end = subst (λ (n : Mark). answer_in (codes " / " ++ (codes "none" ++ (mark_text n ++ rest))) ≡ Some ((answer.Nothing, n), rest)) (sym e) (nothing_read rest)
 answer_in-complete answer.Collision m rest e end = subst (λ (n : Mark). answer_in (codes " / " ++ (codes "collision" ++ (mark_text n ++ rest))) ≡ Some ((answer.Collision, n), rest)) (sym e) (collision_read rest)
 answer_in-complete (answer.One p) m rest (is, sends) end =
@@ -342,12 +338,12 @@ answer_in-complete (answer.One p) m rest (is, sends) end =
 
 -- ---- whole lines
 
-payload_if-complete : (pre : Bool) (payload : Option Outgoing) (rest : List ℕ) → IfSome payload (λ s. IsSent pre s × (is_data_packet s.packet ≡ true)) → Ends rest
+payload_if-complete : (pre : Bool) (payload : Option Outgoing) (rest : List ℕ) → IfSome payload (λ s. IsSent pre s × (is_data_packet s.packet ≡ true)) → EndsWord rest
     → payload_if (is_some payload) pre (next_text pre payload ++ rest) ≡ Some (payload, rest)
 payload_if-complete pre None rest h end = refl
 payload_if-complete pre (Some s) rest h end = rw (host_data-complete pre s rest h.0 h.1 end) refl
 
-reply_end : (pre : Bool) (reply : Option Outgoing) → Ends (next_text pre reply)
+reply_end : (pre : Bool) (reply : Option Outgoing) → EndsWord (next_text pre reply)
 reply_end pre None = inl refl
 reply_end pre (Some s) = inr (host_text pre s, refl)
 
@@ -381,7 +377,7 @@ payload_on a = next_text a.pre a.exchange.payload ++ answer_on a
 abbrev token_on : TracedAttempt → List ℕ
 token_on a = host_text a.pre a.exchange.token ++ payload_on a
 
-payload_end : (pre : Bool) (payload : Option Outgoing) (more : List ℕ) → Ends (next_text pre payload ++ (codes " / " ++ more))
+payload_end : (pre : Bool) (payload : Option Outgoing) (more : List ℕ) → EndsWord (next_text pre payload ++ (codes " / " ++ more))
 payload_end pre None more = inr (more, refl)
 payload_end pre (Some s) more = inr (host_text pre s ++ (codes " / " ++ more), refl)
 

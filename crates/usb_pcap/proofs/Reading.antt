@@ -9,9 +9,9 @@ use Rattle.hex.specs.Hex.{encode_upper, encode_with, upper_digits}
 use Rattle.usb_pcap.specs.Text.{bytes_on, decimal_in, if_found, is_digit, number_on, strip, value_of}
 
 -- a test was met, and what it led to
-pub if_some : {A P : Type 0} (b : Bool) (o : Option A) (y : A) → (if b then o else None) ≡ Some y → (b ≡ true → o ≡ Some y → P) → P
-if_some true o y e k = k refl e
-if_some false o y e k = absurd (cc)
+pub if-some : {A P : Type 0} (b : Bool) (o : Option A) (y : A) → (if b then o else None) ≡ Some y → (b ≡ true → o ≡ Some y → P) → P
+if-some true o y e k = k refl e
+if-some false o y e k = absurd (cc)
 
 pub if_either : {A P : Type 0} (b : Bool) (o p : Option A) (y : A) → (if b then o else p) ≡ Some y → (b ≡ true → o ≡ Some y → P) → (b ≡ false → p ≡ Some y → P) → P
 if_either true o p y e k l = k refl e
@@ -31,14 +31,14 @@ unfolding strip
 strip-some [] text rest e = same_Some text rest e
 strip-some (c ∷ word) [] rest e = absurd (cc)
 strip-some (c ∷ word) (d ∷ text) rest e =
-    if_some (d == c) (strip word text) rest e (λ same more. ap₂ (λ (x : ℕ) (l : List ℕ). x ∷ l) (eqb-true d c same) (strip-some word text rest more))
+    if-some (d == c) (strip word text) rest e (λ same more. ap₂ (λ (x : ℕ) (l : List ℕ). x ∷ l) (eqb-true d c same) (strip-some word text rest more))
 
 number_on-few : (value : ℕ) (text : List ℕ) (n : ℕ) → value < 2 ^ 64 → number_on value text ≡ Some n → n < 2 ^ 64
 unfolding number_on
 number_on-few value [] n few e = subst (λ m. m < 2 ^ 64) (same_Some value n e) few
 number_on-few value (c ∷ text) n few e =
     if_either (is_ascii_digit c) (if nat_lt (value * 10 + (c - 48)) (2 ^ 64) then number_on (value * 10 + (c - 48)) text else None) (Some value) n e
-    (λ digit more. if_some (nat_lt (value * 10 + (c - 48)) (2 ^ 64)) (number_on (value * 10 + (c - 48)) text) n more
+    (λ digit more. if-some (nat_lt (value * 10 + (c - 48)) (2 ^ 64)) (number_on (value * 10 + (c - 48)) text) n more
     (λ below rest. number_on-few (value * 10 + (c - 48)) text n (ltb-true (value * 10 + (c - 48)) (2 ^ 64) below) rest))
     (λ other end. subst (λ m. m < 2 ^ 64) (same_Some value n end) few)
 
@@ -77,10 +77,10 @@ digit_there c h =
     let parts = and_parts (slice_index upper_digits (value_of c) == c) (nat_lt (value_of c) 16) (rw h at all) in
     (eqb-true _ c parts.0, ltb-true (value_of c) 16 parts.1)
 
-encode_upper-append : (xs ys : List ℕ) → encode_upper (xs ++ ys) ≡ encode_upper xs ++ encode_upper ys
+encode_upper-joined : (xs ys : List ℕ) → encode_upper (xs ++ ys) ≡ encode_upper xs ++ encode_upper ys
 unfolding encode_with
-encode_upper-append [] ys = refl
-encode_upper-append (x ∷ xs) ys = ap (λ l. slice_index upper_digits (x / 16) ∷ slice_index upper_digits (x % 16) ∷ l) (encode_upper-append xs ys)
+encode_upper-joined [] ys = refl
+encode_upper-joined (x ∷ xs) ys = ap (λ l. slice_index upper_digits (x / 16) ∷ slice_index upper_digits (x % 16) ∷ l) (encode_upper-joined xs ys)
 
 encode_upper-pair : (h l : ℕ) → is_digit h ≡ true → is_digit l ≡ true → encode_upper ((value_of h * 16 + value_of l) ∷ []) ≡ h ∷ l ∷ []
 unfolding encode_with
@@ -99,10 +99,10 @@ bytes_on-some bytes (h ∷ []) r e = ap (λ (s : List ℕ × List ℕ). encode_u
 bytes_on-some bytes (h ∷ l ∷ text) r e =
     let byte : ℕ = value_of h * 16 + value_of l in
     if_either (is_digit h && is_digit l) (if nat_lt (length bytes) 64 then bytes_on (bytes ++ byte ∷ []) text else None) (Some (bytes, h ∷ l ∷ text)) r e
-    (λ digits more. if_some (nat_lt (length bytes) 64) (bytes_on (bytes ++ byte ∷ []) text) r more (λ room rest.
+    (λ digits more. if-some (nat_lt (length bytes) 64) (bytes_on (bytes ++ byte ∷ []) text) r more (λ room rest.
     let both = and_parts (is_digit h) (is_digit l) digits in
     let pair = encode_upper-pair h l both.0 both.1 in
-    let front : encode_upper (bytes ++ byte ∷ []) ≡ encode_upper bytes ++ h ∷ l ∷ [] = encode_upper-append bytes (byte ∷ []) ∙ ap (λ d. encode_upper bytes ++ d) pair in
+    let front : encode_upper (bytes ++ byte ∷ []) ≡ encode_upper bytes ++ h ∷ l ∷ [] = encode_upper-joined bytes (byte ∷ []) ∙ ap (λ d. encode_upper bytes ++ d) pair in
     sym (ap (λ d. d ++ text) front ∙ append_assoc (encode_upper bytes) (h ∷ l ∷ []) text) ∙ bytes_on-some (bytes ++ byte ∷ []) text r rest))
     (λ other end. ap (λ (s : List ℕ × List ℕ). encode_upper s.0 ++ s.1) (same_Some (bytes, h ∷ l ∷ text) r end))
 
@@ -119,7 +119,7 @@ bytes_on-data bytes (h ∷ []) r few small e = subst (λ (s : List ℕ × List �
 bytes_on-data bytes (h ∷ l ∷ text) r few small e =
     let byte : ℕ = value_of h * 16 + value_of l in
     if_either (is_digit h && is_digit l) (if nat_lt (length bytes) 64 then bytes_on (bytes ++ byte ∷ []) text else None) (Some (bytes, h ∷ l ∷ text)) r e
-    (λ digits more. if_some (nat_lt (length bytes) 64) (bytes_on (bytes ++ byte ∷ []) text) r more (λ room rest.
+    (λ digits more. if-some (nat_lt (length bytes) 64) (bytes_on (bytes ++ byte ∷ []) text) r more (λ room rest.
     let both = and_parts (is_digit h) (is_digit l) digits in
     let high = (digit_there h both.0).1 in
     let low = (digit_there l both.1).1 in

@@ -8,7 +8,7 @@ use Rattle.usb_packet.specs.declared.Toggle.TheVariants.{One}
 use Rattle.usb_request.specs.Layout.{bytes_of, setup_of, IsToHost}
 use Rattle.usb_request.specs.declared.setup.Setup.{Setup}
 use Rattle.usb_device.specs.Rows.{State}
-use Rattle.usb_device.specs.Tree.{Spot, reach_on, state_on}
+use Rattle.usb_device.specs.Tree.{Location, reach_on, state_on}
 use Rattle.usb_world.specs.Courses.{is_harmless}
 use Rattle.usb_world.specs.Devices.{Relation, Was}
 use Rattle.usb_world.specs.AttemptPackets.{IsSettled}
@@ -20,7 +20,7 @@ use Rattle.usb_transaction.specs.Answerer.{Answerer, HadOne, IsAnswer as TransIs
 use Rattle.usb_transaction.specs.HeardOutcomes.{heard_as, heard_when_sent}
 use Rattle.usb_transaction.specs.Leaves.{ControlIn, is_at, SourceIn, SinkOut}
 use Rattle.usb_transaction.specs.SparedDevices.{IsSpared}
-use Rattle.usb_transaction.specs.Trail.{Ended, Transacted}
+use Rattle.usb_transaction.specs.AttemptLog.{TransactionDone, Transacted}
 use Rattle.usb_transaction.specs.Transactions.{in_attempt, out_attempt}
 use Rattle.usb_transaction.specs.declared.fault.TransFault.{TransFault}
 use Rattle.usb_transaction.specs.declared.fault.TransFault.TheVariants as trans
@@ -40,12 +40,12 @@ use Rattle.usb_pipe.specs.declared.condition.Condition.TheVariants.{Broken}
 use Rattle.usb_pipe.specs.declared.fault.PipeFault.{PipeFault}
 use Rattle.usb_pipe.specs.declared.fault.PipeFault.TheVariants as pipe_fault
 use Rattle.usb_pipe.proofs.BulkCalls.{send_by, receive_by}
-use Rattle.usb_pipe.proofs.ControlSteps.{ended_settled, ended_unshared, host_harmless, eight_bytes, Requested, requested_leaves}
+use Rattle.usb_pipe.proofs.ControlSteps.{ended_settled, ended_unshared, host_harmless, bytes_of-length, Requested, requested_leaves}
 
 -- Devices at the target's address
 
 -- a reachable device at a place has it
-record HasIt (t : Target) (w : World) (j : Spot) : Type 0 where
+record HasIt (t : Target) (w : World) (j : Location) : Type 0 where
   state : State
   on : reach_on w.roots j ≡ true
   stands : state_on w.roots j ≡ Some state
@@ -55,7 +55,7 @@ record HasIt (t : Target) (w : World) (j : Spot) : Type 0 where
 record Passed (t : Target) (old new : World) : Type 0 where
   settled : IsSettled old.roots → IsSettled new.roots
   unshared : new.shared ≡ false → old.shared ≡ false
-  kept : IsSettled old.roots → new.shared ≡ false → (j : Spot) → HasIt t new j → HasIt t old j
+  kept : IsSettled old.roots → new.shared ≡ false → (j : Location) → HasIt t new j → HasIt t old j
 
 passed_none : (t : Target) (w : World) → Passed t w w
 passed_none t w = record { settled = λ h. h; unshared = λ h. h; kept = λ h single j d. d }
@@ -68,9 +68,9 @@ passed_then x y = record {
 }
 
 -- one that ended, where it changes no device with another address
-passed_one : {t : Target} {hear : _} {a : Attempt} {old new : World} {result : Result (List ℕ) TransFault} (R : Relation) → ((j : Spot) (s v : State) → R j s v → is_at s t ≡ false → v ≡ s)
-    → (IsSettled old.roots → new.shared ≡ false → (j : Spot) (s : State) → reach_on new.roots j ≡ true → state_on new.roots j ≡ Some s → is_at s t ≡ true → Was R old j s)
-    → Ended hear a old result new → Passed t old new
+passed_one : {t : Target} {hear : _} {a : Attempt} {old new : World} {result : Result (List ℕ) TransFault} (R : Relation) → ((j : Location) (s v : State) → R j s v → is_at s t ≡ false → v ≡ s)
+    → (IsSettled old.roots → new.shared ≡ false → (j : Location) (s : State) → reach_on new.roots j ≡ true → state_on new.roots j ≡ Some s → is_at s t ≡ true → Was R old j s)
+    → TransactionDone hear a old result new → Passed t old new
 passed_one {t} {old = old} R others each e = record {
   settled = ended_settled e;
   unshared = ended_unshared e;
@@ -89,15 +89,15 @@ set_up_passed t request {old} {new} addressed same e =
     (λ h single j s on there at. requested_leaves t request (Ok []) old new same h e single j s on there (spared_at t request s addressed at)) e
 
 -- an IN of endpoint 0, one of a bulk endpoint, and an OUT of one
-asked_passed : (t : Target) (awaited : Toggle) (bytes : List ℕ) {old new : World} → Ended (heard_as awaited) (in_attempt t 0) old (Ok bytes) new → Passed t old new
+asked_passed : (t : Target) (awaited : Toggle) (bytes : List ℕ) {old new : World} → TransactionDone (heard_as awaited) (in_attempt t 0) old (Ok bytes) new → Passed t old new
 asked_passed t awaited bytes {old} {new} e =
     passed_one (ControlIn t awaited (Ok bytes)) (λ j s v x. x.others) (λ h single j s on there at. control_in_leaves t awaited (Ok bytes) old new h e single j s on there) e
 
-fetched_passed : (t : Target) (ep : ℕ) (awaited : Toggle) (bytes : List ℕ) {old new : World} → Ended (heard_as awaited) (in_attempt t ep) old (Ok bytes) new → Passed t old new
+fetched_passed : (t : Target) (ep : ℕ) (awaited : Toggle) (bytes : List ℕ) {old new : World} → TransactionDone (heard_as awaited) (in_attempt t ep) old (Ok bytes) new → Passed t old new
 fetched_passed t ep awaited bytes {old} {new} e =
     passed_one (SourceIn t ep awaited (Ok bytes)) (λ j s v x. x.others) (λ h single j s on there at. source_over t ep awaited (Ok bytes) old new h e single j s on there) e
 
-put_passed : (t : Target) (ep : ℕ) (toggle : Toggle) (bytes : List ℕ) {old new : World} → Ended heard_when_sent (out_attempt t ep toggle bytes) old (Ok []) new → Passed t old new
+put_passed : (t : Target) (ep : ℕ) (toggle : Toggle) (bytes : List ℕ) {old new : World} → TransactionDone heard_when_sent (out_attempt t ep toggle bytes) old (Ok []) new → Passed t old new
 put_passed t ep toggle bytes {old} {new} e =
     passed_one (SinkOut t ep toggle bytes (Ok [])) (λ j s v x. x.others) (λ h single j s on there at. sink_over t ep toggle bytes (Ok []) old new h e single j s on there) e
 
@@ -120,8 +120,8 @@ came_passed t ep first (moves.packet {n} bytes c fetches full) = passed_then (ca
 
 -- The device that answered the last one
 
-answered : {t : Target} {old mid new : World} → Passed t old mid → IsSettled old.roots → mid.shared ≡ false → (IsSettled mid.roots → Answerer t mid new) → Answerer t old new
-answered {t} {old} {mid} {new} x settled single last =
+answerer_after_passed : {t : Target} {old mid new : World} → Passed t old mid → IsSettled old.roots → mid.shared ≡ false → (IsSettled mid.roots → Answerer t mid new) → Answerer t old new
+answerer_after_passed {t} {old} {mid} {new} x settled single last =
     let a : Answerer t mid new = last (x.settled settled) in
     let had : HasIt t old a.spot = x.kept settled single a.spot (record { state = a.before; on = a.was_on; stands = a.stood; at = a.at }) in
     record { spot = a.spot; now = a.now; on = a.on; stands = a.stands; before = had.state; was_on = had.on; stood = had.stands; at = had.at }
@@ -161,18 +161,18 @@ host_addressed t request host h = absurd (cc (sym (host_harmless request host) �
 pub who_reads : (t : Target) (request : Setup) (bytes : Vec ℕ) (old new : World) → IsToHost request → setup_of (bytes_of request) ≡ request
     → IsSettled old.roots → Reads t request old (Ok bytes) new → new.shared ≡ false → Answerer t old new
 who_reads t request bytes old new host same settled x single =
-    answered (passed_then (set_up_passed t request (host_addressed t request host) same x.set_up) (stage_passed t x.data_stage)) settled (ended_unshared x.status single)
+    answerer_after_passed (passed_then (set_up_passed t request (host_addressed t request host) same x.set_up) (stage_passed t x.data_stage)) settled (ended_unshared x.status single)
     (λ h. write_answered t 0 One [] [] x.second new h x.status single)
 
 pub who_writes : (t : Target) (request : Setup) (u : Unit {0}) (old new : World) → setup_of (bytes_of request) ≡ request → (is_harmless request ≡ false → t.addr ≢ 0)
     → IsSettled old.roots → Writes t request old (Ok u) new → new.shared ≡ false → Answerer t old new
 who_writes t request u old new same addressed settled x single =
-    answered (set_up_passed t request addressed same x.set_up) settled (ended_unshared x.status single) (λ h. read_answered t 0 One x.given x.mid new h x.status single)
+    answerer_after_passed (set_up_passed t request addressed same x.set_up) settled (ended_unshared x.status single) (λ h. read_answered t 0 One x.given x.mid new h x.status single)
 
 no_set_up_had : (t : Target) (request : Setup) (why : PipeFault) (old new : World) → setup_of (bytes_of request) ≡ request → (is_harmless request ≡ false → t.addr ≢ 0) → IsSettled old.roots
     → IsTransferAnswer why → NoSetUp t request old why new → new.shared ≡ false → HadOne t old
 no_set_up_had t request why old new same addressed settled y x single =
-    set_up_had t (bytes_of request) x.fault old new (eight_bytes request) (λ h. addressed (ap is_harmless (sym same) ∙ h)) settled (trans_answer why x.fault x.told y) x.set_up single
+    set_up_had t (bytes_of request) x.fault old new (bytes_of-length request) (λ h. addressed (ap is_harmless (sym same) ∙ h)) settled (trans_answer why x.fault x.told y) x.set_up single
 
 pub who_read_had : (t : Target) (request : Setup) (why : PipeFault) (old new : World) → IsToHost request → setup_of (bytes_of request) ≡ request
     → IsSettled old.roots → IsTransferAnswer why → Reads t request old (Err why) new → new.shared ≡ false → HadOne t old
@@ -184,7 +184,7 @@ who_read_had t request why old new host same settled y (inr (inl x)) single =
           failed_had (heard_as (flips d.packets One)) (in_attempt t 0) new d.fault (passed_then set_up (goes_passed t d.before)) settled d.lost single
           (λ h. read_had t 0 (flips d.packets One) d.fault d.mid new h (trans_answer why d.fault d.told y) d.lost single)
       | inr d ↦
-          had_one (answered (passed_then set_up (goes_passed t d.before)) settled (ended_unshared d.came single) (λ h. read_answered t 0 (flips d.packets One) d.last d.mid new h d.came single))
+          had_one (answerer_after_passed (passed_then set_up (goes_passed t d.before)) settled (ended_unshared d.came single) (λ h. read_answered t 0 (flips d.packets One) d.last d.mid new h d.came single))
     ]
 who_read_had t request why old new host same settled y (inr (inr x)) single =
     failed_had heard_when_sent (out_attempt t 0 One []) new x.fault (passed_then (set_up_passed t request (host_addressed t request host) same x.set_up) (stage_passed t x.data_stage)) settled x.status single
@@ -204,7 +204,7 @@ gone_answered : (t : Target) (ep : ℕ) (first : Toggle) {old : World} {n : ℕ}
     → Answerer t old new
 gone_answered t ep first settled moves.start some single = absurd (some refl)
 gone_answered t ep first {new} settled (moves.packet {n} {mid} bytes g full more fits puts) some single =
-    answered (gave_passed t ep first g) settled (ended_unshared puts single) (λ h. write_answered t ep (flips n first) bytes [] mid new h puts single)
+    answerer_after_passed (gave_passed t ep first g) settled (ended_unshared puts single) (λ h. write_answered t ep (flips n first) bytes [] mid new h puts single)
 
 pub who_sends : (bytes : List ℕ) (pipe : Bulk) (u : Unit {0}) (left : Bulk) (old new : World) → bytes ≢ []
     → Sends bytes pipe old (Ok u) left new → new.shared ≡ false → Answerer pipe.target old new
@@ -221,7 +221,7 @@ who_receives wanted pipe bytes left old new some x single =
     let t = packet_target pipe.target pipe.max in
     let c = r.came in
     of_device pipe.target pipe.max
-    (answered (came_passed t pipe.ep pipe.toggle c.before) r.settled (ended_unshared c.came single)
+    (answerer_after_passed (came_passed t pipe.ep pipe.toggle c.before) r.settled (ended_unshared c.came single)
     (λ h. read_answered t pipe.ep (flips c.packets pipe.toggle) c.last c.mid new h c.came single))
 
 module _ (pipe : Bulk) (why : PipeFault) (old new : World) (settled : IsSettled old.roots) (y : IsTransferAnswer why) (single : new.shared ≡ false) where
@@ -241,7 +241,7 @@ module _ (pipe : Bulk) (why : PipeFault) (old new : World) (settled : IsSettled 
       (λ h. read_had Packets pipe.ep (flips x.packets pipe.toggle) x.fault x.mid new h (trans_answer why x.fault x.told y) x.lost single))
   not_come_had wanted (inr x) =
       had_of_device pipe.target pipe.max
-      (had_one (answered (came_passed Packets pipe.ep pipe.toggle x.before) settled (ended_unshared x.came single)
+      (had_one (answerer_after_passed (came_passed Packets pipe.ep pipe.toggle x.before) settled (ended_unshared x.came single)
       (λ h. read_answered Packets pipe.ep (flips x.packets pipe.toggle) x.last x.mid new h x.came single)))
 
 not_broken : (why : PipeFault) → IsTransferAnswer why → ◌≢◌ {A = PipeFault} why pipe_fault.Broken

@@ -20,7 +20,7 @@ use Rattle.usb_transaction.specs.declared.fault.TransFault.{TransFault}
 use Rattle.usb_transaction.specs.declared.fault.TransFault.TheVariants as trans
 use Rattle.usb_transaction.specs.Attempts.{IsOnly}
 use Rattle.usb_transaction.specs.HeardOutcomes.{heard_as, heard_when_sent, set_up_as}
-use Rattle.usb_transaction.specs.Trail.{Ended, CutOff, Trail, start as none_yet, next, GoesOn, Transacted}
+use Rattle.usb_transaction.specs.AttemptLog.{TransactionDone, BusFailed, AttemptLog, start as none_yet, next, KeepsTrying, Transacted}
 use Rattle.usb_transaction.specs.Transactions.{in_attempt, out_attempt, setup_attempt}
 use Rattle.usb_transaction.proofs.Interface.{polled_attempts, trail_course}
 use Rattle.usb_pipe.specs.Attempts.{IsOfTransfer, TransferAttempts}
@@ -37,13 +37,13 @@ use Rattle.usb_packet.specs.Toggles.{flips}
 use Rattle.usb_pipe.specs.declared.fault.PipeFault.{PipeFault}
 use Rattle.usb_pipe.specs.declared.fault.PipeFault.TheVariants as pipe_fault
 use Rattle.usb_pipe.proofs.BulkCalls.{receive_by, clear_by, send_by}
-use Rattle.usb_pipe.proofs.ControlSteps.{ended}
+use Rattle.usb_pipe.proofs.ControlSteps.{transacted_ended}
 
 -- a transaction of IN, or of the OUT that ends a read
-pub in_behind : {t : Target} (awaited : Toggle) {old new : World} {result : Result (List ℕ) TransFault} → Ended (heard_as awaited) (in_attempt t 0) old result new → Course (IsBehind t) old new
+pub in_behind : {t : Target} (awaited : Toggle) {old new : World} {result : Result (List ℕ) TransFault} → TransactionDone (heard_as awaited) (in_attempt t 0) old result new → Course (IsBehind t) old new
 in_behind awaited e = trail_course (λ w made. inl refl) e.trail
 
-pub out_behind : {t : Target} {old new : World} {result : Result (List ℕ) TransFault} → Ended heard_when_sent (out_attempt t 0 One []) old result new → Course (IsBehind t) old new
+pub out_behind : {t : Target} {old new : World} {result : Result (List ℕ) TransFault} → TransactionDone heard_when_sent (out_attempt t 0 One []) old result new → Course (IsBehind t) old new
 out_behind e = trail_course (λ w made. inr refl) e.trail
 
 pub goes_behind : {t : Target} {wanted : ℕ} {old : World} {n : ℕ} {got : List ℕ} {new : World} → Goes t wanted old n got new → Course (IsBehind t) old new
@@ -56,22 +56,22 @@ stage_behind d = course_joined (goes_behind d.before) (in_behind (flips d.packet
 -- Which attempts a transfer made
 
 -- the attempts of a transaction whose attempt is of a kind, while it goes on
-module _ (K : Step → World → Type 0) (hear : _) (a : Attempt) {mid : World} (kind : (outcomes : List Outcome) (w : World) → Trail a mid outcomes w → GoesOn hear outcomes → K (attempt a) w) where
-  trail_kind : {outcomes : List Outcome} {now : World} → Trail a mid outcomes now → GoesOn hear outcomes → Course K mid now
-  unfolding GoesOn
+module _ (K : Step → World → Type 0) (hear : _) (a : Attempt) {mid : World} (kind : (outcomes : List Outcome) (w : World) → AttemptLog a mid outcomes w → KeepsTrying hear outcomes → K (attempt a) w) where
+  trail_kind : {outcomes : List Outcome} {now : World} → AttemptLog a mid outcomes now → KeepsTrying hear outcomes → Course K mid now
+  unfolding KeepsTrying
   trail_kind none_yet on = here mid
   trail_kind (next w r made) on = course_then (attempt a) (trail_kind r on.3) (kind _ _ r on.3)
 
-  last_kind : {last : Outcome} {outcomes : List Outcome} {now : World} → Trail a mid (last ∷ outcomes) now → GoesOn hear outcomes → Course K mid now
+  last_kind : {last : Outcome} {outcomes : List Outcome} {now : World} → AttemptLog a mid (last ∷ outcomes) now → KeepsTrying hear outcomes → Course K mid now
   last_kind (next w r made) on = course_then (attempt a) (trail_kind r on) (kind _ _ r on)
 
   -- a transfer that failed as its last transaction did
   lost_kind : {A : Type 0} {old new : World} (why : PipeFault) (fault : TransFault) → why ≡ as_pipe_fault fault → Course K old mid → Transacted hear a mid (Err fault) new → TransferAttempts {A = A} K old (Err why) new
   lost_kind {A} {old} {new} why fault told c x = record {
-    whole = λ n. let o = ended A why fault told n x in course_joined c (last_kind o.trail o.onward);
+    whole = λ n. let o = transacted_ended A why fault told n x in course_joined c (last_kind o.trail o.onward);
     cut = λ f e.
         let same : fault ≡ trans.Bus f = grind arith in
-        let o : CutOff hear a mid f new = subst (λ g. Transacted hear a mid (Err g) new) same x in
+        let o : BusFailed hear a mid f new = subst (λ g. Transacted hear a mid (Err g) new) same x in
         record { mid = o.mid; course = course_joined c (trail_kind o.trail o.onward); last = a; is = kind _ _ o.trail o.onward; fits = o.fits; refused = o.refused; fails = o.fails };
   }
 
@@ -146,16 +146,16 @@ poll_attempts pipe result left old new x = asked_attempts pipe result old new x.
 -- Sends, packet by packet
 
 -- a packet is as many of the bytes from it on as fit, where it is full or nothing is behind it
-front_is : (max : ℕ) (bytes rest : List ℕ) → length bytes ≤ max → (0 < length rest → length bytes ≡ max) → take max (bytes ++ rest) ≡ bytes
-front_is max bytes [] short full = let all : min max (length bytes) ≡ length bytes = omega (arith, short) in rw (append-nil bytes, ← take_min max bytes, all) (take-length bytes)
-front_is max bytes (b ∷ rest) short full = let e : max ≡ length bytes = sym (full (omega arith)) in rw e (take-append_seam bytes (b ∷ rest))
+take-packet : (max : ℕ) (bytes rest : List ℕ) → length bytes ≤ max → (0 < length rest → length bytes ≡ max) → take max (bytes ++ rest) ≡ bytes
+take-packet max bytes [] short full = let all : min max (length bytes) ≡ length bytes = omega (arith, short) in rw (append-nil bytes, ← take_min max bytes, all) (take-length bytes)
+take-packet max bytes (b ∷ rest) short full = let e : max ≡ length bytes = sym (full (omega arith)) in rw e (take-append_seam bytes (b ∷ rest))
 
 module _ (t : Target) (ep : ℕ) (first : Toggle) (total : List ℕ) (old : World) where
   abbrev Kind : Step → World → Type 0
   Kind = SendsAt t ep first total old
 
   moment_is : {n : ℕ} {sent : List ℕ} {mid : World} (rest : List ℕ) → Gave t ep first old n sent mid → length sent ≡ n * t.max → total ≡ sent ++ rest → (outcomes : List Outcome) (w : World)
-      → Trail (out_attempt t ep (flips n first) (take t.max rest)) mid outcomes w → GoesOn heard_when_sent outcomes → Kind (attempt (out_attempt t ep (flips n first) (take t.max rest))) w
+      → AttemptLog (out_attempt t ep (flips n first) (take t.max rest)) mid outcomes w → KeepsTrying heard_when_sent outcomes → Kind (attempt (out_attempt t ep (flips n first) (take t.max rest))) w
   moment_is {n} {sent} {mid} rest g full split outcomes w r on =
       record { moment = record { packets = n; sent = sent; rest = rest; mid = mid; before = g; full = full; split = split; outcomes = outcomes; trail = r; onward = on }; is = refl }
 
@@ -164,9 +164,9 @@ module _ (t : Target) (ep : ℕ) (first : Toggle) (total : List ℕ) (old : Worl
   gave_course moves.start rest split full = here old
   gave_course {now = now} (moves.packet {n} {sent} {mid} bytes g even some fits puts) rest split full =
       let j = length-append sent bytes in
-      let front : take t.max (bytes ++ rest) ≡ bytes = front_is t.max bytes rest fits (λ lt. let f = full lt in omega (arith, j, f, even)) in
+      let front : take t.max (bytes ++ rest) ≡ bytes = take-packet t.max bytes rest fits (λ lt. let f = full lt in omega (arith, j, f, even)) in
       let behind : total ≡ sent ++ (bytes ++ rest) = split ∙ append_assoc sent bytes rest in
-      let went : Ended heard_when_sent (out_attempt t ep (flips n first) (take t.max (bytes ++ rest))) mid (Ok []) now = rw front puts in
+      let went : TransactionDone heard_when_sent (out_attempt t ep (flips n first) (take t.max (bytes ++ rest))) mid (Ok []) now = rw front puts in
       course_joined (gave_course g (bytes ++ rest) behind (λ lt. even)) (last_kind Kind heard_when_sent _ (moment_is (bytes ++ rest) g even behind) went.trail went.onward)
 
   send_ends : (result : Result (Unit {0}) PipeFault) (new : World) → SendEnds t ep first total old result new → TransferAttempts Kind old result new

@@ -15,16 +15,16 @@ use Rattle.usb_pipe.specs.Moves.{Gave, Came, start, packet}
 use Rattle.usb_pipe.proofs.ControlSteps.{ended_settled}
 
 -- one that works is ready, or halted
-decided : (c d : Condition) → (c ≡ d) ⊎ (c ≢ d)
-decided c d = grind arith
+condition_decided : (c d : Condition) → (c ≡ d) ⊎ (c ≢ d)
+condition_decided c d = grind arith
 
 pub ready_or : (G : Type 0) (c : Condition) → c ≢ Broken → (c ≡ Ready → G) → (c ≡ Halted → G) → G
-ready_or G c works ready halted = elim (decided c Ready) [ inl e ↦ ready e | inr n ↦ halted (grind arith) ]
+ready_or G c works ready halted = elim (condition_decided c Ready) [ inl e ↦ ready e | inr n ↦ halted (grind arith) ]
 
 pub send_by : {bytes : List ℕ} {pipe : Bulk} {old : World} {result : Result (Unit {0}) PipeFault} {left : Bulk} {new : World} (G : Type 0)
     → (Idle (Err pipe_fault.Broken) pipe old result left new → G) → (bytes ≡ [] → Idle (Ok tt) pipe old result left new → G)
     → (pipe.condition ≢ Broken → bytes ≢ [] → MovedOut (div_ceil (length bytes) pipe.max) bytes pipe old result left new → G) → Sends bytes pipe old result left new → G
-send_by {bytes} {pipe} G broken nothing moved x = elim (decided pipe.condition Broken) [ inl e ↦ broken (x.broken e) | inr works ↦ by_bytes works bytes refl ]
+send_by {bytes} {pipe} G broken nothing moved x = elim (condition_decided pipe.condition Broken) [ inl e ↦ broken (x.broken e) | inr works ↦ by_bytes works bytes refl ]
   where
     by_bytes : pipe.condition ≢ Broken → (b : List ℕ) → bytes ≡ b → G
     by_bytes works [] e = nothing e (x.nothing works e)
@@ -33,7 +33,7 @@ send_by {bytes} {pipe} G broken nothing moved x = elim (decided pipe.condition B
 pub receive_by : {wanted : ℕ} {pipe : Bulk} {old : World} {result : Result (Vec ℕ) PipeFault} {left : Bulk} {new : World} (G : Type 0)
     → (result ≡ Err pipe_fault.Broken → left ≡ pipe → new ≡ old → G) → ((bytes : Vec ℕ) → result ≡ Ok bytes → bytes.items ≡ [] → left ≡ pipe → new ≡ old → G)
     → (pipe.condition ≢ Broken → wanted ≢ 0 → MovedIn wanted pipe old result left new → G) → Receives wanted pipe old result left new → G
-receive_by {wanted} {pipe} {old} {result} {left} {new} G broken nothing moved x = elim (decided pipe.condition Broken) [
+receive_by {wanted} {pipe} {old} {result} {left} {new} G broken nothing moved x = elim (condition_decided pipe.condition Broken) [
   | inl e ↦ (let b = x.broken e in broken b.0 b.1 b.2)
   | inr works ↦ elim (eq-zero-or-pos wanted) [
     | inl e ↦ (let n = x.nothing works e in by_answer result refl n.0 n.1 n.2)
@@ -47,7 +47,7 @@ receive_by {wanted} {pipe} {old} {result} {left} {new} G broken nothing moved x 
 
 pub clear_by : {pipe : Bulk} {old : World} {result : Result (Unit {0}) PipeFault} {left : Bulk} {new : World} (G : Type 0)
     → (pipe.condition ≡ Ready → Idle (Ok tt) pipe old result left new → G) → (pipe.condition ≢ Ready → Cleared pipe old result left new → G) → Clears pipe old result left new → G
-clear_by {pipe} G ready sent x = elim (decided pipe.condition Ready) [ inl e ↦ ready e (x.ready e) | inr n ↦ sent n (x.sent n) ]
+clear_by {pipe} G ready sent x = elim (condition_decided pipe.condition Ready) [ inl e ↦ ready e (x.ready e) | inr n ↦ sent n (x.sent n) ]
 
 -- no device remembers a packet between two packets of a transfer
 
@@ -55,6 +55,6 @@ pub gave_settled : {t : Target} {ep : ℕ} {first : Toggle} {old : World} {n : �
 gave_settled start h = h
 gave_settled (packet bytes g full some fits puts) h = ended_settled puts (gave_settled g h)
 
-pub came_settled : {t : Target} {ep : ℕ} {first : Toggle} {old : World} {n : ℕ} {got : List ℕ} {new : World} → Came t ep first old n got new → IsSettled old.roots → IsSettled new.roots
-came_settled start h = h
-came_settled (packet bytes c fetches full) h = ended_settled fetches (came_settled c h)
+pub received_settled : {t : Target} {ep : ℕ} {first : Toggle} {old : World} {n : ℕ} {got : List ℕ} {new : World} → Came t ep first old n got new → IsSettled old.roots → IsSettled new.roots
+received_settled start h = h
+received_settled (packet bytes c fetches full) h = ended_settled fetches (received_settled c h)

@@ -1,5 +1,5 @@
 -- A poll: what it leaves of each device and tells of it, why it fails, and the record of both, from what its transaction's call tells.
-use Rattle.usb_device.specs.Tree.{Spot}
+use Rattle.usb_device.specs.Tree.{Location}
 use Rattle.std.proofs.Common.{◌≡◌, sym, ap, subst, refl, false, arith, ℕ, ◌≤◌, List, Option, Some, None, Result, Ok, Err, OnOk}
 use Rattle.arrayvec.specs.ArrayVec.{ArrayVec}
 use Rattle.usb_device.specs.Rows.{State}
@@ -10,14 +10,14 @@ use Rattle.usb_world.specs.Devices.{EachWas}
 use Rattle.usb_world.proofs.Interface.{each_wider}
 use Rattle.usb_transaction.specs.declared.fault.TransFault.{TransFault}
 use Rattle.usb_transaction.specs.Answerer.{Answerer}
-use Rattle.usb_transaction.specs.Failures.{NoThreeDamaged, WhyPoll}
+use Rattle.usb_transaction.specs.Failures.{NoThreeDamaged, PollFailure}
 use Rattle.usb_transaction.specs.Leaves.{ChangesIn, PollEnds, ToldBy, IsNotOfBus as TransNotOfBus}
-use Rattle.usb_transaction.specs.Trail.{Polled}
+use Rattle.usb_transaction.specs.AttemptLog.{Polled}
 use Rattle.usb_transaction.specs.Transactions.{in_attempt}
 use Rattle.usb_transaction.proofs.Interface.{poll_why, what_poll}
 use Rattle.usb_pipe.specs.declared.fault.PipeFault.{PipeFault}
 use Rattle.usb_pipe.specs.Control.{as_pipe_fault}
-use Rattle.usb_pipe.specs.Failures.{WhyPolling}
+use Rattle.usb_pipe.specs.Failures.{PollingFailure}
 use Rattle.usb_pipe.specs.Interrupt.{Interrupt, Polls}
 use Rattle.usb_pipe.specs.Leaves.{IsNoBusFault, ToldOf, PollTells, PollLeaves}
 use Rattle.usb_pipe.specs.Transfers.{Unshared, InterruptPoll}
@@ -25,7 +25,7 @@ use Rattle.usb_pipe.proofs.Answerers.{who_polls}
 use Rattle.usb_pipe.proofs.TransferLosses.{poll_losses}
 
 -- one device
-leaves_by : (pipe left : Interrupt) (old new : World) (result : Result (Option (ArrayVec ℕ)) PipeFault) (told : Result (Option (List ℕ)) TransFault) (j : Spot) (s v : State) → ChangesIn pipe.target pipe.toggle old told new j s v
+leaves_by : (pipe left : Interrupt) (old new : World) (result : Result (Option (ArrayVec ℕ)) PipeFault) (told : Result (Option (List ℕ)) TransFault) (j : Location) (s v : State) → ChangesIn pipe.target pipe.toggle old told new j s v
     → (PollEnds (ToldBy (in_attempt pipe.target 1) old told new j) pipe.toggle told v → PollTells (ToldOf pipe old new j) result × ((got : Option (ArrayVec ℕ)) → result ≡ Ok got → PollAt NeverTold left.toggle v)) → PollLeaves pipe old result left new j s v
 leaves_by pipe left old new result told j s v x f = record {
   others = x.others;
@@ -50,17 +50,17 @@ poll_tells pipe (Err why) left old new one least settled x single =
 
 -- Why it fails
 
-not_of_bus : (A : Type 0) (why : PipeFault) (fault : TransFault) → why ≡ as_pipe_fault fault → IsNoBusFault {A = A} (Err why) → TransNotOfBus {A = Option (List ℕ)} (Err fault)
-not_of_bus A why fault e n = grind arith
+poll-not_of_bus : (A : Type 0) (why : PipeFault) (fault : TransFault) → why ≡ as_pipe_fault fault → IsNoBusFault {A = A} (Err why) → TransNotOfBus {A = Option (List ℕ)} (Err fault)
+poll-not_of_bus A why fault e n = grind arith
 
 pub polling_why : (pipe : Interrupt) (result : Result (Option (ArrayVec ℕ)) PipeFault) (left : Interrupt) (old new : World) → pipe.ep ≡ 1 → 1 ≤ pipe.target.max → IsSettled old.roots → NoThreeDamaged old
-    → Polls pipe old result left new → IsNoBusFault result → new.shared ≡ false → EachWas (WhyPolling pipe result) old new
+    → Polls pipe old result left new → IsNoBusFault result → new.shared ≡ false → EachWas (PollingFailure pipe result) old new
 polling_why pipe (Ok got) left old new one least settled three x sound single =
     each_wider _ _ (λ j s v y. record { answered = λ l h at quiet why e. cc e }) old new (poll_tells pipe (Ok got) left old new one least settled x single)
 polling_why pipe (Err why) left old new one least settled three x sound single =
     let n = x.asked in
-    each_wider (WhyPoll pipe.target pipe.toggle (Err n.fault)) _ (λ j s v y. record { answered = λ l h at quiet other e. y.answered l h at quiet n.fault refl }) old new
-    (poll_why pipe.target pipe.toggle (Err n.fault) old new least settled three (subst (λ ep. Polled pipe.toggle (in_attempt pipe.target ep) old (Err n.fault) new) one n.polled) (not_of_bus (Option (ArrayVec ℕ)) why n.fault n.told sound) single)
+    each_wider (PollFailure pipe.target pipe.toggle (Err n.fault)) _ (λ j s v y. record { answered = λ l h at quiet other e. y.answered l h at quiet n.fault refl }) old new
+    (poll_why pipe.target pipe.toggle (Err n.fault) old new least settled three (subst (λ ep. Polled pipe.toggle (in_attempt pipe.target ep) old (Err n.fault) new) one n.polled) (poll-not_of_bus (Option (ArrayVec ℕ)) why n.fault n.told sound) single)
 
 -- The record of a poll: the pipe is as it was read
 pub poll_told : (read pipe : Interrupt) (result : Result (Option (ArrayVec ℕ)) PipeFault) (left : Interrupt) (old new : World) → read ≡ pipe → 1 ≤ read.target.max → IsSettled old.roots

@@ -9,10 +9,10 @@ use Rattle.std.proofs.lemmas.Nat.{div-mul-add, le-div}
 use Rattle.usb_packet.specs.declared.Toggle.{Toggle}
 use Rattle.usb_packet.specs.Toggles.{other, flips}
 use Rattle.usb_world.specs.World.{World}
-use Rattle.usb_bus.specs.Traces.{WentOn}
+use Rattle.usb_bus.specs.Traces.{StepRun}
 use Rattle.usb_bus.proofs.Interface.{went_none, went_then, went_wider}
 use Rattle.usb_transaction.specs.Calls.{AsksIn, SendsOut}
-use Rattle.usb_transaction.specs.Transactions.{Ends, Worked, transaction_bound}
+use Rattle.usb_transaction.specs.Transactions.{Ends, AttemptsMade, transaction_bound}
 use Rattle.usb_transaction.specs.declared.target.Target.{Target}
 use Rattle.usb_transaction.specs.declared.fault.TransFault.{TransFault}
 use Rattle.usb_pipe.specs.Bulk.{packets_of, Turned}
@@ -30,7 +30,7 @@ flips_more n first toggle next e f = rw (add-one n) (f ∙ ap other e)
 
 -- n packets were moved
 pub record Moved (n : ℕ) (first toggle : Toggle) (old : World) (t : Option (List ℕ)) (now : World) (r : Option (List ℕ)) : Type 0 where
-  pub went : WentOn (transaction_bound * n) old t now r
+  pub went : StepRun (transaction_bound * n) old t now r
   pub least : old.attempts + n ≤ now.attempts
   pub sound : now.fault ≡ None → old.fault ≡ None
   pub still : 0 < n → now.fault ≡ None
@@ -47,19 +47,19 @@ moved_none first w t = record {
 }
 
 module _ {n : ℕ} {first toggle : Toggle} {old mid : World} {t r : Option (List ℕ)} (m : Moved n first toggle old t mid r) where
-  pub moved_all : {more : ℕ} → n ≤ more → WentOn (transaction_bound * more) old t mid r
+  pub moved_all : {more : ℕ} → n ≤ more → StepRun (transaction_bound * more) old t mid r
   moved_all {more} le = went_wider (transaction_bound * n) (transaction_bound * more) m.went (omega (arith, le))
 
   -- one packet more, whether it was moved or not
-  pub moved_went : {more : ℕ} {new : World} {s : Option (List ℕ)} → n < more → WentOn transaction_bound mid r new s → WentOn (transaction_bound * more) old t new s
+  pub moved_went : {more : ℕ} {new : World} {s : Option (List ℕ)} → n < more → StepRun transaction_bound mid r new s → StepRun (transaction_bound * more) old t new s
   moved_went {more} lt w = went_wider (transaction_bound * n + transaction_bound) (transaction_bound * more) (went_then (transaction_bound * n) transaction_bound m.went w) (omega (arith, lt))
 
   moved_more : (next : Toggle) {new : World} {s : Option (List ℕ)}
-      → WentOn transaction_bound mid r new s → Worked 1 mid new → next ≡ other toggle
+      → StepRun transaction_bound mid r new s → AttemptsMade 1 mid new → next ≡ other toggle
       → Moved (n + 1) first next old t new s
   moved_more next w worked e = grind (arith, moved_went, flips_more)
 
-  worked_then : {k : ℕ} {new : World} → Worked k mid new → Worked k old new
+  worked_then : {k : ℕ} {new : World} → AttemptsMade k mid new → AttemptsMade k old new
   worked_then w = record { sound = m.sound w.sound; least = omega (arith, m.least, w.least); still = w.still }
 
   lost_ends : (fault : TransFault) (new : World) → Ends {A = List ℕ} mid (Err fault) new → FaultAfter 0 old (as_pipe_fault fault) new
@@ -69,7 +69,7 @@ module _ {n : ℕ} {first toggle : Toggle} {old mid : World} {t r : Option (List
   moved_turned : {more : ℕ} {next : Toggle} → n < more → next ≡ toggle → Turned more first next
   moved_turned lt same = record { packets = n; few = lt; turned = same ∙ m.turned }
 
-moved_worked : {n : ℕ} {first toggle : Toggle} {old now : World} {t r : Option (List ℕ)} → 0 < n → Moved n first toggle old t now r → Worked n old now
+moved_worked : {n : ℕ} {first toggle : Toggle} {old now : World} {t r : Option (List ℕ)} → 0 < n → Moved n first toggle old t now r → AttemptsMade n old now
 moved_worked lt m = record { sound = m.sound (m.still lt); least = m.least; still = m.still lt }
 
 -- How many packets
@@ -107,7 +107,7 @@ module _ {t : Target} {ep : ℕ} {first : Toggle} {wanted : ℕ} {old new : Worl
 -- Packets that are sent
 
 -- so far these bytes are left
-pub record Going (t : Target) (ep : ℕ) (first : Toggle) (total : List ℕ) (old : World) (text : Option (List ℕ)) (rest : List ℕ) (toggle : Toggle) (now : World) (written : Option (List ℕ)) : Type 0 where
+pub record PacketsMoving (t : Target) (ep : ℕ) (first : Toggle) (total : List ℕ) (old : World) (text : Option (List ℕ)) (rest : List ℕ) (toggle : Toggle) (now : World) (written : Option (List ℕ)) : Type 0 where
   pub packets : ℕ
   pub sent : List ℕ
   pub before : Gave t ep first old packets sent now
@@ -115,13 +115,13 @@ pub record Going (t : Target) (ep : ℕ) (first : Toggle) (total : List ℕ) (ol
   pub full : 0 < length rest → length sent ≡ packets * t.max
   pub moved : Moved packets first toggle old text now written
 
-pub going_none : (t : Target) (ep : ℕ) (first : Toggle) (total : List ℕ) (w : World) (text : Option (List ℕ)) → Going t ep first total w text total first w text
-going_none t ep first total w text = record { packets = 0; sent = []; before = start; split = refl; full = λ _. omega arith; moved = moved_none first w text }
+pub moving_none : (t : Target) (ep : ℕ) (first : Toggle) (total : List ℕ) (w : World) (text : Option (List ℕ)) → PacketsMoving t ep first total w text total first w text
+moving_none t ep first total w text = record { packets = 0; sent = []; before = start; split = refl; full = λ _. omega arith; moved = moved_none first w text }
 
 module _ (t : Target) (ep : ℕ) (first : Toggle) (total : List ℕ) (least : 1 ≤ t.max) {old : World} {text : Option (List ℕ)} where
   -- all are sent
-  pub all_sent : {now : World} {written : Option (List ℕ)} {rest : List ℕ} {toggle : Toggle} → 0 < length total → rest ≡ [] → Going t ep first total old text rest toggle now written
-      → PacketsSent t ep first total old (Ok tt) toggle now × WentOn (transaction_bound * div_ceil (length total) t.max) old text now written
+  pub all_sent : {now : World} {written : Option (List ℕ)} {rest : List ℕ} {toggle : Toggle} → 0 < length total → rest ≡ [] → PacketsMoving t ep first total old text rest toggle now written
+      → PacketsSent t ep first total old (Ok tt) toggle now × StepRun (transaction_bound * div_ceil (length total) t.max) old text now written
   all_sent {now} some none g =
       let gone : Gave t ep first old g.packets total now = subst (λ x. Gave t ep first old g.packets x now) (sym (g.split ∙ ap (λ x. g.sent ++ x) none ∙ append-nil g.sent)) g.before in
       let count : div_ceil (length total) t.max ≡ g.packets = gave_packets t ep first gone (λ e. let l : length total ≡ 0 = ap length e in omega (arith, l)) in
@@ -139,8 +139,8 @@ module _ (t : Target) (ep : ℕ) (first : Toggle) (total : List ℕ) (least : 1 
 
   -- a packet, as many of the bytes that are left as fit
   module _ {mid new : World} {between written : Option (List ℕ)} {rest bytes : List ℕ} {toggle next : Toggle} (k : ℕ) (some : 0 < length rest) (is : k ≡ min (length rest) t.max) (front : bytes ≡ take k rest)
-      (g : Going t ep first total old text rest toggle mid between) (went : WentOn transaction_bound mid between new written) where
-    pub going_more : {after given : List ℕ} → after ≡ drop k rest → SendsOut t ep toggle bytes mid (Ok given) new → next ≡ other toggle → Going t ep first total old text after next new written
+      (g : PacketsMoving t ep first total old text rest toggle mid between) (went : StepRun transaction_bound mid between new written) where
+    pub going_more : {after given : List ℕ} → after ≡ drop k rest → SendsOut t ep toggle bytes mid (Ok given) new → next ≡ other toggle → PacketsMoving t ep first total old text after next new written
     going_more back x e =
         let j = length-append g.sent (take k rest) in
         let l = length-take k rest in
@@ -157,7 +157,7 @@ module _ (t : Target) (ep : ℕ) (first : Toggle) (total : List ℕ) (least : 1 
 
     -- one that does not go
     pub lost_sent : (fault : TransFault) (result : Result (Unit {0}) PipeFault) → IsErr result → IsErrAnd result (λ why. why ≡ as_pipe_fault fault) → result ≢ Err Memory → SendsOut t ep toggle bytes mid (Err fault) new → next ≡ toggle
-        → PacketsSent t ep first total old result next new × WentOn (transaction_bound * div_ceil (length total) t.max) old text new written
+        → PacketsSent t ep first total old result next new × StepRun (transaction_bound * div_ceil (length total) t.max) old text new written
     lost_sent fault (Err why) err said room x same =
         let size : k ≡ min t.max (length rest) = omega (arith, is) in
         let fitting : take k rest ≡ take t.max rest = rw size (take_min t.max rest) in
@@ -220,7 +220,7 @@ module _ (t : Target) (ep : ℕ) (first : Toggle) {old : World} {text : Option (
           all_received (record { packets = n; few = omega (arith, all); got = got; mid = mid; before = c; last = last; came = came; fits = omega (arith, full); kept = is; ends = inl all }) m
 
   -- a packet behind them
-  module _ {n : ℕ} {got : List ℕ} {mid new : World} {between written : Option (List ℕ)} {toggle next : Toggle} (few : n < wanted) (c : Coming t ep first old text n got toggle mid between) (went : WentOn transaction_bound mid between new written) where
+  module _ {n : ℕ} {got : List ℕ} {mid new : World} {between written : Option (List ℕ)} {toggle next : Toggle} (few : n < wanted) (c : Coming t ep first old text n got toggle mid between) (went : StepRun transaction_bound mid between new written) where
     -- that came
     module _ {last front kept : List ℕ} (x : AsksIn t ep toggle mid (Ok last) new) (e : next ≡ other toggle) (same : front ≡ last) (is : kept ≡ got ++ front) where
       pub coming_more : {m : ℕ} → m ≡ n + 1 → length last ≡ t.max → Coming t ep first old text m kept next new written

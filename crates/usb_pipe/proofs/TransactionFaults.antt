@@ -7,14 +7,14 @@ use Rattle.usb_pipe.specs.declared.fault.PipeFault.{PipeFault}
 use Rattle.usb_pipe.specs.Control.{as_pipe_fault}
 use Rattle.usb_pipe.specs.Leaves.{CanEnd}
 
-abbrev pub Fails : (A : Type 0) → PipeFault → PipeFault → Type 0
-Fails A why fault = ◌≡◌ {A = Result A PipeFault} (Err why) (Err fault)
+abbrev pub FailsWith : (A : Type 0) → PipeFault → PipeFault → Type 0
+FailsWith A why fault = ◌≡◌ {A = Result A PipeFault} (Err why) (Err fault)
 
 abbrev pub Fell : TransFault → TransFault → Type 0
 Fell why fault = ◌≡◌ {A = Result (List ℕ) TransFault} (Err why) (Err fault)
 
-pub same_fault : (A : Type 0) (why : PipeFault) (fault other : TransFault) → why ≡ as_pipe_fault fault → Fails A why (as_pipe_fault other) → Fell fault other
-same_fault A why fault other told e = grind arith
+pub fell_same_fault : (A : Type 0) (why : PipeFault) (fault other : TransFault) → why ≡ as_pipe_fault fault → FailsWith A why (as_pipe_fault other) → Fell fault other
+fell_same_fault A why fault other told e = grind arith
 
 -- a device that can answer a transaction so can end the transfer so
 

@@ -6,7 +6,7 @@ use Rattle.arrayvec.specs.ArrayVec.{ArrayVec}
 use Rattle.usb_packet.specs.declared.Toggle.{Toggle}
 use Rattle.usb_world.specs.AttemptPackets.{IsSettled}
 use Rattle.usb_world.specs.World.{World}
-use Rattle.usb_transaction.specs.Trail.{Polled}
+use Rattle.usb_transaction.specs.AttemptLog.{Polled}
 use Rattle.usb_transaction.specs.Transactions.{in_attempt}
 use Rattle.usb_transaction.specs.declared.fault.TransFault.{TransFault}
 use Rattle.usb_transaction.specs.declared.fault.TransFault.TheVariants as trans
@@ -22,8 +22,8 @@ use Rattle.usb_pipe.specs.Moves as moves
 use Rattle.usb_packet.specs.Toggles.{flips}
 use Rattle.usb_pipe.specs.declared.fault.PipeFault.{PipeFault}
 use Rattle.usb_pipe.proofs.BulkCalls.{send_by, receive_by}
-use Rattle.usb_pipe.proofs.BulkCalls.{came_settled, gave_settled}
-use Rattle.usb_pipe.proofs.ControlSteps.{ended}
+use Rattle.usb_pipe.proofs.BulkCalls.{received_settled, gave_settled}
+use Rattle.usb_pipe.proofs.ControlSteps.{transacted_ended}
 
 -- Bulk transfers from the host
 
@@ -36,16 +36,16 @@ sent_losses : (t : Target) (ep : ℕ) (first : Toggle) (total : List ℕ) (resul
     → new.losses ≡ old.losses
 sent_losses t ep first total (Ok done) old new settled x sound = gave_losses t ep first settled x.gone
 sent_losses t ep first total (Err why) old new settled x sound =
-    let over = ended (Unit {0}) why x.fault x.told sound x.lost in
+    let over = transacted_ended (Unit {0}) why x.fault x.told sound x.lost in
     out_losses t ep (flips x.packets first) (take t.max x.rest) x.mid new (gave_settled x.before settled) over.trail ∙ gave_losses t ep first settled x.before
 
 -- what leaves the world as it was counts nothing
-unchanged : {old new : World} → new ≡ old → new.losses ≡ old.losses
-unchanged e = ap (λ w. w.losses) e
+losses_same : {old new : World} → new ≡ old → new.losses ≡ old.losses
+losses_same e = ap (λ w. w.losses) e
 
 pub send_losses : (bytes : List ℕ) (pipe : Bulk) (result : Result (Unit {0}) PipeFault) (left : Bulk) (old new : World) → Sends bytes pipe old result left new → IsNoBusFault result → new.losses ≡ old.losses
 send_losses bytes pipe result left old new x sound =
-    send_by (new.losses ≡ old.losses) (λ i. unchanged i.world_kept) (λ none i. unchanged i.world_kept)
+    send_by (new.losses ≡ old.losses) (λ i. losses_same i.world_kept) (λ none i. losses_same i.world_kept)
     (λ works some y. sent_losses (packet_target pipe.target pipe.max) pipe.ep pipe.toggle bytes result old new y.settled y.went sound) x
 
 -- Bulk transfers to the host
@@ -53,22 +53,22 @@ send_losses bytes pipe result left old new x sound =
 came_losses : (t : Target) (ep : ℕ) (first : Toggle) {old : World} {n : ℕ} {got : List ℕ} {new : World} → ep ≢ 0 → IsSettled old.roots → Came t ep first old n got new → new.losses ≡ old.losses
 came_losses t ep first other settled moves.start = refl
 came_losses t ep first {new = new} other settled (moves.packet {n} {mid = mid} bytes c fetches full) =
-    other_losses t ep mid new other (came_settled c settled) fetches.trail ∙ came_losses t ep first other settled c
+    other_losses t ep mid new other (received_settled c settled) fetches.trail ∙ came_losses t ep first other settled c
 
 received_losses : (t : Target) (ep : ℕ) (first : Toggle) (wanted : ℕ) (result : Result (Vec ℕ) PipeFault) (old new : World) → ep ≢ 0 → IsSettled old.roots → ReceiveEnds t ep first wanted old result new → IsNoBusFault result
     → new.losses ≡ old.losses
 received_losses t ep first wanted (Ok bytes) old new other settled x sound =
-    other_losses t ep x.mid new other (came_settled x.before settled) x.came.trail ∙ came_losses t ep first other settled x.before
+    other_losses t ep x.mid new other (received_settled x.before settled) x.came.trail ∙ came_losses t ep first other settled x.before
 received_losses t ep first wanted (Err why) old new other settled (inl x) sound =
-    let over = ended (Vec ℕ) why x.fault x.told sound x.lost in
-    other_losses t ep x.mid new other (came_settled x.before settled) over.trail ∙ came_losses t ep first other settled x.before
+    let over = transacted_ended (Vec ℕ) why x.fault x.told sound x.lost in
+    other_losses t ep x.mid new other (received_settled x.before settled) over.trail ∙ came_losses t ep first other settled x.before
 received_losses t ep first wanted (Err why) old new other settled (inr x) sound =
-    other_losses t ep x.mid new other (came_settled x.before settled) x.came.trail ∙ came_losses t ep first other settled x.before
+    other_losses t ep x.mid new other (received_settled x.before settled) x.came.trail ∙ came_losses t ep first other settled x.before
 
 pub receive_losses : (wanted : ℕ) (pipe : Bulk) (result : Result (Vec ℕ) PipeFault) (left : Bulk) (old new : World) → pipe.ep ≢ 0
     → Receives wanted pipe old result left new → IsNoBusFault result → new.losses ≡ old.losses
 receive_losses wanted pipe result left old new other x sound =
-    receive_by (new.losses ≡ old.losses) (λ broken kept same. unchanged same) (λ bytes is none kept same. unchanged same)
+    receive_by (new.losses ≡ old.losses) (λ broken kept same. losses_same same) (λ bytes is none kept same. losses_same same)
     (λ works some y. received_losses (packet_target pipe.target pipe.max) pipe.ep pipe.toggle wanted result old new other y.settled y.came sound) x
 
 -- Polls

@@ -7,7 +7,7 @@ use Rattle.usb_packet.specs.declared.Toggle.TheVariants.{Zero}
 use Rattle.usb_world.specs.World.{World}
 use Rattle.usb_world.specs.AttemptPackets.{IsSettled}
 use Rattle.usb_transaction.specs.declared.target.Target.{Target}
-use Rattle.usb_transaction.specs.Transactions.{Worked}
+use Rattle.usb_transaction.specs.Transactions.{AttemptsMade}
 use Rattle.usb_pipe.specs.declared.condition.Condition.{Condition}
 use Rattle.usb_pipe.specs.declared.condition.Condition.TheVariants.{Ready, Halted, Broken}
 use Rattle.usb_pipe.specs.declared.fault.PipeFault.{PipeFault}
@@ -87,7 +87,7 @@ pub record Idle {A : Type 0} (given : Result A PipeFault) (pipe : Bulk) (old : W
 
 -- these bytes were sent, in n packets; the toggle is the one behind those that were acknowledged, however the transfer ended
 pub record MovedOut (n : ℕ) (bytes : List ℕ) (pipe : Bulk) (old : World) (result : Result (Unit {0}) PipeFault) (left : Bulk) (new : World) : Type 0 where
-  pub ends : MatchResult result (λ _. Worked n old new) (λ why. FaultAfter 0 old why new)
+  pub ends : MatchResult result (λ _. AttemptsMade n old new) (λ why. FaultAfter 0 old why new)
   pub went : SendEnds (packet_target pipe.target pipe.max) pipe.ep pipe.toggle bytes old result new
   pub behind : left.toggle ≡ flips (packets_gone (packet_target pipe.target pipe.max) pipe.ep pipe.toggle bytes old result new went) pipe.toggle
   pub settled : IsSettled old.roots
@@ -104,7 +104,7 @@ pub record Sends (bytes : List ℕ) (pipe : Bulk) (old : World) (result : Result
 
 -- at most `wanted` packets were received; the toggle is the one behind those that came, however the transfer ended
 pub record MovedIn (wanted : ℕ) (pipe : Bulk) (old : World) (result : Result (Vec ℕ) PipeFault) (left : Bulk) (new : World) : Type 0 where
-  pub ends : MatchResult result (λ bytes. Worked (packets_of (length bytes.items) pipe.max wanted) old new) (λ why. FaultAfter 0 old why new)
+  pub ends : MatchResult result (λ bytes. AttemptsMade (packets_of (length bytes.items) pipe.max wanted) old new) (λ why. FaultAfter 0 old why new)
   pub came : ReceiveEnds (packet_target pipe.target pipe.max) pipe.ep pipe.toggle wanted old result new
   pub behind : left.toggle ≡ flips (packets_came (packet_target pipe.target pipe.max) pipe.ep pipe.toggle wanted old result new came) pipe.toggle
   pub settled : IsSettled old.roots
@@ -126,7 +126,7 @@ cleared pipe (Err why) = record pipe { condition = after_failed_clear pipe.condi
 
 -- CLEAR_FEATURE(ENDPOINT_HALT) was sent
 pub record Cleared (pipe : Bulk) (old : World) (result : Result (Unit {0}) PipeFault) (left : Bulk) (new : World) : Type 0 where
-  pub ends : MatchResult result (λ _. Worked 2 old new) (λ why. FaultAfter 1 old why new)
+  pub ends : MatchResult result (λ _. AttemptsMade 2 old new) (λ why. FaultAfter 1 old why new)
   pub stages : Writes pipe.target (clear_endpoint_halt (halt_address pipe.ep pipe.is_in)) old result new
   pub settled : IsSettled old.roots
   pub room : result ≢ Err Memory

@@ -3,7 +3,7 @@ use Rattle.std.specs.Prelude.{ℕ, ◌+◌, ◌*◌, Bool, ◌||◌, nat_lt, nat
 use Rattle.usb_world.specs.World.{World, Failed}
 use Rattle.usb_transaction.specs.declared.fault.TransFault.{TransFault}
 use Rattle.usb_transaction.specs.declared.fault.TransFault.TheVariants.{Stalled as TransStalled, Busy as TransBusy, NoAnswer as TransNoAnswer, Bus as TransBus}
-use Rattle.usb_transaction.specs.Transactions.{Worked, error_limit, transaction_bound, wait_limit}
+use Rattle.usb_transaction.specs.Transactions.{AttemptsMade, error_limit, transaction_bound, wait_limit}
 use Rattle.usb_pipe.specs.declared.fault.PipeFault.{PipeFault}
 use Rattle.usb_pipe.specs.declared.fault.PipeFault.TheVariants.{Stalled, Busy, NoAnswer, Broken, Bus, Memory}
 
@@ -16,12 +16,12 @@ as_pipe_fault (TransBus fault) = Bus fault
 
 -- how few attempts can have come before each fault, where at least n were made before the last transaction
 abbrev pub FaultAfter : ℕ → World → PipeFault → World → Type 0
-FaultAfter n old Stalled new = Worked (n + 1) old new
-FaultAfter n old Busy new = Worked (n + wait_limit) old new
-FaultAfter n old NoAnswer new = Worked error_limit old new
+FaultAfter n old Stalled new = AttemptsMade (n + 1) old new
+FaultAfter n old Busy new = AttemptsMade (n + wait_limit) old new
+FaultAfter n old NoAnswer new = AttemptsMade error_limit old new
 FaultAfter n old Broken new = ⊥
 FaultAfter n old (Bus fault) new = Failed fault new
-FaultAfter n old Memory new = Worked (n + 1) old new
+FaultAfter n old Memory new = AttemptsMade (n + 1) old new
 
 -- a packet of this size ends a data stage, where with it `got` of the `wanted` bytes have come
 abbrev pub ends_stage : ℕ → ℕ → ℕ → ℕ → Bool

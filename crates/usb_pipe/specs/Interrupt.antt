@@ -6,8 +6,8 @@ use Rattle.usb_packet.specs.declared.Toggle.TheVariants.{Zero}
 use Rattle.usb_world.specs.World.{World}
 use Rattle.usb_transaction.specs.declared.target.Target.{Target}
 use Rattle.usb_transaction.specs.HeardOutcomes.{toggle_after}
-use Rattle.usb_transaction.specs.Transactions.{Worked, in_attempt}
-use Rattle.usb_transaction.specs.Trail.{Polled}
+use Rattle.usb_transaction.specs.Transactions.{AttemptsMade, in_attempt}
+use Rattle.usb_transaction.specs.AttemptLog.{Polled}
 use Rattle.usb_transaction.specs.declared.fault.TransFault.{TransFault}
 use Rattle.usb_pipe.specs.declared.fault.PipeFault.{PipeFault}
 use Rattle.usb_pipe.specs.declared.fault.PipeFault.TheVariants.{Memory}
@@ -36,7 +36,7 @@ PollAsked pipe old (Err why) new = NoPoll pipe old why new
 
 -- what a poll answers and leaves
 pub record Polls (pipe : Interrupt) (old : World) (result : Result (Option (ArrayVec ℕ)) PipeFault) (left : Interrupt) (new : World) : Type 0 where
-  pub ends : MatchResult result (λ _. Worked 1 old new) (λ fault. FaultAfter 0 old fault new)
+  pub ends : MatchResult result (λ _. AttemptsMade 1 old new) (λ fault. FaultAfter 0 old fault new)
   pub asked : PollAsked pipe old result new
   pub room : result ≢ Err Memory
   pub most : IfOk result (λ got. IfSome got (λ packet. length packet.items ≤ pipe.target.max))

@@ -15,7 +15,7 @@ use Rattle.usb_device.specs.Request.{outcome, takes_address}
 use Rattle.usb_device.specs.Transfer.{first_stage, reading, ending, refused as stage_refused, max_packet}
 use Rattle.usb_device.specs.Rows.{State, accepted, endpoint_state, with_endpoint_state}
 use Rattle.usb_device.specs.Bulk.{tells_changes, rested}
-use Rattle.usb_device.specs.Tree.{row_of, Spot}
+use Rattle.usb_device.specs.Tree.{row_of, Location}
 use Rattle.usb_device.specs.Progress.{IsRead, StatusGiven, IsSink, SinkAt, IsSource, SourceAt, PollAt, NeverTold, OnlyControl, OnlyStage, OnlySink, OnlySource, OnlyChanges}
 use Rattle.usb_world.specs.declared.types.BusFault.{BusFault}
 use Rattle.usb_world.specs.Losses.{one_more}
@@ -61,7 +61,7 @@ CanEnd spec (Err (Bus fault)) = ⊤
 CanEnd spec (Err Memory) = (spec.silent ≡ false) × (spec.busy ≡ false)
 
 -- the device at a place accepted the request in an attempt of the call that left this world; these were its ports then
-pub record AcceptedIn (t : Target) (request : Setup) (old now : World) (x : Spot) (row : List PortState) (s : State) : Type 0 where
+pub record AcceptedIn (t : Target) (request : Setup) (old now : World) (x : Location) (row : List PortState) (s : State) : Type 0 where
   pub state : State
   pub at : AcceptedAt t (bytes_of request) old now x s state
   pub had : row ≡ row_of at.holder.below
@@ -74,13 +74,13 @@ IsBehind t event w = ⊥
 IsBehind t (report line) w = ⊥
 
 -- it did so at a moment of the call: nothing but the stages behind SETUP was attempted since
-pub record Moment (t : Target) (request : Setup) (old new : World) (x : Spot) (row : List PortState) (s : State) : Type 0 where
+pub record Moment (t : Target) (request : Setup) (old new : World) (x : Location) (row : List PortState) (s : State) : Type 0 where
   pub now : World
   pub accepts : AcceptedIn t request old now x row s
   pub since : Course (IsBehind t) now new
 
 -- the device refused the request, with its ports as they were when it accepted it
-pub record WasRefused (t : Target) (request : Setup) (old new : World) (x : Spot) (s : State) : Type 0 where
+pub record WasRefused (t : Target) (request : Setup) (old new : World) (x : Location) (s : State) : Type 0 where
   pub row : List PortState
   pub moment : Moment t request old new x row s
   pub is : first_stage row request.length (outcome s.spec s.registers request) ≡ stage_refused
@@ -91,7 +91,7 @@ IsMaximum t wanted s = (max_packet s.spec ≡ t.max) ⊎ (wanted ≤ 8)
 
 -- the device answered a request for data, with its ports as they were when it accepted it; these bytes are of that answer, from its
 -- first on, and the transfer is over
-pub record AnswerRead (t : Target) (request : Setup) (bytes : List ℕ) (old new : World) (x : Spot) (s v : State) : Type 0 where
+pub record AnswerRead (t : Target) (request : Setup) (bytes : List ℕ) (old new : World) (x : Location) (s v : State) : Type 0 where
   pub row : List PortState
   pub moment : Moment t request old new x row s
   pub answer : List ℕ
@@ -100,7 +100,7 @@ pub record AnswerRead (t : Target) (request : Setup) (bytes : List ℕ) (old new
   pub over : IsRead v
 
 -- a control read
-pub record ReadLeaves (t : Target) (request : Setup) (result : Result (Vec ℕ) PipeFault) (old new : World) (x : Spot) (s v : State) : Type 0 where
+pub record ReadLeaves (t : Target) (request : Setup) (result : Result (Vec ℕ) PipeFault) (old new : World) (x : Location) (s v : State) : Type 0 where
   pub others : is_at s t ≡ false → v ≡ s
   pub frame : OnlyStage s v
   pub done : is_at s t ≡ true → (bytes : Vec ℕ) → result ≡ Ok bytes → AnswerRead t request bytes.items old new x s v
@@ -108,7 +108,7 @@ pub record ReadLeaves (t : Target) (request : Setup) (result : Result (Vec ℕ) 
   pub could : is_at s t ≡ true → CanEnd s.spec result
 
 -- the device did what was asked when it accepted it, the last time with these ports, and its status stage was given
-pub record EffectDone (t : Target) (request : Setup) (old new : World) (x : Spot) (s v : State) : Type 0 where
+pub record EffectDone (t : Target) (request : Setup) (old new : World) (x : Location) (s v : State) : Type 0 where
   pub row : List PortState
   pub moment : Moment t request old new x row s
   pub address : Option ℕ
@@ -117,7 +117,7 @@ pub record EffectDone (t : Target) (request : Setup) (old new : World) (x : Spot
   pub rest : OnlyControl (accepted s row request) v
 
 -- the device did what was asked, or did not hear of it; where the bus gave up, its status stage may have been given, too
-pub data EffectOrNone (t : Target) (request : Setup) (fault : PipeFault) (old : World) (x : Spot) (s v : State) : Type 0 where
+pub data EffectOrNone (t : Target) (request : Setup) (fault : PipeFault) (old : World) (x : Location) (s v : State) : Type 0 where
   none : OnlyControl s v → v.registers ≡ s.registers → EffectOrNone t request fault old x s v
   some : (row : List PortState) (now : World) → AcceptedIn t request old now x row s → OnlyControl (accepted s row request) v → v.registers ≡ (accepted s row request).registers
       → EffectOrNone t request fault old x s v
@@ -126,7 +126,7 @@ pub data EffectOrNone (t : Target) (request : Setup) (fault : PipeFault) (old : 
       → EffectOrNone t request fault old x s v
 
 -- a request without data
-pub record WriteLeaves (t : Target) (request : Setup) (result : Result (Unit {0}) PipeFault) (old new : World) (x : Spot) (s v : State) : Type 0 where
+pub record WriteLeaves (t : Target) (request : Setup) (result : Result (Unit {0}) PipeFault) (old new : World) (x : Location) (s v : State) : Type 0 where
   pub others : is_at s t ≡ false → v ≡ s
   pub failed : (fault : PipeFault) → result ≡ Err fault → EffectOrNone t request fault old x s v
   pub done : is_at s t ≡ true → (u : Unit {0}) → result ≡ Ok u → EffectDone t request old new x s v
@@ -141,20 +141,20 @@ pub data TookItOrLost (a : ℕ) (old new : World) (s v : State) : Type 0 where
   lost : v.registers ≡ s.registers → new.losses ≡ one_more old.losses → TookItOrLost a old new s v
 
 -- a request without data counts a loss exactly where it is done, asks for an address, and the device has not taken that
-pub record LossesOf (t : Target) (request : Setup) (result : Result (Unit {0}) PipeFault) (old new : World) (x : Spot) (s v : State) : Type 0 where
+pub record LossesOf (t : Target) (request : Setup) (result : Result (Unit {0}) PipeFault) (old new : World) (x : Location) (s v : State) : Type 0 where
   pub done : is_at s t ≡ true → (u : Unit {0}) → result ≡ Ok u → (a : ℕ) → outcome s.spec s.registers request ≡ takes_address a → TookItOrLost a old new s v
   pub failed : is_at s t ≡ true → (why : PipeFault) → result ≡ Err why → new.losses ≡ old.losses
   pub none : is_at s t ≡ true → ((a : ℕ) → outcome s.spec s.registers request ≢ takes_address a) → new.losses ≡ old.losses
 
 -- a control read counts none of a device that it asked
-abbrev pub LossesKept : Target → World → World → Spot → State → State → Type 0
+abbrev pub LossesKept : Target → World → World → Location → State → State → Type 0
 LossesKept t old new x s v = is_at s t ≡ true → new.losses ≡ old.losses
 
 -- Bulk pipes (5.8)
 
 -- a bulk OUT pipe and the endpoint at its other end: a pipe that works awaits the same toggle as the endpoint, and one that was stalled
 -- has an endpoint that is halted
-pub record FitsSink (pipe : Bulk) (s : State) : Type 0 where
+pub record OutPipeInSync (pipe : Bulk) (s : State) : Type 0 where
   pub endpoint : IsSink pipe.ep pipe.max s
   pub level : pipe.condition ≡ Ready → s.bulk_out.toggle ≡ pipe.toggle
   pub halted : pipe.condition ≡ Halted → s.bulk_out.halted ≡ true
@@ -177,20 +177,20 @@ pub record FrontTaken (bytes : List ℕ) (s v : State) : Type 0 where
   pub sink : v.sink ≡ s.sink ++ front
 
 -- at a moment of a send: the bytes before the packet that is on its way joined what the device took, and the packet joined them or did not yet
-pub record SendingLeaves (sent packet : List ℕ) (toggle : Toggle) (pipe : Bulk) (x : Spot) (s v : State) : Type 0 where
+pub record SendingLeaves (sent packet : List ℕ) (toggle : Toggle) (pipe : Bulk) (x : Location) (s v : State) : Type 0 where
   pub others : is_at s pipe.target ≡ false → v ≡ s
   pub frame : IsSink pipe.ep pipe.max s → OnlySink s v
-  pub way : is_at s pipe.target ≡ true → pipe.condition ≡ Ready → FitsSink pipe s → SinkAt (s.sink ++ sent) packet toggle v
+  pub way : is_at s pipe.target ≡ true → pipe.condition ≡ Ready → OutPipeInSync pipe s → SinkAt (s.sink ++ sent) packet toggle v
 
-pub record SendLeaves (bytes : List ℕ) (pipe : Bulk) (result : Result (Unit {0}) PipeFault) (left : Bulk) (x : Spot) (s v : State) : Type 0 where
+pub record SendLeaves (bytes : List ℕ) (pipe : Bulk) (result : Result (Unit {0}) PipeFault) (left : Bulk) (x : Location) (s v : State) : Type 0 where
   pub others : is_at s pipe.target ≡ false → v ≡ s
   pub frame : IsSink pipe.ep pipe.max s → OnlySink s v
-  pub fits : is_at s pipe.target ≡ true → FitsSink pipe s → FitsSink (pipe_known result left) v
-  pub done : is_at s pipe.target ≡ true → FitsSink pipe s → (u : Unit {0}) → result ≡ Ok u → v.sink ≡ s.sink ++ bytes
-  pub failed : is_at s pipe.target ≡ true → FitsSink pipe s → (fault : PipeFault) → result ≡ Err fault → FrontTaken bytes s v
+  pub fits : is_at s pipe.target ≡ true → OutPipeInSync pipe s → OutPipeInSync (pipe_known result left) v
+  pub done : is_at s pipe.target ≡ true → OutPipeInSync pipe s → (u : Unit {0}) → result ≡ Ok u → v.sink ≡ s.sink ++ bytes
+  pub failed : is_at s pipe.target ≡ true → OutPipeInSync pipe s → (fault : PipeFault) → result ≡ Err fault → FrontTaken bytes s v
 
 -- a bulk IN pipe that has got so many bytes of the source, and the endpoint at its other end
-pub record FitsSource (pipe : Bulk) (got : ℕ) (s : State) : Type 0 where
+pub record InPipeInSync (pipe : Bulk) (got : ℕ) (s : State) : Type 0 where
   pub endpoint : IsSource pipe.ep pipe.max s
   pub level : pipe.condition ≡ Ready → SourceAt pipe.max got pipe.toggle s
   pub halted : pipe.condition ≡ Halted → s.bulk_in.halted ≡ true
@@ -200,12 +200,12 @@ abbrev pub came_with : Result (Vec ℕ) PipeFault → ℕ
 came_with (Ok bytes) = length bytes.items
 came_with (Err fault) = 0
 
-pub record ReceiveLeaves (pipe : Bulk) (result : Result (Vec ℕ) PipeFault) (left : Bulk) (x : Spot) (s v : State) : Type 0 where
+pub record ReceiveLeaves (pipe : Bulk) (result : Result (Vec ℕ) PipeFault) (left : Bulk) (x : Location) (s v : State) : Type 0 where
   pub others : is_at s pipe.target ≡ false → v ≡ s
   pub frame : IsSource pipe.ep pipe.max s → OnlySource s v
-  pub fits : is_at s pipe.target ≡ true → (got : ℕ) → FitsSource pipe got s → FitsSource (pipe_known result left) (got + came_with result) v
+  pub fits : is_at s pipe.target ≡ true → (got : ℕ) → InPipeInSync pipe got s → InPipeInSync (pipe_known result left) (got + came_with result) v
   -- the bytes are the next ones of the source
-  pub done : is_at s pipe.target ≡ true → (got : ℕ) → FitsSource pipe got s → (bytes : Vec ℕ) → result ≡ Ok bytes → bytes.items ≡ take (length bytes.items) (drop got s.spec.source)
+  pub done : is_at s pipe.target ≡ true → (got : ℕ) → InPipeInSync pipe got s → (bytes : Vec ℕ) → result ≡ Ok bytes → bytes.items ≡ take (length bytes.items) (drop got s.spec.source)
 
 -- how many bytes of the source a pipe has got after a clear: where one was sent and is done, those that the device counts
 abbrev pub got_after : Bulk → ℕ → Result (Unit {0}) PipeFault → State → ℕ
@@ -222,18 +222,18 @@ abbrev pub OnlyEndpoint : ServedEndpoint → State → State → Type 0
 OnlyEndpoint which s v = OnlyStage (with_endpoint_state s which (endpoint_state v which)) v
 
 -- a clear of a halt (9.4.5) moves no bytes, and both ends begin again together; the other endpoint stays as it was
-pub record ClearLeaves (pipe : Bulk) (result : Result (Unit {0}) PipeFault) (left : Bulk) (x : Spot) (s v : State) : Type 0 where
+pub record ClearLeaves (pipe : Bulk) (result : Result (Unit {0}) PipeFault) (left : Bulk) (x : Location) (s v : State) : Type 0 where
   pub others : is_at s pipe.target ≡ false → v ≡ s
-  pub sink : is_at s pipe.target ≡ true → pipe.is_in ≡ false → FitsSink pipe s → FitsSink (pipe_known result left) v × (v.sink ≡ s.sink) × BegunAgain pipe result s.bulk_out v.bulk_out
-  pub source : is_at s pipe.target ≡ true → pipe.is_in ≡ true → (got : ℕ) → FitsSource pipe got s
-      → FitsSource (pipe_known result left) (got_after pipe got result s) v × (v.place ≡ s.place) × BegunAgain pipe result s.bulk_in v.bulk_in
+  pub sink : is_at s pipe.target ≡ true → pipe.is_in ≡ false → OutPipeInSync pipe s → OutPipeInSync (pipe_known result left) v × (v.sink ≡ s.sink) × BegunAgain pipe result s.bulk_out v.bulk_out
+  pub source : is_at s pipe.target ≡ true → pipe.is_in ≡ true → (got : ℕ) → InPipeInSync pipe got s
+      → InPipeInSync (pipe_known result left) (got_after pipe got result s) v × (v.place ≡ s.place) × BegunAgain pipe result s.bulk_in v.bulk_in
   pub only_sink : pipe.is_in ≡ false → IsSink pipe.ep pipe.max s → OnlyEndpoint BulkOut s v
   pub only_source : pipe.is_in ≡ true → IsSource pipe.ep pipe.max s → OnlyEndpoint BulkIn s v
 
 -- A hub's status pipe (11.12.3)
 
 -- a hub's ports told these bits at a moment of a poll
-abbrev pub ToldOf : Interrupt → World → World → Spot → ℕ → Type 0
+abbrev pub ToldOf : Interrupt → World → World → Location → ℕ → Type 0
 ToldOf pipe old new x bits = ToldSince (in_attempt pipe.target 1) old new x bits
 
 -- the byte of bits that were told, of which one at least is set
@@ -248,7 +248,7 @@ PollTells Told (Ok None) = Told 0
 PollTells Told (Ok (Some packet)) = ByteTold Told packet.items
 PollTells Told (Err fault) = ⊤
 
-pub record PollLeaves (pipe : Interrupt) (old : World) (result : Result (Option (ArrayVec ℕ)) PipeFault) (left : Interrupt) (new : World) (x : Spot) (s v : State) : Type 0 where
+pub record PollLeaves (pipe : Interrupt) (old : World) (result : Result (Option (ArrayVec ℕ)) PipeFault) (left : Interrupt) (new : World) (x : Location) (s v : State) : Type 0 where
   pub others : is_at s pipe.target ≡ false → v ≡ s
   pub frame : tells_changes s.spec s.registers ≡ true → OnlyChanges s v
   -- the bits are the ports' own at a moment of the poll

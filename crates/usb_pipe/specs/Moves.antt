@@ -10,7 +10,7 @@ use Rattle.usb_transaction.specs.declared.target.Target.{Target}
 use Rattle.usb_transaction.specs.declared.fault.TransFault.{TransFault}
 use Rattle.usb_transaction.specs.HeardOutcomes.{heard_as, heard_when_sent}
 use Rattle.usb_transaction.specs.Transactions.{in_attempt, out_attempt}
-use Rattle.usb_transaction.specs.Trail.{Trail, GoesOn, Transacted}
+use Rattle.usb_transaction.specs.AttemptLog.{AttemptLog, KeepsTrying, Transacted}
 use Rattle.usb_pipe.specs.declared.fault.PipeFault.{PipeFault}
 use Rattle.usb_pipe.specs.declared.fault.PipeFault.TheVariants.{Memory}
 use Rattle.usb_pipe.specs.Control.{as_pipe_fault}
@@ -63,8 +63,8 @@ pub record WhileSending (t : Target) (ep : ℕ) (first : Toggle) (total : List �
   pub full : length sent ≡ packets * t.max
   pub split : total ≡ sent ++ rest
   pub outcomes : List Outcome
-  pub trail : Trail (out_attempt t ep (flips packets first) (take t.max rest)) mid outcomes now
-  pub onward : GoesOn heard_when_sent outcomes
+  pub trail : AttemptLog (out_attempt t ep (flips packets first) (take t.max rest)) mid outcomes now
+  pub onward : KeepsTrying heard_when_sent outcomes
 
 -- the attempt that is made at such a moment
 pub record SendsAt (t : Target) (ep : ℕ) (first : Toggle) (total : List ℕ) (old : World) (s : Step) (now : World) : Type 0 where

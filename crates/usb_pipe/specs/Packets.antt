@@ -5,7 +5,7 @@ use Rattle.std.specs.Int.{div_ceil}
 use Rattle.usb_packet.specs.declared.Toggle.{Toggle}
 use Rattle.usb_world.specs.World.{World}
 use Rattle.usb_transaction.specs.declared.target.Target.{Target}
-use Rattle.usb_transaction.specs.Transactions.{Worked}
+use Rattle.usb_transaction.specs.Transactions.{AttemptsMade}
 use Rattle.usb_pipe.specs.declared.fault.PipeFault.{PipeFault}
 use Rattle.usb_pipe.specs.declared.fault.PipeFault.TheVariants.{Stalled, Memory}
 use Rattle.usb_pipe.specs.Bulk.{packets_of, Turned}
@@ -15,7 +15,7 @@ use Rattle.usb_packet.specs.Toggles.{flips}
 
 -- some bytes were sent, each packet but the last of the maximum
 pub record PacketsSent (t : Target) (ep : ℕ) (first : Toggle) (bytes : List ℕ) (old : World) (result : Result (Unit {0}) PipeFault) (toggle : Toggle) (new : World) : Type 0 where
-  pub ends : MatchResult result (λ _. Worked (div_ceil (length bytes) t.max) old new) (λ fault. FaultAfter 0 old fault new)
+  pub ends : MatchResult result (λ _. AttemptsMade (div_ceil (length bytes) t.max) old new) (λ fault. FaultAfter 0 old fault new)
   pub moves : SendEnds t ep first bytes old result new
   pub behind : toggle ≡ flips (packets_gone t ep first bytes old result new moves) first
   pub room : result ≢ Err Memory
@@ -24,7 +24,7 @@ pub record PacketsSent (t : Target) (ep : ℕ) (first : Toggle) (bytes : List �
 
 -- so many packets were received, or fewer up to a short one
 pub record PacketsReceived (t : Target) (ep : ℕ) (first : Toggle) (wanted : ℕ) (old : World) (result : Result (Vec ℕ) PipeFault) (toggle : Toggle) (new : World) : Type 0 where
-  pub ends : MatchResult result (λ bytes. Worked (packets_of (length bytes.items) t.max wanted) old new) (λ fault. FaultAfter 0 old fault new)
+  pub ends : MatchResult result (λ bytes. AttemptsMade (packets_of (length bytes.items) t.max wanted) old new) (λ fault. FaultAfter 0 old fault new)
   pub moves : ReceiveEnds t ep first wanted old result new
   pub behind : toggle ≡ flips (packets_came t ep first wanted old result new moves) first
   pub most : IfOk result (λ bytes. length bytes.items ≤ wanted * t.max)

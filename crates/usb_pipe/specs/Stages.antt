@@ -10,7 +10,7 @@ use Rattle.usb_transaction.specs.declared.target.Target.{Target}
 use Rattle.usb_transaction.specs.declared.fault.TransFault.{TransFault}
 use Rattle.usb_transaction.specs.HeardOutcomes.{heard_as, heard_when_sent, set_up_as}
 use Rattle.usb_transaction.specs.Transactions.{setup_attempt, in_attempt, out_attempt}
-use Rattle.usb_transaction.specs.Trail.{Transacted}
+use Rattle.usb_transaction.specs.AttemptLog.{Transacted}
 use Rattle.usb_pipe.specs.declared.fault.PipeFault.{PipeFault}
 use Rattle.usb_pipe.specs.declared.fault.PipeFault.TheVariants.{Memory}
 use Rattle.usb_pipe.specs.Control.{as_pipe_fault, ends_stage}

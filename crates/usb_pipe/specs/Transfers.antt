@@ -11,7 +11,7 @@ use Rattle.usb_transaction.specs.declared.target.Target.{Target}
 use Rattle.usb_transaction.specs.Answerer.{Answerer}
 use Rattle.usb_transaction.specs.Losses.{begins_no_stretch}
 use Rattle.usb_transaction.specs.SparedDevices.{EachSpared}
-use Rattle.usb_transaction.specs.Transactions.{Worked}
+use Rattle.usb_transaction.specs.Transactions.{AttemptsMade}
 use Rattle.usb_transaction.specs.Failures.{NoThreeDamaged}
 use Rattle.usb_pipe.specs.declared.condition.Condition.TheVariants.{Ready}
 use Rattle.usb_pipe.specs.declared.fault.PipeFault.{PipeFault}
@@ -21,7 +21,7 @@ use Rattle.usb_pipe.specs.Control.{FaultAfter}
 use Rattle.usb_pipe.specs.Interrupt.{Interrupt, Polls}
 use Rattle.usb_pipe.specs.Stages.{Reads, Writes}
 use Rattle.usb_pipe.specs.Leaves.{IsNoBusFault, ReadLeaves, WriteLeaves, LossesOf, LossesKept, SendLeaves, ReceiveLeaves, ClearLeaves, PollLeaves}
-use Rattle.usb_pipe.specs.Failures.{WhyRead, WhyWrite, WhySend, WhyReceive, WhyPolling}
+use Rattle.usb_pipe.specs.Failures.{ControlReadFailure, WriteFailure, SendFailure, ReceiveFailure, PollingFailure}
 
 -- When it is so
 
@@ -42,12 +42,12 @@ Undamaged old result new F = NoThreeDamaged old → IsNoBusFault result → new.
 -- a control read: if it is done, it gave the bytes that the device answers the request with, as many as were wanted; whatever its
 -- answer is, nothing of any device changed but where its own transfer stands
 pub record ControlRead (t : Target) (request : Setup) (old : World) (result : Result (Vec ℕ) PipeFault) (new : World) : Type 0 where
-  pub ends : MatchResult result (λ _. Worked 3 old new) (λ fault. FaultAfter 1 old fault new)
+  pub ends : MatchResult result (λ _. AttemptsMade 3 old new) (λ fault. FaultAfter 1 old fault new)
   pub stages : Reads t request old result new
   pub settled : IsSettled old.roots
   pub most : IfOk result (λ bytes. length bytes.items ≤ request.length)
   pub what : Unshared new (EachWas (ReadLeaves t request result old new) old new)
-  pub why : 8 ≤ t.max → Undamaged old result new (EachWas (WhyRead t request result) old new)
+  pub why : 8 ≤ t.max → Undamaged old result new (EachWas (ControlReadFailure t request result) old new)
   pub who : OnOk result (Unshared new (Answerer t old new))
   pub losses : Completed result new (EachWas (LossesKept t old new) old new)
 
@@ -55,12 +55,12 @@ pub record ControlRead (t : Target) (request : Setup) (old : World) (result : Re
 -- saw the last ACK (9.4.6). One that failed had it or not, and nothing else changed. Of a device that the reset of a port may have
 -- reached nothing is said; a request that clears a change of connection begins another stretch of losses
 pub record ControlWrite (t : Target) (request : Setup) (old : World) (result : Result (Unit {0}) PipeFault) (new : World) : Type 0 where
-  pub ends : MatchResult result (λ _. Worked 2 old new) (λ fault. FaultAfter 1 old fault new)
+  pub ends : MatchResult result (λ _. AttemptsMade 2 old new) (λ fault. FaultAfter 1 old fault new)
   pub stages : Writes t request old result new
   pub settled : IsSettled old.roots
   pub room : result ≢ Err Memory
   pub what : Unshared new (EachSpared t request (WriteLeaves t request result old new) old new)
-  pub why : Undamaged old result new (EachSpared t request (WhyWrite t result) old new)
+  pub why : Undamaged old result new (EachSpared t request (WriteFailure t result) old new)
   pub who : OnOk result ((is_harmless request ≡ false → t.addr ≢ 0) → Unshared new (Answerer t old new))
   pub losses : begins_no_stretch request ≡ true
       → Completed result new (EachSpared t request (LossesOf t request result old new) old new)
@@ -71,7 +71,7 @@ pub record ControlWrite (t : Target) (request : Setup) (old : World) (result : R
 pub record BulkSend (bytes : List ℕ) (pipe : Bulk) (old : World) (result : Result (Unit {0}) PipeFault) (left : Bulk) (new : World) : Type 0 where
   pub sends : Sends bytes pipe old result left new
   pub what : Unshared new (EachWas (SendLeaves bytes pipe result left) old new)
-  pub why : Undamaged old result new (EachWas (WhySend pipe result) old new)
+  pub why : Undamaged old result new (EachWas (SendFailure pipe result) old new)
   pub who : OnOk result (bytes ≢ [] → Unshared new (Answerer pipe.target old new))
   pub losses : IsNoBusFault result → new.losses ≡ old.losses
 
@@ -79,7 +79,7 @@ pub record BulkSend (bytes : List ℕ) (pipe : Bulk) (old : World) (result : Res
 pub record BulkReceive (wanted : ℕ) (pipe : Bulk) (old : World) (result : Result (Vec ℕ) PipeFault) (left : Bulk) (new : World) : Type 0 where
   pub receives : Receives wanted pipe old result left new
   pub what : Unshared new (EachWas (ReceiveLeaves pipe result left) old new)
-  pub why : Undamaged old result new (EachWas (WhyReceive wanted pipe result) old new)
+  pub why : Undamaged old result new (EachWas (ReceiveFailure wanted pipe result) old new)
   pub who : OnOk result (wanted ≢ 0 → Unshared new (Answerer pipe.target old new))
   pub losses : pipe.ep ≢ 0 → IsNoBusFault result → new.losses ≡ old.losses
 
@@ -88,7 +88,7 @@ pub record BulkReceive (wanted : ℕ) (pipe : Bulk) (old : World) (result : Resu
 pub record BulkClear (pipe : Bulk) (old : World) (result : Result (Unit {0}) PipeFault) (left : Bulk) (new : World) : Type 0 where
   pub clears : Clears pipe old result left new
   pub what : Unshared new (EachWas (ClearLeaves pipe result left) old new)
-  pub why : Undamaged old result new (EachWas (WhyWrite pipe.target result) old new)
+  pub why : Undamaged old result new (EachWas (WriteFailure pipe.target result) old new)
   pub who : OnOk result (pipe.condition ≢ Ready → Unshared new (Answerer pipe.target old new))
 
 -- Interrupt pipes (5.7)
@@ -99,6 +99,6 @@ pub record InterruptPoll (pipe : Interrupt) (old : World) (result : Result (Opti
   pub polls : Polls pipe old result left new
   pub settled : IsSettled old.roots
   pub what : pipe.ep ≡ 1 → Unshared new (EachWas (PollLeaves pipe old result left new) old new)
-  pub why : pipe.ep ≡ 1 → Undamaged old result new (EachWas (WhyPolling pipe result) old new)
+  pub why : pipe.ep ≡ 1 → Undamaged old result new (EachWas (PollingFailure pipe result) old new)
   pub who : OnOk result (Unshared new (Answerer pipe.target old new))
   pub losses : pipe.ep ≢ 0 → IsNoBusFault result → new.losses ≡ old.losses

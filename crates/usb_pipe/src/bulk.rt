@@ -43,7 +43,7 @@ impl BulkPipe {
     ghost use Rattle.std.specs.Prelude.{◌≡◌, ◌*◌, ◌<◌, ◌≤◌, true, false, length};
     ghost use Rattle.std.specs.Int.{div_ceil};
     ghost use Rattle.usb_packet.specs.declared.Toggle.TheVariants.{Zero};
-    ghost use Rattle.usb_bus.specs.Traces.{Went};
+    ghost use Rattle.usb_bus.specs.Traces.{Steps};
     ghost use Rattle.usb_transaction.specs.Transactions.{IsTarget, transaction_bound};
     ghost use Rattle.usb_pipe.specs.declared.condition.Condition.TheVariants.{Ready};
     ghost use Rattle.usb_pipe.specs.Bulk.{Bulk, Cleared, bulk_made};
@@ -91,7 +91,7 @@ impl BulkPipe {
     pub fn send<B: Bus>(&mut self, bus: &mut B, bytes: &[u8]) -> Result<(), PipeFault>
         requires writes { self.old.is_in ≡ false }
         ensures same { bulk_made self.new ≡ bulk_made self.old }
-        ensures went { B.modelled ≡ true → Went B.world B.trace
+        ensures steps { B.modelled ≡ true → Steps B.world B.trace
             (transaction_bound * div_ceil (length bytes.now) self.old.max) bus.old bus.new }
         ensures transfer { B.modelled ≡ true → BulkSend bytes.now self.old
             (B.world bus.old) result self.new (B.world bus.new) }
@@ -125,8 +125,8 @@ impl BulkPipe {
     ) -> Result<Vec<u8>, PipeFault>
         requires reads { self.old.is_in ≡ true }
         ensures same { bulk_made self.new ≡ bulk_made self.old }
-        ensures went { B.modelled ≡ true
-            → Went B.world B.trace (transaction_bound * packets) bus.old bus.new }
+        ensures steps { B.modelled ≡ true
+            → Steps B.world B.trace (transaction_bound * packets) bus.old bus.new }
         ensures transfer { B.modelled ≡ true → BulkReceive packets self.old
             (B.world bus.old) result self.new (B.world bus.new) }
     {
@@ -161,7 +161,7 @@ impl BulkPipe {
     /// answers `Broken` or `Memory`.
     pub fn clear_halt<B: Bus>(&mut self, bus: &mut B) -> Result<(), PipeFault>
         ensures same { bulk_made self.new ≡ bulk_made self.old }
-        ensures went { B.modelled ≡ true → Went B.world B.trace write_bound bus.old bus.new }
+        ensures steps { B.modelled ≡ true → Steps B.world B.trace write_bound bus.old bus.new }
         ensures transfer { B.modelled ≡ true → BulkClear self.old
             (B.world bus.old) result self.new (B.world bus.new) }
     {
@@ -173,7 +173,7 @@ impl BulkPipe {
 
     fn request_clear<B: Bus>(&mut self, bus: &mut B) -> Result<(), PipeFault>
         ensures same { bulk_made self.new ≡ bulk_made self.old }
-        ensures went { B.modelled ≡ true → Went B.world B.trace write_bound bus.old bus.new }
+        ensures steps { B.modelled ≡ true → Steps B.world B.trace write_bound bus.old bus.new }
         ensures clears { B.modelled ≡ true
             → Cleared self.old (B.world bus.old) result self.new (B.world bus.new) }
     {

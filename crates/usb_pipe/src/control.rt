@@ -1,6 +1,6 @@
 //! Control transfers (8.5.3).
 ghost use Rattle.std.specs.Prelude.{◌≡◌, ◌≤◌, true};
-ghost use Rattle.usb_bus.specs.Traces.{Went};
+ghost use Rattle.usb_bus.specs.Traces.{Steps};
 ghost use Rattle.usb_request.specs.Layout.{IsToHost, IsToDevice};
 ghost use Rattle.usb_transaction.specs.Transactions.{IsTarget};
 ghost use Rattle.usb_pipe.specs.Control.{control_bound, write_bound};
@@ -35,8 +35,8 @@ pub fn control_in<B: Bus>(
     requires target { IsTarget target }
     requires reads { IsToHost setup }
     requires some { 1 ≤ setup.length }
-    ensures went { B.modelled ≡ true
-        → Went B.world B.trace (control_bound target.max setup.length) bus.old bus.new }
+    ensures steps { B.modelled ≡ true
+        → Steps B.world B.trace (control_bound target.max setup.length) bus.old bus.new }
     ensures transfer { B.modelled ≡ true → ControlRead target setup
         (B.world bus.old) result (B.world bus.new) }
 {
@@ -63,7 +63,7 @@ pub fn control_none<B: Bus>(bus: &mut B, target: Target, setup: Setup) -> Result
     requires target { IsTarget target }
     requires writes { IsToDevice setup }
     requires none { setup.length ≡ 0 }
-    ensures went { B.modelled ≡ true → Went B.world B.trace write_bound bus.old bus.new }
+    ensures steps { B.modelled ≡ true → Steps B.world B.trace write_bound bus.old bus.new }
     ensures transfer { B.modelled ≡ true → ControlWrite target setup
         (B.world bus.old) result (B.world bus.new) }
 {

@@ -31,7 +31,7 @@ impl Model for InterruptPipe {
 impl InterruptPipe {
     ghost use Rattle.std.specs.Prelude.{◌≡◌, ◌<◌, ◌≤◌, true};
     ghost use Rattle.usb_packet.specs.declared.Toggle.TheVariants.{Zero};
-    ghost use Rattle.usb_bus.specs.Traces.{Went};
+    ghost use Rattle.usb_bus.specs.Traces.{Steps};
     ghost use Rattle.usb_transaction.specs.Transactions.{IsTarget, transaction_bound};
     ghost use Rattle.usb_pipe.specs.End.{packet_target};
     ghost use Rattle.usb_pipe.specs.Interrupt.{Interrupt, interrupt_made};
@@ -62,7 +62,8 @@ impl InterruptPipe {
     /// where the bus makes no more steps. It never answers `Broken` or `Memory`.
     pub fn poll<B: Bus>(&mut self, bus: &mut B) -> Result<Option<ArrayVec<u8, 64>>, PipeFault>
         ensures same { interrupt_made self.new ≡ interrupt_made self.old }
-        ensures went { B.modelled ≡ true → Went B.world B.trace transaction_bound bus.old bus.new }
+        ensures steps { B.modelled ≡ true
+            → Steps B.world B.trace transaction_bound bus.old bus.new }
         ensures transfer { B.modelled ≡ true → InterruptPoll self.old
             (B.world bus.old) result self.new (B.world bus.new) }
     {

@@ -1,7 +1,7 @@
 //! The packets of a bulk transfer (5.8.3).
 ghost use Rattle.std.specs.Prelude.{◌*◌, ◌<◌, length, ◌≡◌, true};
 ghost use Rattle.std.specs.Int.{div_ceil};
-ghost use Rattle.usb_bus.specs.Traces.{Went};
+ghost use Rattle.usb_bus.specs.Traces.{Steps};
 ghost use Rattle.usb_transaction.specs.Transactions.{IsTarget, transaction_bound};
 ghost use Rattle.usb_pipe.specs.Packets.{PacketsSent, PacketsReceived};
 
@@ -21,7 +21,7 @@ pub(crate) fn send_packets<B: Bus>(
     requires target { IsTarget target }
     requires endpoint { ep < 16 }
     requires some { 0 < length bytes.now }
-    ensures went { B.modelled ≡ true → Went B.world B.trace
+    ensures steps { B.modelled ≡ true → Steps B.world B.trace
         (transaction_bound * div_ceil (length bytes.now) target.max) bus.old bus.new }
     ensures sent { B.modelled ≡ true → PacketsSent target ep toggle.old bytes.now
         (B.world bus.old) result toggle.new (B.world bus.new) }
@@ -47,8 +47,8 @@ pub(crate) fn receive_packets<B: Bus>(
     requires target { IsTarget target }
     requires endpoint { ep < 16 }
     requires some { 0 < wanted }
-    ensures went { B.modelled ≡ true
-        → Went B.world B.trace (transaction_bound * wanted) bus.old bus.new }
+    ensures steps { B.modelled ≡ true
+        → Steps B.world B.trace (transaction_bound * wanted) bus.old bus.new }
     ensures received { B.modelled ≡ true → PacketsReceived target ep toggle.old wanted
         (B.world bus.old) result toggle.new (B.world bus.new) }
 {

@@ -1,7 +1,7 @@
 //! The data stage of a control transfer that reads.
 ghost use Rattle.std.specs.Prelude.{◌≡◌, ◌-◌, ◌+◌, ◌*◌, ◌<◌, ◌≤◌, ◌++◌, take, length, OnOk, IfOk, MatchResult, true};
-ghost use Rattle.usb_bus.specs.Traces.{Went};
-ghost use Rattle.usb_transaction.specs.Transactions.{IsTarget, Worked, transaction_bound};
+ghost use Rattle.usb_bus.specs.Traces.{Steps};
+ghost use Rattle.usb_transaction.specs.Transactions.{IsTarget, AttemptsMade, transaction_bound};
 ghost use Rattle.usb_pipe.specs.Control.{FaultAfter, byte_bound, ends_stage};
 ghost use Rattle.usb_pipe.specs.Stages.{DataEnds};
 
@@ -20,10 +20,10 @@ pub(crate) fn data_stage<B: Bus>(
 ) -> Result<Vec<u8>, PipeFault>
     requires target { IsTarget target }
     requires some { 0 < wanted }
-    ensures went { B.modelled ≡ true → Went B.world B.trace
+    ensures steps { B.modelled ≡ true → Steps B.world B.trace
         (transaction_bound + byte_bound target.max * wanted) bus.old bus.new }
     ensures ends { B.modelled ≡ true
-        → MatchResult result (λ _. Worked 1 (B.world bus.old) (B.world bus.new))
+        → MatchResult result (λ _. AttemptsMade 1 (B.world bus.old) (B.world bus.new))
         (λ fault. FaultAfter 0 (B.world bus.old) fault (B.world bus.new)) }
     ensures packets { B.modelled ≡ true
         → DataEnds target wanted (B.world bus.old) result (B.world bus.new) }

@@ -16,26 +16,26 @@ digits_from : ℕ → ℕ → List (Option ℕ)
 digits_from zero n = []
 digits_from (suc count) n = hex_digit_value n ∷ digits_from count (suc n)
 
-table_is : map digit_of DIGITS ≡ digits_from 256 0
+digits_is_table : map digit_of DIGITS ≡ digits_from 256 0
 unfolding digit_of digits_from
-table_is = refl
+digits_is_table = refl
 
-entry_at : (values : List ℕ) (count n i : ℕ) → map digit_of values ≡ digits_from count n → i < count
+digit_of-entry : (values : List ℕ) (count n i : ℕ) → map digit_of values ≡ digits_from count n → i < count
     → digit_of (get_or values i 0) ≡ hex_digit_value (n + i)
 unfolding digits_from
-entry_at values zero n i e h = absurd (omega (arith, h))
-entry_at [] (suc count) n i e h = cc
-entry_at (v ∷ values) (suc count) n zero e h =
+digit_of-entry values zero n i e h = absurd (omega (arith, h))
+digit_of-entry [] (suc count) n i e h = cc
+digit_of-entry (v ∷ values) (suc count) n zero e h =
     let head : digit_of v ≡ hex_digit_value n = cc in
     head ∙ ap hex_digit_value (let s : n ≡ n + 0 = omega arith in s)
-entry_at (v ∷ values) (suc count) n (suc i) e h =
+digit_of-entry (v ∷ values) (suc count) n (suc i) e h =
     let tail : map digit_of values ≡ digits_from count (suc n) = cc in
-    entry_at values count (suc n) i tail (omega (arith, h))
+    digit_of-entry values count (suc n) i tail (omega (arith, h))
     ∙ ap hex_digit_value (let s : suc n + i ≡ n + suc i = omega arith in s)
 
 value_of : (c : ℕ) → c < 256 → digit_of (get_or DIGITS c 0) ≡ hex_digit_value c
 value_of c h =
-    entry_at DIGITS 256 0 c table_is h ∙ ap hex_digit_value (let s : 0 + c ≡ c = omega arith in s)
+    digit_of-entry DIGITS 256 0 c digits_is_table h ∙ ap hex_digit_value (let s : 0 + c ≡ c = omega arith in s)
 
 digit_read : (c i : ℕ) → c < 256 → get_or DIGITS c 0 ≤ 15 → value_at c i ≡ Ok (get_or DIGITS c 0)
 unfolding digit_of
@@ -78,11 +78,11 @@ pub record IsPair (digits bytes : List ℕ) (i high low : ℕ) : Type 0 where
   pub second : low ≡ get_or digits (2 * i + 1) 0
   pub are_bytes : (k : ℕ) → get_or digits k 0 < 256
 
-high_byte : (digits bytes : List ℕ) (i high low : ℕ) → IsPair digits bytes i high low → high < 256
-high_byte digits bytes i high low p = let b = p.are_bytes (2 * i) in let e = p.first in omega (arith, b, e)
+pair_high : (digits bytes : List ℕ) (i high low : ℕ) → IsPair digits bytes i high low → high < 256
+pair_high digits bytes i high low p = let b = p.are_bytes (2 * i) in let e = p.first in omega (arith, b, e)
 
-low_byte : (digits bytes : List ℕ) (i high low : ℕ) → IsPair digits bytes i high low → low < 256
-low_byte digits bytes i high low p = let b = p.are_bytes (2 * i + 1) in let e = p.second in omega (arith, b, e)
+pair_low : (digits bytes : List ℕ) (i high low : ℕ) → IsPair digits bytes i high low → low < 256
+pair_low digits bytes i high low p = let b = p.are_bytes (2 * i + 1) in let e = p.second in omega (arith, b, e)
 
 same_pair : (digits bytes : List ℕ) (i high low : ℕ) → IsPair digits bytes i high low
     → pair_value (slice_index digits (2 * i)) (slice_index digits (2 * i + 1)) (2 * i) ≡ pair_value high low (2 * i)
@@ -95,14 +95,14 @@ put_one digits bytes i high low p put h l =
     let sizes = p.sizes in
     let within = p.within in
     decode_step digits bytes i _ (omega (arith, sizes, within)) within
-    (same_pair digits bytes i high low p ∙ pair_read high low (2 * i) (high_byte digits bytes i high low p) (low_byte digits bytes i high low p) h l) put
+    (same_pair digits bytes i high low p ∙ pair_read high low (2 * i) (pair_high digits bytes i high low p) (pair_low digits bytes i high low p) h l) put
 
 pub refused_one : (digits bytes : List ℕ) (i high low : ℕ) → IsPair digits bytes i high low → ArePut digits bytes i
     → IsRefused high low → (e : FromHexError) × (decode_of digits ≡ Err e)
 refused_one digits bytes i high low p put no_digit =
     let sizes = p.sizes in
     let within = p.within in
-    let r = pair_refused high low (2 * i) (high_byte digits bytes i high low p) (low_byte digits bytes i high low p) no_digit in (
+    let r = pair_refused high low (2 * i) (pair_high digits bytes i high low p) (pair_low digits bytes i high low p) no_digit in (
       r.0,
       decode_of-even digits (omega (arith, sizes))
           ∙ decode_err digits bytes i r.0 (omega (arith, sizes, within)) (same_pair digits bytes i high low p ∙ r.1) put,

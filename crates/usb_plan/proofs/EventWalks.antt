@@ -7,7 +7,6 @@ use Rattle.std.specs.List.Sorted.{IsStrictlySortedBy}
 use Rattle.std.specs.Map.{keys_of}
 use Rattle.std.specs.String.{string_cmp}
 use Rattle.std.specs.Cmp.Lexicographic.{slice_cmp}
-use Rattle.std.proofs.lemmas.Bool.{false_from_ne_true}
 use Rattle.std.proofs.lemmas.Slice.Eq.{bytes_eq-Decides}
 use Rattle.std.proofs.lemmas.Map.Text.{is_eq-slice_cmp}
 use Rattle.toml.specs.Data.{Data, Members, no_members, member, get_member}
@@ -15,6 +14,7 @@ use Rattle.toml.specs.View.{view, members_view}
 use Rattle.toml.proofs.Views.{Entry}
 use Rattle.usb_plan.specs.Keys.{only_named}
 use Rattle.usb_plan.specs.EventMembers.{EventValues, event_values, with_value, all_event_keys}
+use Rattle.usb_device.proofs.Interface.{bytes_eq-sym}
 
 abbrev pub no_values : EventValues
 no_values = record {
@@ -36,10 +36,6 @@ walked v (member k d ms) = walked (with_value k d v) ms
 
 pub same_text : (k l : List ℕ) → bytes_eq k l ≡ true → l ≡ k
 same_text k l h = sym ((bytes_eq-Decides k l).0 h)
-
--- two ways of comparing
-pub turned : (k l : List ℕ) → bytes_eq k l ≡ false → bytes_eq l k ≡ false
-turned k l h = false_from_ne_true _ (λ e. let said : bytes_eq k l ≡ true = (bytes_eq-Decides k l).1 (sym ((bytes_eq-Decides l k).0 e)) in cc (sym h ∙ said))
 
 -- a key at the first of the members, and one that is not there
 first_member : (k l : List ℕ) (d : Data) (ms : Members) (o : Ordering) → o ≡ slice_cmp nat_cmp k l → is_eq o ≡ true → get_member k (member l d ms) ≡ Some d
@@ -71,37 +67,37 @@ record IsKept (k : List ℕ) (at : EventValues → Option Data) : Type 0 where
   apart : (l : List ℕ) (d : Data) (v : EventValues) → bytes_eq l k ≡ false → at (with_value l d v) ≡ at v
 
 -- what is found, else what was kept
-abbrev or_kept : Option Data → Option Data → Option Data
-or_kept (Some d) kept = Some d
-or_kept None kept = kept
+abbrev kept_or : Option Data → Option Data → Option Data
+kept_or (Some d) kept = Some d
+kept_or None kept = kept
 
 walked_step : (k : List ℕ) (at : EventValues → Option Data) → IsKept k at → (l : String Global) (d : Data) (v : EventValues) (es : List Entry) → get_member (string_bytes l) (members_view es) ≡ None
     → (b : Bool) → bytes_eq k (string_bytes l) ≡ b
-    → or_kept (get_member k (members_view es)) (at (with_value (string_bytes l) d v)) ≡ or_kept (get_member k (member (string_bytes l) d (members_view es))) (at v)
+    → kept_or (get_member k (members_view es)) (at (with_value (string_bytes l) d v)) ≡ kept_or (get_member k (member (string_bytes l) d (members_view es))) (at v)
 walked_step k at kept l d v es none true same =
     let text : string_bytes l ≡ k = same_text k (string_bytes l) same in
     let gone : get_member k (members_view es) ≡ None = ap (λ x. get_member x (members_view es)) (sym text) ∙ none in
     let put : at (with_value (string_bytes l) d v) ≡ Some d = ap (λ x. at (with_value x d v)) text ∙ kept.here d v in
-    ap₂ or_kept gone put ∙ sym (ap (λ x. or_kept x (at v)) (at_first k (string_bytes l) d (members_view es) same))
+    ap₂ kept_or gone put ∙ sym (ap (λ x. kept_or x (at v)) (at_first k (string_bytes l) d (members_view es) same))
 walked_step k at kept l d v es none false other =
-    let put = kept.apart (string_bytes l) d v (turned k (string_bytes l) other) in
-    ap (or_kept (get_member k (members_view es))) put ∙ sym (ap (λ x. or_kept x (at v)) (at_later k (string_bytes l) d (members_view es) other))
+    let put = kept.apart (string_bytes l) d v (bytes_eq-sym k (string_bytes l) other) in
+    ap (kept_or (get_member k (members_view es))) put ∙ sym (ap (λ x. kept_or x (at v)) (at_later k (string_bytes l) d (members_view es) other))
 
 walked_at : (k : List ℕ) (at : EventValues → Option Data) → IsKept k at → (v : EventValues) (es : List Entry) → IsStrictlySortedBy string_cmp (keys_of es)
-    → at (walked v (members_view es)) ≡ or_kept (get_member k (members_view es)) (at v)
+    → at (walked v (members_view es)) ≡ kept_or (get_member k (members_view es)) (at v)
 unfolding IsStrictlySortedBy
 walked_at k at kept v [] sorted = refl
 walked_at k at kept v (e ∷ es) sorted =
     walked_at k at kept (with_value (string_bytes e.0) (view e.1) v) es sorted.1
     ∙ walked_step k at kept e.0 (view e.1) v es (absent_before e.0 es sorted.0) _ refl
 
-kept_none : (found : Option Data) → or_kept found None ≡ found
-kept_none None = refl
-kept_none (Some d) = refl
+or_kept-none : (found : Option Data) → kept_or found None ≡ found
+or_kept-none None = refl
+or_kept-none (Some d) = refl
 
 -- what becomes of the values, by which of the six a key is
-abbrev chosen : Bool → Bool → Bool → Bool → Bool → Bool → Data → EventValues → EventValues
-chosen a b c d e f x v =
+abbrev values_with_key : Bool → Bool → Bool → Bool → Bool → Bool → Data → EventValues → EventValues
+values_with_key a b c d e f x v =
     if a then record v { verb = Some x }
     else if b then record v { after = Some x }
     else if c then record v { path = Some x }
@@ -110,7 +106,7 @@ chosen a b c d e f x v =
     else if f then record v { packets = Some x }
     else record v { has_others = true }
 
-verb_spared : (b c d e f : Bool) (x : Data) (v : EventValues) → (chosen false b c d e f x v).verb ≡ v.verb
+verb_spared : (b c d e f : Bool) (x : Data) (v : EventValues) → (values_with_key false b c d e f x v).verb ≡ v.verb
 verb_spared true c d e f x v = refl
 verb_spared false true d e f x v = refl
 verb_spared false false true e f x v = refl
@@ -122,7 +118,7 @@ verb_kept : IsKept (codes "do") (λ v. v.verb)
 unfolding with_value
 verb_kept = record { here = λ d v. refl; apart = λ l d v h. rw h (verb_spared _ _ _ _ _ d v) }
 
-after_spared : (a c d e f : Bool) (x : Data) (v : EventValues) → (chosen a false c d e f x v).after ≡ v.after
+after_spared : (a c d e f : Bool) (x : Data) (v : EventValues) → (values_with_key a false c d e f x v).after ≡ v.after
 after_spared true c d e f x v = refl
 after_spared false true d e f x v = refl
 after_spared false false true e f x v = refl
@@ -134,7 +130,7 @@ after_kept : IsKept (codes "after") (λ v. v.after)
 unfolding with_value
 after_kept = record { here = λ d v. refl; apart = λ l d v h. rw h (after_spared _ _ _ _ _ d v) }
 
-path_spared : (a b d e f : Bool) (x : Data) (v : EventValues) → (chosen a b false d e f x v).path ≡ v.path
+path_spared : (a b d e f : Bool) (x : Data) (v : EventValues) → (values_with_key a b false d e f x v).path ≡ v.path
 path_spared true b d e f x v = refl
 path_spared false true d e f x v = refl
 path_spared false false true e f x v = refl
@@ -142,11 +138,11 @@ path_spared false false false true f x v = refl
 path_spared false false false false true x v = refl
 path_spared false false false false false x v = refl
 
-path_kept : IsKept (codes "path") (λ v. v.path)
+path_key_kept : IsKept (codes "path") (λ v. v.path)
 unfolding with_value
-path_kept = record { here = λ d v. refl; apart = λ l d v h. rw h (path_spared _ _ _ _ _ d v) }
+path_key_kept = record { here = λ d v. refl; apart = λ l d v h. rw h (path_spared _ _ _ _ _ d v) }
 
-device_spared : (a b c e f : Bool) (x : Data) (v : EventValues) → (chosen a b c false e f x v).device ≡ v.device
+device_spared : (a b c e f : Bool) (x : Data) (v : EventValues) → (values_with_key a b c false e f x v).device ≡ v.device
 device_spared true b c e f x v = refl
 device_spared false true c e f x v = refl
 device_spared false false true e f x v = refl
@@ -158,7 +154,7 @@ device_kept : IsKept (codes "device") (λ v. v.device)
 unfolding with_value
 device_kept = record { here = λ d v. refl; apart = λ l d v h. rw h (device_spared _ _ _ _ _ d v) }
 
-bytes_spared : (a b c d f : Bool) (x : Data) (v : EventValues) → (chosen a b c d false f x v).bytes ≡ v.bytes
+bytes_spared : (a b c d f : Bool) (x : Data) (v : EventValues) → (values_with_key a b c d false f x v).bytes ≡ v.bytes
 bytes_spared true b c d f x v = refl
 bytes_spared false true c d f x v = refl
 bytes_spared false false true d f x v = refl
@@ -170,7 +166,7 @@ bytes_kept : IsKept (codes "bytes") (λ v. v.bytes)
 unfolding with_value
 bytes_kept = record { here = λ d v. refl; apart = λ l d v h. rw h (bytes_spared _ _ _ _ _ d v) }
 
-packets_spared : (a b c d e : Bool) (x : Data) (v : EventValues) → (chosen a b c d e false x v).packets ≡ v.packets
+packets_spared : (a b c d e : Bool) (x : Data) (v : EventValues) → (values_with_key a b c d e false x v).packets ≡ v.packets
 packets_spared true b c d e x v = refl
 packets_spared false true c d e x v = refl
 packets_spared false false true d e x v = refl
@@ -182,24 +178,24 @@ packets_kept : IsKept (codes "packets") (λ v. v.packets)
 unfolding with_value
 packets_kept = record { here = λ d v. refl; apart = λ l d v h. rw h (packets_spared _ _ _ _ _ d v) }
 
-no_more : (x : Bool) → x ≡ x || not true
-no_more true = refl
-no_more false = refl
+or_not_true : (x : Bool) → x ≡ x || not true
+or_not_true true = refl
+or_not_true false = refl
 
-one_more : (x : Bool) → true ≡ x || not false
-one_more true = refl
-one_more false = refl
+or_not_false : (x : Bool) → true ≡ x || not false
+or_not_false true = refl
+or_not_false false = refl
 
 -- whether there was another key, by which of the six it is
 others_chosen : (a b c d e f : Bool) (x : Data) (v : EventValues)
-    → (chosen a b c d e f x v).has_others ≡ v.has_others || not (a || (b || (c || (d || (e || (f || false))))))
-others_chosen true b c d e f x v = no_more v.has_others
-others_chosen false true c d e f x v = no_more v.has_others
-others_chosen false false true d e f x v = no_more v.has_others
-others_chosen false false false true e f x v = no_more v.has_others
-others_chosen false false false false true f x v = no_more v.has_others
-others_chosen false false false false false true x v = no_more v.has_others
-others_chosen false false false false false false x v = one_more v.has_others
+    → (values_with_key a b c d e f x v).has_others ≡ v.has_others || not (a || (b || (c || (d || (e || (f || false))))))
+others_chosen true b c d e f x v = or_not_true v.has_others
+others_chosen false true c d e f x v = or_not_true v.has_others
+others_chosen false false true d e f x v = or_not_true v.has_others
+others_chosen false false false true e f x v = or_not_true v.has_others
+others_chosen false false false false true f x v = or_not_true v.has_others
+others_chosen false false false false false true x v = or_not_true v.has_others
+others_chosen false false false false false false x v = or_not_false v.has_others
 
 others_step : (l : List ℕ) (d : Data) (v : EventValues) → (with_value l d v).has_others ≡ v.has_others || not (list_any (bytes_eq l) all_event_keys)
 unfolding with_value
@@ -212,7 +208,7 @@ either_other false false b = refl
 
 others_walked : (v : EventValues) (ms : Members) → (walked v ms).has_others ≡ v.has_others || not (only_named all_event_keys ms)
 unfolding only_named
-others_walked v no_members = no_more v.has_others
+others_walked v no_members = or_not_true v.has_others
 others_walked v (member l d ms) =
     others_walked (with_value l d v) ms ∙ ap (λ x. x || not (only_named all_event_keys ms)) (others_step l d v)
     ∙ either_other v.has_others (list_any (bytes_eq l) all_event_keys) (only_named all_event_keys ms)
@@ -222,12 +218,12 @@ pub walked_is : (es : List Entry) → IsStrictlySortedBy string_cmp (keys_of es)
 unfolding event_values
 walked_is es sorted =
     let ms : Members = members_view es in
-    let verb = walked_at (codes "do") _ verb_kept no_values es sorted ∙ kept_none _ in
-    let after = walked_at (codes "after") _ after_kept no_values es sorted ∙ kept_none _ in
-    let path = walked_at (codes "path") _ path_kept no_values es sorted ∙ kept_none _ in
-    let device = walked_at (codes "device") _ device_kept no_values es sorted ∙ kept_none _ in
-    let bytes = walked_at (codes "bytes") _ bytes_kept no_values es sorted ∙ kept_none _ in
-    let packets = walked_at (codes "packets") _ packets_kept no_values es sorted ∙ kept_none _ in
+    let verb = walked_at (codes "do") _ verb_kept no_values es sorted ∙ or_kept-none _ in
+    let after = walked_at (codes "after") _ after_kept no_values es sorted ∙ or_kept-none _ in
+    let path = walked_at (codes "path") _ path_key_kept no_values es sorted ∙ or_kept-none _ in
+    let device = walked_at (codes "device") _ device_kept no_values es sorted ∙ or_kept-none _ in
+    let bytes = walked_at (codes "bytes") _ bytes_kept no_values es sorted ∙ or_kept-none _ in
+    let packets = walked_at (codes "packets") _ packets_kept no_values es sorted ∙ or_kept-none _ in
     let others = others_walked no_values ms in
     λ i. record {
       verb = verb i;

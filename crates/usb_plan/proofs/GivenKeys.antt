@@ -13,9 +13,10 @@ use Rattle.usb_plan.specs.Keys.{only_named, keys_at}
 use Rattle.usb_plan.specs.EventMembers.{EventValues, event_values, all_event_keys}
 use Rattle.usb_plan.specs.Verb.{verb_at, action_of, other_keys}
 use Rattle.usb_plan.specs.Scene.{SceneData}
-use Rattle.usb_plan.specs.Action.{keys_of, event_keys, fits, keys_given}
+use Rattle.usb_plan.specs.Action.{keys_of, event_keys, verb_fits, keys_given}
 use Rattle.usb_plan.specs.Event.{after_at, event_room, event_with, event_given, event_of, event_in}
-use Rattle.usb_plan.proofs.EventWalks.{same_text, turned, at_first, at_later}
+use Rattle.usb_plan.proofs.EventWalks.{same_text, at_first, at_later}
+use Rattle.usb_device.proofs.Interface.{bytes_eq-sym}
 
 any_without : (front back : List (List ℕ)) (k l : List ℕ) → bytes_eq l k ≡ false → list_any (bytes_eq l) (front ++ back) ≡ list_any (bytes_eq l) (front ++ k ∷ back)
 any_without [] back k l h = rw h refl
@@ -44,7 +45,7 @@ narrowed_step front back k l d ms none rest true same =
 narrowed_step front back k l d ms none rest false other =
     let here : Bool = list_any (bytes_eq l) (front ++ k ∷ back) in
     let later : Bool = only_named (front ++ k ∷ back) ms in
-    ap₂ (λ (a b : Bool). a && b) (any_without front back k l (turned k l other)) rest
+    ap₂ (λ (a b : Bool). a && b) (any_without front back k l (bytes_eq-sym k l other)) rest
     ∙ and_turned here later (is_none (get_member k ms))
     ∙ ap (λ x. (here && later) && is_none x) (sym (at_later k l d ms other))
 
@@ -68,32 +69,32 @@ without_bytes ms =
     narrowed (codes "do" ∷ codes "after" ∷ codes "path" ∷ codes "device" ∷ []) (codes "packets" ∷ []) (codes "bytes") ms refl
     ∙ ap (λ b. b && is_none (get_member (codes "bytes") ms)) (not_not (only_named all_event_keys ms))
 
-device_fits : (ms : Members) → only_named (event_keys (codes "path" ∷ codes "device" ∷ [])) ms ≡ fits PathDevice (event_values ms)
-unfolding event_values fits
-device_fits ms =
+path_device_keys : (ms : Members) → only_named (event_keys (codes "path" ∷ codes "device" ∷ [])) ms ≡ verb_fits PathDevice (event_values ms)
+unfolding event_values verb_fits
+path_device_keys ms =
     narrowed (codes "do" ∷ codes "after" ∷ codes "path" ∷ codes "device" ∷ []) [] (codes "bytes") ms refl
     ∙ ap (λ b. b && is_none (get_member (codes "bytes") ms)) (without_packets ms)
 
-path_fits : (ms : Members) → only_named (event_keys (codes "path" ∷ [])) ms ≡ fits Path (event_values ms)
-unfolding event_values fits
+path_fits : (ms : Members) → only_named (event_keys (codes "path" ∷ [])) ms ≡ verb_fits Path (event_values ms)
+unfolding event_values verb_fits
 path_fits ms =
     narrowed (codes "do" ∷ codes "after" ∷ codes "path" ∷ []) [] (codes "device") ms refl
-    ∙ ap (λ b. b && is_none (get_member (codes "device") ms)) (device_fits ms)
+    ∙ ap (λ b. b && is_none (get_member (codes "device") ms)) (path_device_keys ms)
 
-alone_fits : (ms : Members) → only_named (event_keys []) ms ≡ fits Alone (event_values ms)
-unfolding event_values fits
+alone_fits : (ms : Members) → only_named (event_keys []) ms ≡ verb_fits Alone (event_values ms)
+unfolding event_values verb_fits
 alone_fits ms =
     narrowed (codes "do" ∷ codes "after" ∷ []) [] (codes "path") ms refl
     ∙ ap (λ b. b && is_none (get_member (codes "path") ms)) (path_fits ms)
 
-bytes_fits : (ms : Members) → only_named (event_keys (codes "path" ∷ codes "bytes" ∷ [])) ms ≡ fits PathBytes (event_values ms)
-unfolding event_values fits
+bytes_fits : (ms : Members) → only_named (event_keys (codes "path" ∷ codes "bytes" ∷ [])) ms ≡ verb_fits PathBytes (event_values ms)
+unfolding event_values verb_fits
 bytes_fits ms =
     narrowed (codes "do" ∷ codes "after" ∷ codes "path" ∷ []) (codes "bytes" ∷ []) (codes "device") ms refl
     ∙ ap (λ b. b && is_none (get_member (codes "device") ms)) (without_packets ms)
 
-packets_fits : (ms : Members) → only_named (event_keys (codes "path" ∷ codes "packets" ∷ [])) ms ≡ fits PathPackets (event_values ms)
-unfolding event_values fits
+packets_fits : (ms : Members) → only_named (event_keys (codes "path" ∷ codes "packets" ∷ [])) ms ≡ verb_fits PathPackets (event_values ms)
+unfolding event_values verb_fits
 packets_fits ms =
     narrowed (codes "do" ∷ codes "after" ∷ codes "path" ∷ []) (codes "packets" ∷ []) (codes "device") ms refl
     ∙ ap (λ b. b && is_none (get_member (codes "device") ms)) (without_bytes ms)
@@ -105,7 +106,7 @@ pub keys_given-event_values : (keys : OtherKeys) (ms : Members) → keys_given k
 unfolding keys_given keys_of keys_at answer
 keys_given-event_values Alone ms = ap answer (sym (alone_fits ms))
 keys_given-event_values Path ms = ap answer (sym (path_fits ms))
-keys_given-event_values PathDevice ms = ap answer (sym (device_fits ms))
+keys_given-event_values PathDevice ms = ap answer (sym (path_device_keys ms))
 keys_given-event_values PathBytes ms = ap answer (sym (bytes_fits ms))
 keys_given-event_values PathPackets ms = ap answer (sym (packets_fits ms))
 

@@ -53,18 +53,18 @@ pub record IsGoodThen {A B E : Type 0} (r : Result A E) (f : A → Result B E) (
   pub good : r ≡ Ok value
   pub rest : f value ≡ Ok y
 
-pub bind_ok : {A B E : Type 0} (r : Result A E) (f : A → Result B E) (y : B) → r >>= f ≡ Ok y → IsGoodThen r f y
-bind_ok (Ok x) f y h = record { value = x; good = refl; rest = h }
-bind_ok (Err e) f y h = cc
+pub bind_good : {A B E : Type 0} (r : Result A E) (f : A → Result B E) (y : B) → r >>= f ≡ Ok y → IsGoodThen r f y
+bind_good (Ok x) f y h = record { value = x; good = refl; rest = h }
+bind_good (Err e) f y h = cc
 
 ok_or_some : {A : Type 0} (o : Option A) (k : EntryFault) (x : A) → ok_or o k ≡ Ok x → o ≡ Some x
 ok_or_some None k x h = cc
 ok_or_some (Some a) k x h = cc
 
-no_fault : {A : Type 0} (r : Result A EntryFault) → fault_in_part r ≡ None → (x : A) × (r ≡ Ok x)
+fault_in_part-none : {A : Type 0} (r : Result A EntryFault) → fault_in_part r ≡ None → (x : A) × (r ≡ Ok x)
 unfolding fault_in_part
-no_fault (Ok x) h = (x, refl)
-no_fault (Err k) h = cc
+fault_in_part-none (Ok x) h = (x, refl)
+fault_in_part-none (Err k) h = cc
 
 sooner_ok : (f : Option EntryFault) (others : Result (Unit {0}) EntryFault) (u : Unit {0}) → sooner f others ≡ Ok u → (f ≡ None) × (others ≡ Ok u)
 unfolding sooner
@@ -76,7 +76,7 @@ sooner_ok (Some k) (Err l) u h = cc
 good_part : {A : Type 0} (fs : List (Option EntryFault)) (u : Unit {0}) (i : ℕ) (r : Result A EntryFault) → least_fault fs ≡ Ok u → slice_get fs i ≡ Some (fault_in_part r) → (x : A) × (r ≡ Ok x)
 unfolding least_fault
 good_part [] u i r h at = cc
-good_part (f ∷ fs) u zero r h at = let same : f ≡ fault_in_part r = cc at in no_fault r (sym same ∙ (sooner_ok f (least_fault fs) u h).0)
+good_part (f ∷ fs) u zero r h at = let same : f ≡ fault_in_part r = cc at in fault_in_part-none r (sym same ∙ (sooner_ok f (least_fault fs) u h).0)
 good_part (f ∷ fs) u (suc i) r h at = good_part fs u i r (sooner_ok f (least_fault fs) u h).1 at
 
 pub entry_at_ok : {A : Type 0} (p : Place) (r : Result A EntryFault) (x : A) → entry_at p r ≡ Ok x → r ≡ Ok x
@@ -85,9 +85,9 @@ entry_at_ok p (Ok a) x h = cc
 entry_at_ok p (Err k) x h = cc
 
 -- which way a test went
-pub chosen : {X : Type 0} (b : Bool) (x y z : X) → cond b x y ≡ z → ((b ≡ true) × (x ≡ z)) ⊎ ((b ≡ false) × (y ≡ z))
-chosen true x y z h = inl (refl, h)
-chosen false x y z h = inr (refl, h)
+pub cond_cases : {X : Type 0} (b : Bool) (x y z : X) → cond b x y ≡ z → ((b ≡ true) × (x ≡ z)) ⊎ ((b ≡ false) × (y ≡ z))
+cond_cases true x y z h = inl (refl, h)
+cond_cases false x y z h = inr (refl, h)
 
 ok_if : {A : Type 0} (b : Bool) (x : Result A EntryFault) (k : EntryFault) (y : A) → cond b x (Err k) ≡ Ok y → (b ≡ true) × (x ≡ Ok y)
 ok_if true x k y h = (refl, h)
@@ -106,7 +106,7 @@ name_in_ok earlier text n h =
 
 name_at_ok : (earlier : List Spec) (o : Option Data) (n : List ℕ) → name_at earlier o ≡ Ok n → is_named earlier n ≡ false
 unfolding name_at
-name_at_ok earlier o n h = let text = bind_ok (read_text o) _ n h in name_in_ok earlier text.value n text.rest
+name_at_ok earlier o n h = let text = bind_good (read_text o) _ n h in name_in_ok earlier text.value n text.rest
 
 device_room_ok : (earlier : List Spec) (u : Unit {0}) → device.device_room earlier ≡ Ok u → length earlier < 127
 unfolding device.device_room
@@ -124,7 +124,7 @@ number_in_ok low high (Some (pos m)) n h =
 
 pub number_at_ok : (low high : ℕ) (o : Option Data) (n : ℕ) → number_at low high o ≡ Ok n → (low ≤ n) × (n ≤ high)
 unfolding number_at
-number_at_ok low high o n h = let d = bind_ok (ok_or o MissingKey) _ n h in number_in_ok low high (as_integer d.value) n d.rest
+number_at_ok low high o n h = let d = bind_good (ok_or o MissingKey) _ n h in number_in_ok low high (as_integer d.value) n d.rest
 
 pub number_or_ok : (absent low high : ℕ) (o : Option Data) (n : ℕ) → absent ≤ high → number_or absent low high o ≡ Ok n → n ≤ high
 unfolding number_or
@@ -157,12 +157,12 @@ naks_at_ok o n h = number_or_ok 0 0 200 o n (omega arith) h
 quirks_with_ok : (a b c : Result Bool EntryFault) (n : Result ℕ EntryFault) (s : Result Stalls EntryFault) (q : Quirks) → quirks_with a b c n s ≡ Ok q → n ≡ Ok q.naks
 unfolding quirks_with
 quirks_with_ok a b c n s q h =
-    let e0 = bind_ok (least_fault _) _ q h in
-    let e1 = bind_ok a _ q e0.rest in
-    let e2 = bind_ok b _ q e1.rest in
-    let e3 = bind_ok c _ q e2.rest in
-    let e4 = bind_ok n _ q e3.rest in
-    let e5 = bind_ok s _ q e4.rest in
+    let e0 = bind_good (least_fault _) _ q h in
+    let e1 = bind_good a _ q e0.rest in
+    let e2 = bind_good b _ q e1.rest in
+    let e3 = bind_good c _ q e2.rest in
+    let e4 = bind_good n _ q e3.rest in
+    let e5 = bind_good s _ q e4.rest in
     let same : e4.value ≡ q.naks = cc e5.rest in
     e4.good ∙ ap Ok same
 
@@ -186,9 +186,9 @@ halt_at_ok (Some d) h e = halt_in_ok (number_in 1 65535 (as_integer d)) h e (num
 bulk_with_ok : (s : Result (List ℕ) EntryFault) (p : Result (Option ℕ) EntryFault) (b : Bulk) → bulk_with s p ≡ Ok b → p ≡ Ok b.halt_after
 unfolding bulk_with
 bulk_with_ok s p b h =
-    let e0 = bind_ok (least_fault _) _ b h in
-    let e1 = bind_ok s _ b e0.rest in
-    let e2 = bind_ok p _ b e1.rest in
+    let e0 = bind_good (least_fault _) _ b h in
+    let e1 = bind_good s _ b e0.rest in
+    let e2 = bind_good p _ b e1.rest in
     let same : e2.value ≡ b.halt_after = cc e2.rest in
     e2.good ∙ ap Ok same
 
@@ -220,11 +220,11 @@ record IdentityIs (name : Result (List ℕ) EntryFault) (low : Result Bool Entry
 identity_with_ok : (name : Result (List ℕ) EntryFault) (low : Result Bool EntryFault) (descriptor : Result (List ℕ) EntryFault) (class : Result (Unit {0}) EntryFault) (hub : Result (Option Hub) EntryFault) (i : Identity) → identity_with name low descriptor class hub ≡ Ok i → IdentityIs name low descriptor class hub i
 unfolding identity_with
 identity_with_ok name low descriptor class hub i h =
-    let e0 = bind_ok (least_fault _) _ i h in
-    let e1 = bind_ok name _ i e0.rest in
-    let e2 = bind_ok low _ i e1.rest in
-    let e3 = bind_ok descriptor _ i e2.rest in
-    let e4 = bind_ok hub _ i e3.rest in
+    let e0 = bind_good (least_fault _) _ i h in
+    let e1 = bind_good name _ i e0.rest in
+    let e2 = bind_good low _ i e1.rest in
+    let e3 = bind_good descriptor _ i e2.rest in
+    let e4 = bind_good hub _ i e3.rest in
     let class_good = good_part _ e0.value 3 class e0.good refl in
     record {
       name_is = e1.good ∙ (let same : e1.value ≡ i.name = cc e4.rest in ap Ok same);
@@ -248,11 +248,11 @@ identity_of_ok earlier ms i h =
 device_with_ok : (earlier : List Spec) (ms : Members) (i : Result Identity EntryFault) (c : Result DeviceTexts EntryFault) (q : Result Quirks EntryFault) (b : Result Bulk EntryFault) (keys left : Result (Unit {0}) EntryFault) (s : Spec) → i ≡ identity_of earlier ms → left ≡ device.device_room earlier → device_with i c q b keys left ≡ Ok s → Joins earlier s
 unfolding device_with
 device_with_ok earlier ms i c q b keys left s i_is room_is h =
-    let e0 = bind_ok (least_fault _) _ s h in
-    let e1 = bind_ok i _ s e0.rest in
-    let e2 = bind_ok c _ s e1.rest in
-    let e3 = bind_ok q _ s e2.rest in
-    let e4 = bind_ok b _ s e3.rest in
+    let e0 = bind_good (least_fault _) _ s h in
+    let e1 = bind_good i _ s e0.rest in
+    let e2 = bind_good c _ s e1.rest in
+    let e3 = bind_good q _ s e2.rest in
+    let e4 = bind_good b _ s e3.rest in
     let left_good = good_part _ e0.value 5 left e0.good refl in
     let is = identity_is earlier ms e1.value (sym i_is ∙ e1.good) in
     let same : device_of_parts e1.value e2.value e3.value e4.value ≡ s = cc e4.rest in
@@ -268,13 +268,13 @@ read_device_ok earlier ms s h = device_with_ok earlier ms _ _ _ _ _ _ s refl ref
 
 pub device_in_ok : (earlier : List Spec) (o : Option Members) (s : Spec) → device_in earlier o ≡ Ok s → Joins earlier s
 unfolding device_in
-device_in_ok earlier o s h = let ms = bind_ok (ok_or o BadValue) _ s h in read_device_ok earlier ms.value s ms.rest
+device_in_ok earlier o s h = let ms = bind_good (ok_or o BadValue) _ s h in read_device_ok earlier ms.value s ms.rest
 
 read_path_ok : (scene : SceneData) (o : Option Data) (p : List ℕ) → read_path scene o ≡ Ok p → is_rooted scene.roots p ≡ true
 unfolding read_path
 read_path_ok scene o p h =
-    let text = bind_ok (read_text o) _ p h in
-    let path = bind_ok (ok_or (path_of text.value) BadPath) _ p text.rest in
+    let text = bind_good (read_text o) _ p h in
+    let path = bind_good (ok_or (path_of text.value) BadPath) _ p text.rest in
     let test = ok_if (is_rooted scene.roots path.value) (Ok path.value) BadPath p path.rest in
     let same : path.value ≡ p = cc test.1 in
     rw (← same) test.0
@@ -307,7 +307,7 @@ taken_path_ok scene (Ok path) p h =
 device_index_at_ok : (scene : SceneData) (o : Option Data) (i : ℕ) → device_index_at scene o ≡ Ok i → i < length scene.devices
 unfolding device_index_at
 device_index_at_ok scene o i h =
-    let name = bind_ok (read_text o) _ i h in
+    let name = bind_good (read_text o) _ i h in
     let none : Spec = function [] [] [] in
     (position-Some (λ s. bytes_eq s.name name.value) scene.devices i none (ok_or_some _ UnknownDevice i name.rest)).0
 
@@ -324,8 +324,8 @@ unfolding packets_at
 packets_at_ok o n h = (number_at_ok 0 1000 o n h).1
 
 -- the action may come where so much is plugged
-abbrev pub Fits : SceneData → Action → Type 0
-Fits scene a = action_fits scene.roots scene.devices scene.plugged a ≡ true
+abbrev pub FitsScene : SceneData → Action → Type 0
+FitsScene scene a = action_fits scene.roots scene.devices scene.plugged a ≡ true
 
 record PlugIs (path : Result (List ℕ) EntryFault) (device : Result ℕ EntryFault) (a : Action) : Type 0 where
   at : List ℕ
@@ -337,12 +337,12 @@ record PlugIs (path : Result (List ℕ) EntryFault) (device : Result ℕ EntryFa
 plug_ok : (path : Result (List ℕ) EntryFault) (device : Result ℕ EntryFault) (a : Action) → action.plug path device ≡ Ok a → PlugIs path device a
 unfolding action.plug
 plug_ok path device a h =
-    let e0 = bind_ok (least_fault _) _ a h in
-    let e1 = bind_ok path _ a e0.rest in
-    let e2 = bind_ok device _ a e1.rest in
+    let e0 = bind_good (least_fault _) _ a h in
+    let e1 = bind_good path _ a e0.rest in
+    let e2 = bind_good device _ a e1.rest in
     record { at = e1.value; index = e2.value; path_is = e1.good; device_is = e2.good; action_is = cc e2.rest }
 
-plug_of_ok : (scene : SceneData) (v : EventValues) (a : Action) → plug_of scene v ≡ Ok a → Fits scene a
+plug_of_ok : (scene : SceneData) (v : EventValues) (a : Action) → plug_of scene v ≡ Ok a → FitsScene scene a
 unfolding plug_of
 plug_of_ok scene v a h =
     let plug = plug_ok (free_path scene (read_path scene v.path)) (device_index_at scene v.device) a h in
@@ -350,10 +350,10 @@ plug_of_ok scene v a h =
     let device = lt-ltb plug.index (length scene.devices) (device_index_at_ok scene v.device plug.index plug.device_is) in
     rw (← plug.action_is) (rw (path.port, path.free, device))
 
-unplug_of_ok : (scene : SceneData) (v : EventValues) (a : Action) → unplug_of scene v ≡ Ok a → Fits scene a
+unplug_of_ok : (scene : SceneData) (v : EventValues) (a : Action) → unplug_of scene v ≡ Ok a → FitsScene scene a
 unfolding unplug_of
 unplug_of_ok scene v a h =
-    let path = bind_ok (taken_path scene (read_path scene v.path)) _ a h in
+    let path = bind_good (taken_path scene (read_path scene v.path)) _ a h in
     let same : Change (Unplug path.value) ≡ a = cc path.rest in
     let held = taken_path_ok scene (read_path scene v.path) path.value path.good in
     rw (← same) (rw (read_path_ok scene v.path path.value held.0, held.1))
@@ -367,12 +367,12 @@ record SendIs (path : Result (List ℕ) EntryFault) (a : Action) : Type 0 where
 send_ok : (path bytes : Result (List ℕ) EntryFault) (a : Action) → action.send path bytes ≡ Ok a → SendIs path a
 unfolding action.send
 send_ok path bytes a h =
-    let e0 = bind_ok (least_fault _) _ a h in
-    let e1 = bind_ok path _ a e0.rest in
-    let e2 = bind_ok bytes _ a e1.rest in
+    let e0 = bind_good (least_fault _) _ a h in
+    let e1 = bind_good path _ a e0.rest in
+    let e2 = bind_good bytes _ a e1.rest in
     record { at = e1.value; sent = e2.value; path_is = e1.good; action_is = cc e2.rest }
 
-send_of_ok : (scene : SceneData) (v : EventValues) (a : Action) → send_of scene v ≡ Ok a → Fits scene a
+send_of_ok : (scene : SceneData) (v : EventValues) (a : Action) → send_of scene v ≡ Ok a → FitsScene scene a
 unfolding send_of
 send_of_ok scene v a h =
     let send = send_ok (read_path scene v.path) (bytes_at v.bytes) a h in
@@ -388,33 +388,33 @@ record ReceiveIs (path : Result (List ℕ) EntryFault) (packets : Result ℕ Ent
 receive_ok : (path : Result (List ℕ) EntryFault) (packets : Result ℕ EntryFault) (a : Action) → action.receive path packets ≡ Ok a → ReceiveIs path packets a
 unfolding action.receive
 receive_ok path packets a h =
-    let e0 = bind_ok (least_fault _) _ a h in
-    let e1 = bind_ok path _ a e0.rest in
-    let e2 = bind_ok packets _ a e1.rest in
+    let e0 = bind_good (least_fault _) _ a h in
+    let e1 = bind_good path _ a e0.rest in
+    let e2 = bind_good packets _ a e1.rest in
     record { at = e1.value; count = e2.value; path_is = e1.good; packets_is = e2.good; action_is = cc e2.rest }
 
-receive_of_ok : (scene : SceneData) (v : EventValues) (a : Action) → receive_of scene v ≡ Ok a → Fits scene a
+receive_of_ok : (scene : SceneData) (v : EventValues) (a : Action) → receive_of scene v ≡ Ok a → FitsScene scene a
 unfolding receive_of
 receive_of_ok scene v a h =
     let receive = receive_ok (read_path scene v.path) (packets_at v.packets) a h in
     let few = le-leb receive.count 1000 (packets_at_ok v.packets receive.count receive.packets_is) in
     rw (← receive.action_is) (rw (read_path_ok scene v.path receive.at receive.path_is, few))
 
-clear_of_ok : (scene : SceneData) (v : EventValues) (a : Action) → clear_of scene v ≡ Ok a → Fits scene a
+clear_of_ok : (scene : SceneData) (v : EventValues) (a : Action) → clear_of scene v ≡ Ok a → FitsScene scene a
 unfolding clear_of
 clear_of_ok scene v a h =
-    let path = bind_ok (read_path scene v.path) _ a h in
+    let path = bind_good (read_path scene v.path) _ a h in
     let same : Ask (Clear path.value) ≡ a = cc path.rest in
     rw (← same) (read_path_ok scene v.path path.value path.good)
 
-action_of_ok : (verb : Verb) (scene : SceneData) (v : EventValues) (a : Action) → action_of verb scene v ≡ Ok a → Fits scene a
+action_of_ok : (verb : Verb) (scene : SceneData) (v : EventValues) (a : Action) → action_of verb scene v ≡ Ok a → FitsScene scene a
 unfolding action_of
 action_of_ok verb.Plug scene v a h = plug_of_ok scene v a h
 action_of_ok verb.Unplug scene v a h = unplug_of_ok scene v a h
 action_of_ok verb.Send scene v a h = send_of_ok scene v a h
 action_of_ok verb.Receive scene v a h = receive_of_ok scene v a h
 action_of_ok verb.Clear scene v a h = clear_of_ok scene v a h
-action_of_ok _ scene v a h = subst (λ r. IfOk r (Fits scene)) h refl
+action_of_ok _ scene v a h = subst (λ r. IfOk r (FitsScene scene)) h refl
 
 record EventIs (action : Result Action EntryFault) (after : Result ℕ EntryFault) (room : Result (Unit {0}) EntryFault) (e : Event) : Type 0 where
   action_is : action ≡ Ok e.action
@@ -424,9 +424,9 @@ record EventIs (action : Result Action EntryFault) (after : Result ℕ EntryFaul
 event_with_ok : (action : Result Action EntryFault) (after : Result ℕ EntryFault) (keys left : Result (Unit {0}) EntryFault) (e : Event) → event_with action after keys left ≡ Ok e → EventIs action after left e
 unfolding event_with
 event_with_ok action after keys left e h =
-    let e0 = bind_ok (least_fault _) _ e h in
-    let e1 = bind_ok after _ e e0.rest in
-    let e2 = bind_ok action _ e e1.rest in
+    let e0 = bind_good (least_fault _) _ e h in
+    let e1 = bind_good after _ e e0.rest in
+    let e2 = bind_good action _ e e1.rest in
     let left_good = good_part _ e0.value 3 left e0.good refl in
     record {
       action_is = e2.good ∙ (let same : e2.value ≡ e.action = cc e2.rest in ap Ok same);
@@ -435,11 +435,11 @@ event_with_ok action after keys left e h =
     }
 
 -- the event may come where so much is plugged, and there is room for it
-pub record Follows (scene : SceneData) (count : ℕ) (e : Event) : Type 0 where
+pub record EventFits (scene : SceneData) (count : ℕ) (e : Event) : Type 0 where
   pub room : count < 10000
   pub fits : event_fits scene.roots scene.devices scene.plugged e ≡ true
 
-event_of_ok : (v : Verb) (scene : SceneData) (count : ℕ) (ms : Members) (e : Event) → event_of v scene count ms ≡ Ok e → Follows scene count e
+event_of_ok : (v : Verb) (scene : SceneData) (count : ℕ) (ms : Members) (e : Event) → event_of v scene count ms ≡ Ok e → EventFits scene count e
 unfolding event_of
 event_of_ok v scene count ms e h =
     let is = event_with_ok (action_of v scene (event_values ms)) (after_at (get_member (codes "after") ms)) (keys_of (other_keys v) ms) (event_room count) e h in
@@ -449,11 +449,11 @@ event_of_ok v scene count ms e h =
       fits = rw (after, action_of_ok v scene (event_values ms) e.action is.action_is);
     }
 
-pub event_in_ok : (scene : SceneData) (count : ℕ) (o : Option Members) (e : Event) → event_in scene count o ≡ Ok e → Follows scene count e
+pub event_in_ok : (scene : SceneData) (count : ℕ) (o : Option Members) (e : Event) → event_in scene count o ≡ Ok e → EventFits scene count e
 unfolding event_in
 event_in_ok scene count o e h =
-    let ms = bind_ok (ok_or o BadValue) _ e h in
-    let verb = bind_ok (verb_at (get_member (codes "do") ms.value)) _ e ms.rest in
+    let ms = bind_good (ok_or o BadValue) _ e h in
+    let verb = bind_good (verb_at (get_member (codes "do") ms.value)) _ e ms.rest in
     event_of_ok verb.value scene count ms.value e verb.rest
 
 attempt_at_ok : (last : ℕ) (o : Option Data) (n : ℕ) → attempt_at last o ≡ Ok n → (last < n) × (n < 2 ^ 63)
@@ -472,7 +472,7 @@ no_bit_ok harm (Some d) x fits h = cc h
 flip_at_ok : (o : Option Data) (x : Harm) → flip_at o ≡ Ok x → harm_fits x ≡ true
 unfolding flip_at
 flip_at_ok o x h =
-    let bit = bind_ok (number_at 0 535 o) _ x h in
+    let bit = bind_good (number_at 0 535 o) _ x h in
     let same : Flip bit.value ≡ x = cc bit.rest in
     rw (← same) (le-leb bit.value 535 (number_at_ok 0 535 o bit.value bit.good).1)
 
@@ -484,7 +484,7 @@ harm_of_ok way.Flip o x h = flip_at_ok o x h
 
 harm_by_ok : (r : Result Way EntryFault) (o : Option Data) (x : Harm) → harm_by r o ≡ Ok x → harm_fits x ≡ true
 unfolding harm_by
-harm_by_ok r o x h = let way = bind_ok r _ x h in harm_of_ok way.value o x way.rest
+harm_by_ok r o x h = let way = bind_good r _ x h in harm_of_ok way.value o x way.rest
 
 damage_room_ok : (count : ℕ) (u : Unit {0}) → damage.damage_room count ≡ Ok u → count < 10000
 unfolding damage.damage_room
@@ -499,10 +499,10 @@ record DamageIs (attempt packet : Result ℕ EntryFault) (harm : Result Harm Ent
 damage_with_ok : (attempt packet : Result ℕ EntryFault) (harm : Result Harm EntryFault) (keys left : Result (Unit {0}) EntryFault) (d : Damage) → damage_with attempt packet harm keys left ≡ Ok d → DamageIs attempt packet harm left d
 unfolding damage_with
 damage_with_ok attempt packet harm keys left d h =
-    let e0 = bind_ok (least_fault _) _ d h in
-    let e1 = bind_ok attempt _ d e0.rest in
-    let e2 = bind_ok packet _ d e1.rest in
-    let e3 = bind_ok harm _ d e2.rest in
+    let e0 = bind_good (least_fault _) _ d h in
+    let e1 = bind_good attempt _ d e0.rest in
+    let e2 = bind_good packet _ d e1.rest in
+    let e3 = bind_good harm _ d e2.rest in
     let left_good = good_part _ e0.value 4 left e0.good refl in
     record {
       attempt_is = e1.good ∙ (let same : e1.value ≡ d.attempt = cc e3.rest in ap Ok same);
@@ -532,7 +532,7 @@ read_damage_ok last count ms d h =
 
 pub damage_entry_ok : (last count : ℕ) (o : Option Members) (d : Damage) → damage_entry last count o ≡ Ok d → Comes last count d
 unfolding damage_entry
-damage_entry_ok last count o d h = let ms = bind_ok (ok_or o BadValue) _ d h in read_damage_ok last count ms.value d ms.rest
+damage_entry_ok last count o d h = let ms = bind_good (ok_or o BadValue) _ d h in read_damage_ok last count ms.value d ms.rest
 
 limit_at_ok : (o : Option Data) (n : ℕ) → limit_at o ≡ Ok n → n ≤ 10 ^ 14
 unfolding limit_at
@@ -545,9 +545,9 @@ roots_at_ok o n h = number_at_ok 1 7 o n h
 top_with_ok : (limit roots : Result ℕ EntryFault) (devices events damages keys : Result (Unit {0}) EntryFault) (top : Top) → top_with limit roots devices events damages keys ≡ Ok top → (limit ≡ Ok top.limit) × (roots ≡ Ok top.roots)
 unfolding top_with
 top_with_ok limit roots devices events damages keys top h =
-    let e0 = bind_ok (least_fault _) _ top h in
-    let e1 = bind_ok limit _ top e0.rest in
-    let e2 = bind_ok roots _ top e1.rest in
+    let e0 = bind_good (least_fault _) _ top h in
+    let e1 = bind_good limit _ top e0.rest in
+    let e2 = bind_good roots _ top e1.rest in
     let same_limit : e1.value ≡ top.limit = cc e2.rest in
     let same_roots : e2.value ≡ top.roots = cc e2.rest in
     (e1.good ∙ ap Ok same_limit, e2.good ∙ ap Ok same_roots)

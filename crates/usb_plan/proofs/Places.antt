@@ -28,8 +28,8 @@ through_after (a ∷ path) (b ∷ place) h =
     let parts = and_parts (nat_eq a b) (through path place) h in
     rw (sym (nat_cmp_is a b Equal (eqb-true a b parts.0))) (through_after path place parts.1)
 
-same_head : (a b : ℕ) (r s : Ordering) → is_le (ordering_then (nat_cmp a b) r) ≡ true → ordering_then (nat_cmp b a) s ≡ Less → a ≡ b
-same_head a b r s le lt = by (cases_order a b)
+ordering_then-same : (a b : ℕ) (r s : Ordering) → is_le (ordering_then (nat_cmp a b) r) ≡ true → ordering_then (nat_cmp b a) s ≡ Less → a ≡ b
+ordering_then-same a b r s le lt = by (cases_order a b)
   where
     by : (a ≡ b) ⊎ ((a < b) ⊎ (b < a)) → a ≡ b
     by (inl e) = e
@@ -37,18 +37,18 @@ same_head a b r s le lt = by (cases_order a b)
     by (inr (inr h)) = let bad = rw (sym (nat_cmp_is a b Greater h)) at le in cc
 
 -- what lies between a path and a place below it is below it, too
-between : (path middle place : List ℕ) → is_le (path_cmp path middle) ≡ true → path_cmp middle place ≡ Less → through path place ≡ true → through path middle ≡ true
-between [] middle place le lt h = refl
-between (a ∷ path) [] place le lt h = cc
-between (a ∷ path) (b ∷ middle) [] le lt h = cc
-between (a ∷ path) (b ∷ middle) (c ∷ place) le lt h =
+through-middle : (path middle place : List ℕ) → is_le (path_cmp path middle) ≡ true → path_cmp middle place ≡ Less → through path place ≡ true → through path middle ≡ true
+through-middle [] middle place le lt h = refl
+through-middle (a ∷ path) [] place le lt h = cc
+through-middle (a ∷ path) (b ∷ middle) [] le lt h = cc
+through-middle (a ∷ path) (b ∷ middle) (c ∷ place) le lt h =
     let parts = and_parts (nat_eq a c) (through path place) h in
     let ac : a ≡ c = eqb-true a c parts.0 in
     let ba : ordering_then (nat_cmp b a) (path_cmp middle place) ≡ Less = ap (λ n. ordering_then (nat_cmp b n) (path_cmp middle place)) ac ∙ lt in
-    let ab : a ≡ b = same_head a b (path_cmp path middle) (path_cmp middle place) le ba in
+    let ab : a ≡ b = ordering_then-same a b (path_cmp path middle) (path_cmp middle place) le ba in
     let le2 : is_le (path_cmp path middle) ≡ true = ap (λ o. is_le (ordering_then o (path_cmp path middle))) (nat_cmp_is a b Equal ab) ∙ le in
     let lt2 : path_cmp middle place ≡ Less = ap (λ o. ordering_then o (path_cmp middle place)) (nat_cmp_is b c Equal (sym ab ∙ ac)) ∙ lt in
-    and_from (nat_eq a b) (through path middle) (eq-eqb a b ab) (between path middle place le2 lt2 parts.1)
+    and_from (nat_eq a b) (through path middle) (eq-eqb a b ab) (through-middle path middle place le2 lt2 parts.1)
 
 abbrev AllAfter : List ℕ → List (List ℕ) → Type 0
 AllAfter middle = AllByRecursion (λ place. path_cmp middle place ≡ Less)
@@ -60,32 +60,32 @@ none_after path middle [] le off all = refl
 none_after path middle (place ∷ tree) le off all = by (cases_Bool (through path place.0)) (none_after path middle tree le off all.1)
   where
     by : (through path place.0 ≡ true) ⊎ (through path place.0 ≡ false) → first_through path tree ≡ None → first_through path (place ∷ tree) ≡ None
-    by (inl h) rest = let bad = sym (between path middle place.0 le all.0 h) ∙ off in cc
+    by (inl h) rest = let bad = sym (through-middle path middle place.0 le all.0 h) ∙ off in cc
     by (inr h) rest = rw h rest
 
 -- the first of the places from the path on, where that is at the path or below it
-abbrev pub first_of : List ℕ → PluggedMap → Option (List ℕ)
-first_of path [] = None
-first_of path (place ∷ tree) = cond (through path place.0) (Some place.0) None
+abbrev pub first_through_range : List ℕ → PluggedMap → Option (List ℕ)
+first_through_range path [] = None
+first_through_range path (place ∷ tree) = cond (through path place.0) (Some place.0) None
 
 abbrev from_on : List ℕ → PluggedMap → PluggedMap
 from_on path tree = entries_between path_cmp (Included path) Unbounded tree
 
-first_in_range : (path : List ℕ) (tree : PluggedMap) → IsStrictlySortedBy path_cmp (keys_of tree) → first_of path (from_on path tree) ≡ first_through path tree
+first_in_range : (path : List ℕ) (tree : PluggedMap) → IsStrictlySortedBy path_cmp (keys_of tree) → first_through_range path (from_on path tree) ≡ first_through path tree
 unfolding first_through IsStrictlySortedBy
 first_in_range path [] sorted = refl
 first_in_range path (place ∷ tree) sorted = by (cases_Bool (is_le (path_cmp path place.0))) (cases_Bool (through path place.0)) (first_in_range path tree sorted.1)
   where
     by : (is_le (path_cmp path place.0) ≡ true) ⊎ (is_le (path_cmp path place.0) ≡ false) → (through path place.0 ≡ true) ⊎ (through path place.0 ≡ false)
-        → first_of path (from_on path tree) ≡ first_through path tree → first_of path (from_on path (place ∷ tree)) ≡ first_through path (place ∷ tree)
+        → first_through_range path (from_on path tree) ≡ first_through path tree → first_through_range path (from_on path (place ∷ tree)) ≡ first_through path (place ∷ tree)
     by (inl le) (inl h) rest = rw (le, h) refl
     by (inl le) (inr h) rest = rw (le, h) (sym (none_after path place.0 tree le h sorted.0))
     by (inr gt) (inl h) rest = let bad = sym (through_after path place.0 h) ∙ gt in cc
     by (inr gt) (inr h) rest = rw (gt, h) rest
 
 -- the first place through a path is looked for from the path on alone
-pub first_found : (path start : List ℕ) (places tree range : PluggedMap) → start ≡ path → places ≡ tree → IsStrictlySortedBy path_cmp (keys_of places) → range ≡ entries_between path_cmp (Included start) Unbounded places → first_of path range ≡ first_through path tree
-first_found path start places tree range same is sorted r = rw (r, same) (first_in_range path places sorted ∙ ap (first_through path) is)
+pub first_of-found : (path start : List ℕ) (places tree range : PluggedMap) → start ≡ path → places ≡ tree → IsStrictlySortedBy path_cmp (keys_of places) → range ≡ entries_between path_cmp (Included start) Unbounded places → first_through_range path range ≡ first_through path tree
+first_of-found path start places tree range same is sorted r = rw (r, same) (first_in_range path places sorted ∙ ap (first_through path) is)
 
 -- where no place goes through the path, nothing is unplugged
 pub none_unplugged : (path : List ℕ) (tree : PluggedMap) → first_through path tree ≡ None → plugged_without path tree ≡ tree

@@ -81,13 +81,13 @@ unfoldable pub keys_of : OtherKeys → Members → Result (Unit {0}) EntryFault
 keys_of keys ms = keys_at (event_keys (other_names keys)) ms
 
 -- the same by what stands at the keys: no other key, and nothing at those that do not go with `do`
-unfoldable pub fits : OtherKeys → EventValues → Bool
-fits Alone v =
+unfoldable pub verb_fits : OtherKeys → EventValues → Bool
+verb_fits Alone v =
     not v.has_others && is_none v.packets && is_none v.bytes && is_none v.device && is_none v.path
-fits Path v = not v.has_others && is_none v.packets && is_none v.bytes && is_none v.device
-fits PathDevice v = not v.has_others && is_none v.packets && is_none v.bytes
-fits PathBytes v = not v.has_others && is_none v.packets && is_none v.device
-fits PathPackets v = not v.has_others && is_none v.bytes && is_none v.device
+verb_fits Path v = not v.has_others && is_none v.packets && is_none v.bytes && is_none v.device
+verb_fits PathDevice v = not v.has_others && is_none v.packets && is_none v.bytes
+verb_fits PathBytes v = not v.has_others && is_none v.packets && is_none v.device
+verb_fits PathPackets v = not v.has_others && is_none v.bytes && is_none v.device
 
 unfoldable pub keys_given : OtherKeys → EventValues → Result (Unit {0}) EntryFault
-keys_given keys v = if fits keys v then Ok tt else Err BadValue
+keys_given keys v = if verb_fits keys v then Ok tt else Err BadValue

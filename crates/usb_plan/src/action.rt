@@ -2,7 +2,7 @@
 
 ghost use Rattle.std.specs.Prelude.{◌≡◌, ◌≤◌, option_map};
 ghost use Rattle.toml.specs.View.{view};
-ghost use Rattle.usb_plan.specs.Action.{device_index_at, bytes_at, packets_at, plug, send, receive, plug_of, unplug_of, send_of, receive_of, clear_of, fits, keys_given};
+ghost use Rattle.usb_plan.specs.Action.{device_index_at, bytes_at, packets_at, plug, send, receive, plug_of, unplug_of, send_of, receive_of, clear_of, verb_fits, keys_given};
 ghost use Rattle.usb_plan.specs.EventMembers.{found};
 ghost use Rattle.usb_plan.specs.EntryFault.{EqualUnless};
 ghost use Rattle.usb_plan.specs.declared.entry_fault.EntryFault.TheVariants.{Memory};
@@ -148,9 +148,9 @@ pub(crate) enum OtherKeys {
 }
 
 /// Whether each key that is there is one of those, `do` or `after`.
-#[tactic(auto, unfolding(crate::specs::Action::fits))]
+#[tactic(auto, unfolding(crate::specs::Action::verb_fits))]
 fn fits(keys: OtherKeys, members: &EventMembers<'_>) -> bool
-    ensures { result ≡ fits keys (found members.now) }
+    ensures { result ≡ verb_fits keys (found members.now) }
 {
     let known = !members.has_others;
     let no_device = members.device.is_none();

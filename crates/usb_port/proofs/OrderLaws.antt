@@ -18,12 +18,12 @@ taken_if true x y h = (refl, h)
 taken_if false x y h = cc
 
 -- what a path goes on with
-abbrev GoesOn : List ℕ → List ℕ → Type 0
-GoesOn p q = (rest : List ℕ) × (p ≡ q ++ rest) × (1 ≤ length rest)
+abbrev IsExtension : List ℕ → List ℕ → Type 0
+IsExtension p q = (rest : List ℕ) × (p ≡ q ++ rest) × (1 ≤ length rest)
 
-goes_on : (p q : List ℕ) → is_below p q ≡ true → GoesOn p q
+below_extends : (p q : List ℕ) → is_below p q ≡ true → IsExtension p q
 unfolding is_below
-goes_on p q h =
+below_extends p q h =
     let parts = and_parts (nat_lt (length q) (length p)) _ h in
     let shorter : length q < length p = ltb-true (length q) (length p) parts.0 in
     let front : q ≡ take (length q) p = same_text q (take (length q) p) (sym parts.1) in
@@ -35,7 +35,7 @@ same_test : (q : List ℕ) (r : Bool) → r ≡ pointwise nat_eq q q → r ≡ t
 same_test q true h = refl
 same_test q false h = absurd (told_text q q false h refl)
 
-below_if : (p q : List ℕ) → GoesOn p q → is_below p q ≡ true
+below_if : (p q : List ℕ) → IsExtension p q → is_below p q ≡ true
 unfolding is_below
 below_if p q (rest, whole, some) =
     let size : length p ≡ length q + length rest = ap length whole ∙ length-append q rest in
@@ -44,8 +44,8 @@ below_if p q (rest, whole, some) =
     and_from (nat_lt (length q) (length p)) _ (lt-ltb (length q) (length p) shorter)
     (rw front (same_test q (pointwise nat_eq q q) refl))
 
-pub below : (p q : List ℕ) → IsTrue (is_below p q) ↔ GoesOn p q
-below p q = (goes_on p q, below_if p q)
+pub is_below-extension : (p q : List ℕ) → IsTrue (is_below p q) ↔ IsExtension p q
+is_below-extension p q = (below_extends p q, below_if p q)
 
 front_first : (q : List ℕ) (r : ℕ) (rest : List ℕ) → path_cmp q (q ++ r ∷ rest) ≡ Less
 front_first [] r rest = refl
@@ -55,8 +55,8 @@ goes_on_after : (p q rest : List ℕ) → p ≡ q ++ rest → 1 ≤ length rest 
 goes_on_after p q [] whole some = absurd (omega (arith, some))
 goes_on_after p q (r ∷ rest) whole some = rw whole (front_first q r rest)
 
-pub before : (p q : List ℕ) → IsTrue (is_below p q) → path_cmp q p ≡ Less
-before p q h = let on = goes_on p q h in goes_on_after p q on.0 on.1 on.2
+pub below_is_after : (p q : List ℕ) → IsTrue (is_below p q) → path_cmp q p ≡ Less
+below_is_after p q h = let on = below_extends p q h in goes_on_after p q on.0 on.1 on.2
 
 pub parent : (p : List ℕ) (n : ℕ) → 1 ≤ length p → parent_of (p ++ n ∷ []) ≡ Some p
 unfolding parent_of
@@ -66,27 +66,27 @@ parent p n some =
     let less : length (p ++ n ∷ []) - 1 ≡ length p = omega (arith, size) in
     rw (long, less) (ap Some (take-append_seam p (n ∷ [])))
 
-pub port : (p : List ℕ) (n : ℕ) → port_on_hub (p ++ n ∷ []) ≡ n
+pub port_on_hub-push : (p : List ℕ) (n : ℕ) → port_on_hub (p ++ n ∷ []) ≡ n
 unfolding port_on_hub
-port p n =
+port_on_hub-push p n =
     let size : length (p ++ n ∷ []) ≡ length p + 1 = length-append p (n ∷ []) in
     let less : length (p ++ n ∷ []) - 1 ≡ length p = omega (arith, size) in
     rw less (get_or-append_seam p n [] 0)
 
-record Cut (p q : List ℕ) : Type 0 where
+record ParentIsFront (p q : List ℕ) : Type 0 where
   long : 1 < length p
   front : q ≡ take (length p - 1) p
 
-cut : (p q : List ℕ) → parent_of p ≡ Some q → Cut p q
+parent_of-front : (p q : List ℕ) → parent_of p ≡ Some q → ParentIsFront p q
 unfolding parent_of
-cut p q h =
+parent_of-front p q h =
     let taken = taken_if (nat_lt 1 (length p)) _ q h in
     record { long = ltb-true 1 (length p) taken.0; front = cc taken.1 }
 
 pub rejoined : (p q : List ℕ) → parent_of p ≡ Some q → p ≡ q ++ port_on_hub p ∷ []
 unfolding port_on_hub
 rejoined p q h =
-    let c = cut p q h in
+    let c = parent_of-front p q h in
     let long = c.long in
     let more = take_more p (length p - 1) 0 (omega (arith, long)) in
     let all : length p - 1 + 1 ≡ length p = omega (arith, long) in
@@ -94,7 +94,7 @@ rejoined p q h =
 
 pub is_path : (p q : List ℕ) → IsPath p → parent_of p ≡ Some q → IsPath q
 is_path p q h e =
-    let c = cut p q e in
+    let c = parent_of-front p q e in
     let long = c.long in
     let again = rejoined p q e in
     let size : length p ≡ length q + 1 = ap length again ∙ length-append q (port_on_hub p ∷ []) in
@@ -149,6 +149,6 @@ worth_rises (suc k) (x ∷ p) (y ∷ q) all_p all_q short_p short_q less =
       ]
     ]
 
-pub rises : (p q : List ℕ) → IsPath p → IsPath q → path_cmp p q ≡ Less → rank_of p < rank_of q
+pub rank_of-less : (p q : List ℕ) → IsPath p → IsPath q → path_cmp p q ≡ Less → rank_of p < rank_of q
 unfolding rank_of
-rises p q h i less = worth_rises 7 p q h.2 i.2 h.1 i.1 less
+rank_of-less p q h i less = worth_rises 7 p q h.2 i.2 h.1 i.1 less

@@ -11,8 +11,8 @@ use Rattle.usb_resources.specs.Pool.{IsAddress, IsFull, HasAddresses, Takes, Rel
 tied : (a b : ℕ) → a ≡ b → eq_by_cmp nat_cmp a b ≡ true
 tied a b e = unsigned_tied a b ∙ eq-eqb a b e
 
-apart : (a b : ℕ) → a ≢ b → eq_by_cmp nat_cmp a b ≡ false
-apart a b ne = unsigned_tied a b ∙ ne_eqb a b ne
+eq_by_cmp-apart : (a b : ℕ) → a ≢ b → eq_by_cmp nat_cmp a b ≡ false
+eq_by_cmp-apart a b ne = unsigned_tied a b ∙ ne_eqb a b ne
 
 -- nothing below the first number
 unmarked : (i : ℕ) (marks : List Bool) (q : ℕ) → q < i → contains (marked_from i marks) q ≡ false
@@ -20,7 +20,7 @@ unfolding marked_from
 unmarked i [] q lt = contains-empty nat_cmp q
 unmarked i (true ∷ marks) q lt =
     contains-insert nat_cmp_total (marked_from (i + 1) marks) i q
-    ∙ rw (apart q i (omega (arith, lt))) (unmarked (i + 1) marks q (omega (arith, lt)))
+    ∙ rw (eq_by_cmp-apart q i (omega (arith, lt))) (unmarked (i + 1) marks q (omega (arith, lt)))
 unmarked i (false ∷ marks) q lt = unmarked (i + 1) marks q (omega (arith, lt))
 
 contains_from : (i : ℕ) (marks : List Bool) (k : ℕ) → contains (marked_from i marks) (i + k) ≡ get_or marks k false
@@ -31,7 +31,7 @@ contains_from i (false ∷ marks) zero = unmarked (i + 1) marks (i + 0) (omega a
 contains_from i (true ∷ marks) (suc k) =
     let next : i + suc k ≡ i + 1 + k = omega arith in
     contains-insert nat_cmp_total (marked_from (i + 1) marks) i (i + suc k)
-    ∙ rw (apart (i + suc k) i (omega arith)) (ap (contains (marked_from (i + 1) marks)) next ∙ contains_from (i + 1) marks k)
+    ∙ rw (eq_by_cmp-apart (i + suc k) i (omega arith)) (ap (contains (marked_from (i + 1) marks)) next ∙ contains_from (i + 1) marks k)
 contains_from i (false ∷ marks) (suc k) =
     let next : i + suc k ≡ i + 1 + k = omega arith in
     ap (contains (marked_from (i + 1) marks)) next ∙ contains_from (i + 1) marks k
@@ -58,7 +58,7 @@ marks_insert marks a q lt =
     elim (cases_order q a) [
       | inl same ↦ ap (λ n. get_or (set marks a true) n false) same ∙ get_or-set_same marks a true false lt ∙ rw (tied q a same) refl
       | inr other ↦ let ne : q ≢ a = λ e. elim other [ inl less ↦ omega (arith, less, e) | inr more ↦ omega (arith, more, e) ] in
-          get_or-set_other marks a q true false ne ∙ rw (apart q a ne) refl
+          get_or-set_other marks a q true false ne ∙ rw (eq_by_cmp-apart q a ne) refl
     ]
 
 -- one mark is taken off
@@ -67,7 +67,7 @@ marks_remove marks a q lt =
     elim (cases_order q a) [
       | inl same ↦ ap (λ n. get_or (set marks a false) n false) same ∙ get_or-set_same marks a false false lt ∙ rw (tied q a same) refl
       | inr other ↦ let ne : q ≢ a = λ e. elim other [ inl less ↦ omega (arith, less, e) | inr more ↦ omega (arith, more, e) ] in
-          get_or-set_other marks a q false false ne ∙ rw (apart q a ne) refl
+          get_or-set_other marks a q false false ne ∙ rw (eq_by_cmp-apart q a ne) refl
     ]
 
 addresses_marked-insert : (marks : List Bool) (a : ℕ) → a < length marks → addresses_marked (set marks a true) ≡ insert (addresses_marked marks) a
@@ -88,8 +88,8 @@ set_back [] a free = refl
 set_back (m ∷ marks) zero free = ap (λ b. b ∷ marks) (sym free)
 set_back (m ∷ marks) (suc a) free = ap (λ l. m ∷ l) (set_back marks a free)
 
-pub takes : (marks : List Bool) (a : ℕ) → length marks ≡ 128 → IsLeastUnset marks a → Takes (addresses_marked marks) a (addresses_marked (set marks a true))
-takes marks a size is =
+pub marks_take : (marks : List Bool) (a : ℕ) → length marks ≡ 128 → IsLeastUnset marks a → Takes (addresses_marked marks) a (addresses_marked (set marks a true))
+marks_take marks a size is =
     let most = is.range.1 in
     let lt : a < length marks = omega (arith, size, most) in
     record {

@@ -5,7 +5,7 @@ use Rattle.usb_world.specs.declared.event.Ask.{Ask}
 use Rattle.usb_world.specs.declared.event.Ask.TheVariants.{Show, Send, Receive, Clear}
 use Rattle.usb_host.specs.declared.fault.HostFault.{HostFault}
 use Rattle.usb_host.specs.HostCalls.{ClearTells, ReceiveTells, SendTells}
-use Rattle.usb_host.specs.Hosting.{Hosting}
+use Rattle.usb_host.specs.HostState.{HostState}
 use Rattle.usb_serve.specs.declared.runs.Item.{Item}
 use Rattle.usb_serve.specs.declared.runs.Item.TheVariants.{Sent, Received, Cleared}
 use Rattle.usb_serve.specs.declared.runs.RunFault.{RunFault}
@@ -14,21 +14,21 @@ use Rattle.usb_serve.specs.Run.{listing_of}
 use Rattle.usb_serve.specs.Transfers.{IsItemOf, StopsAt, Transfers, sent_count}
 
 -- no item, a listing, or what a transfer came to
-pub data Answered (due : Option Ask) (item : Option Item) (old new : Hosting) : Type 0 where
-  silent : item ≡ None → new ≡ old → Answered due item old new
-  listed : due ≡ Some Show → item ≡ Some (listing_of new) → new ≡ old → Answered due item old new
+pub data AskAnswered (due : Option Ask) (item : Option Item) (old new : HostState) : Type 0 where
+  silent : item ≡ None → new ≡ old → AskAnswered due item old new
+  listed : due ≡ Some Show → item ≡ Some (listing_of new) → new ≡ old → AskAnswered due item old new
   sent : (path bytes : List ℕ) (told : Result (Unit {0}) TransferFault) → due ≡ Some (Send path bytes)
       → item ≡ Some (Sent path (sent_count (length bytes) told))
-      → Transfers (SendTells path bytes) old told new → Answered due item old new
+      → Transfers (SendTells path bytes) old told new → AskAnswered due item old new
   received : (path : List ℕ) (packets : ℕ) (told : Result (Vec ℕ) TransferFault)
       → due ≡ Some (Receive path packets) → item ≡ Some (Received path told)
-      → Transfers (ReceiveTells path packets) old told new → Answered due item old new
+      → Transfers (ReceiveTells path packets) old told new → AskAnswered due item old new
   cleared : (path : List ℕ) (told : Result (Unit {0}) TransferFault) → due ≡ Some (Clear path)
       → item ≡ Some (Cleared path told) → Transfers (ClearTells path) old told new
-      → Answered due item old new
+      → AskAnswered due item old new
 
-pub answered : (due : Option Ask) (item : Option Item) (old new : Hosting) → IsItemOf due item old new
-    → Answered due item old new
+pub answered : (due : Option Ask) (item : Option Item) (old new : HostState) → IsItemOf due item old new
+    → AskAnswered due item old new
 answered None item old new is = silent is.0 is.1
 answered (Some Show) item old new is = listed refl is.0 is.1
 answered (Some (Send path bytes)) item old new is = sent path bytes is.0 refl is.1 is.2
@@ -36,7 +36,7 @@ answered (Some (Receive path packets)) item old new is = received path packets i
 answered (Some (Clear path)) item old new is = cleared path is.0 refl is.1 is.2
 
 -- no call of the host, or one
-pub data Calls (due : Option Ask) (old new : Hosting) : Type 0 where
+pub data Calls (due : Option Ask) (old new : HostState) : Type 0 where
   no_call : new ≡ old → Calls due old new
   sends : (path bytes : List ℕ) (result : Result (Unit {0}) HostFault) → due ≡ Some (Send path bytes)
       → SendTells path bytes old result new → Calls due old new
@@ -45,7 +45,7 @@ pub data Calls (due : Option Ask) (old new : Hosting) : Type 0 where
   clears : (path : List ℕ) (result : Result (Unit {0}) HostFault) → due ≡ Some (Clear path)
       → ClearTells path old result new → Calls due old new
 
-pub item_calls : {due : Option Ask} {item : Option Item} {old new : Hosting} → Answered due item old new
+pub item_calls : {due : Option Ask} {item : Option Item} {old new : HostState} → AskAnswered due item old new
     → Calls due old new
 item_calls (silent none same) = no_call same
 item_calls (listed asks is same) = no_call same
@@ -53,7 +53,7 @@ item_calls (sent path bytes told asks is came) = sends path bytes came.answer as
 item_calls (received path packets told asks is came) = receives path packets came.answer asks came.call
 item_calls (cleared path told asks is came) = clears path came.answer asks came.call
 
-pub stop_calls : (due : Option Ask) (fault : RunFault) (old new : Hosting) → StopsAt due fault old new
+pub stop_calls : (due : Option Ask) (fault : RunFault) (old new : HostState) → StopsAt due fault old new
     → Calls due old new
 stop_calls None fault old new stops = absurd stops
 stop_calls (Some Show) fault old new stops = no_call stops.1

@@ -5,7 +5,7 @@ use Rattle.usb_world.specs.declared.types.BusFault.{BusFault}
 use Rattle.usb_world.specs.declared.types.BusFault.TheVariants as bus
 use Rattle.usb_world.specs.Steps.{LineEnds, PutLine}
 use Rattle.usb_world.specs.World.{World}
-use Rattle.usb_host.specs.Hosting.{Hosting}
+use Rattle.usb_host.specs.HostState.{HostState}
 use Rattle.usb_serve.specs.declared.runs.Item.{Item}
 use Rattle.usb_serve.specs.declared.runs.RunFault.{RunFault}
 use Rattle.usb_serve.specs.declared.runs.RunFault.TheVariants.{TraceFailed}
@@ -41,34 +41,34 @@ is_write serve.Write = inl refl
 is_write serve.Memory = inr (λ e. cc e)
 
 -- where another fault is told of lines, none of them was written: the bus had told its fault before the first one
-pub line_kept : (fault : BusFault) (said : ServeFault) (first h l : Hosting) → PutLine h.world (Err fault) l.world → (IsSome h.world.fault → l ≡ h) → (h ≡ first) ⊎ (h.world.fault ≡ None) → said ≡ report_fault fault → said ≢ serve.Write → l ≡ first
+pub line_kept : (fault : BusFault) (said : ServeFault) (first h l : HostState) → PutLine h.world (Err fault) l.world → (IsSome h.world.fault → l ≡ h) → (h ≡ first) ⊎ (h.world.fault ≡ None) → said ≡ report_fault fault → said ≢ serve.Write → l ≡ first
 line_kept fault said first h l step again calm is other = split h.world.fault refl
   where
     split : (x : Option BusFault) → h.world.fault ≡ x → l ≡ first
     split None e = absurd (other (is ∙ ap report_fault (step.told e)))
     split (Some before) e = again (ap is_some e) ∙ elim calm [ inl same ↦ same | inr none ↦ absurd (cc (sym none ∙ e)) ]
 
-pub line_calm : (first h l : Hosting) → LineEnds h.world (Ok tt) l.world → (l ≡ first) ⊎ (l.world.fault ≡ None)
+pub line_calm : (first h l : HostState) → LineEnds h.world (Ok tt) l.world → (l ≡ first) ⊎ (l.world.fault ≡ None)
 line_calm first h l (none, same) = inr (ap (λ (w : World). w.fault) same ∙ none)
 
 -- The limit stays
 
-abbrev SameLimit : Hosting → Hosting → Type 0
+abbrev SameLimit : HostState → HostState → Type 0
 SameLimit old new = new.world.limit ≡ old.world.limit
 
-spent_limit : (a b : Hosting) → Spent a b → SameLimit a b
+spent_limit : (a b : HostState) → Spent a b → SameLimit a b
 spent_limit a b (n, spends) = spends.limit
 
-transcript_limit : {mode : Mode} {was : Bool} {old : Hosting} {items : List Item} {over : Bool} {new : Hosting} → Transcript mode was old items over new → SameLimit old new
+transcript_limit : {mode : Mode} {was : Bool} {old : HostState} {items : List Item} {over : Bool} {new : HostState} → Transcript mode was old items over new → SameLimit old new
 transcript_limit begun = refl
-transcript_limit (told {h = h} {k = k} {new = new} t makes puts) = ap (λ (x : Hosting). x.world.limit) puts.rest ∙ spent_limit h k (makes_spent makes) ∙ transcript_limit t
+transcript_limit (told {h = h} {k = k} {new = new} t makes puts) = ap (λ (x : HostState). x.world.limit) puts.rest ∙ spent_limit h k (makes_spent makes) ∙ transcript_limit t
 
-stopped_limit : {mode : Mode} {IsOf : RunFault → Type 0} {IsCut : Type 0} {was : Bool} {old : Hosting} {items : List Item} {new : Hosting} → StoppedRun mode IsOf IsCut was old items new → SameLimit old new
+stopped_limit : {mode : Mode} {IsOf : RunFault → Type 0} {IsCut : Type 0} {was : Bool} {old : HostState} {items : List Item} {new : HostState} → StoppedRun mode IsOf IsCut was old items new → SameLimit old new
 stopped_limit (on_the_way {h = h} {new = new} of t stops) = spent_limit h new (stops_spent stops) ∙ transcript_limit t
 stopped_limit (unwritten {h = h} {new = new} whole t makes) = spent_limit h new (makes_spent makes) ∙ transcript_limit t
 stopped_limit (behind whole t) = transcript_limit t
-stopped_limit (in_text {h = h} {k = k} {new = new} cut t makes cuts) = ap (λ (x : Hosting). x.world.limit) cuts.rest ∙ spent_limit h k (makes_spent makes) ∙ transcript_limit t
+stopped_limit (in_text {h = h} {k = k} {new = new} cut t makes cuts) = ap (λ (x : HostState). x.world.limit) cuts.rest ∙ spent_limit h k (makes_spent makes) ∙ transcript_limit t
 
-pub run_limit : {A E : Type 0} (mode : Mode) (words : RunFault → E) (CutsAt : E → Type 0) (was : Bool) (old : Hosting) (items : List Item) (result : Result A E) (new : Hosting) → RunsTo mode words CutsAt was old items result new → SameLimit old new
+pub run_limit : {A E : Type 0} (mode : Mode) (words : RunFault → E) (CutsAt : E → Type 0) (was : Bool) (old : HostState) (items : List Item) (result : Result A E) (new : HostState) → RunsTo mode words CutsAt was old items result new → SameLimit old new
 run_limit mode words CutsAt was old items (Ok done) new t = transcript_limit t
 run_limit mode words CutsAt was old items (Err fault) new s = stopped_limit s

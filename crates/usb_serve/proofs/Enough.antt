@@ -6,7 +6,7 @@ use Rattle.std.specs.List.{sum_by}
 use Rattle.usb_world.specs.PlanData.{PlanData}
 use Rattle.usb_host.specs.Budget.{Weights, event_weight}
 use Rattle.usb_host.specs.Plugs.{plug_events}
-use Rattle.usb_host.specs.Hosting.{Hosting}
+use Rattle.usb_host.specs.HostState.{HostState}
 use Rattle.usb_plan.specs.Attempts.{bound_of, enough_for, greatest_total, moved}
 use Rattle.usb_serve.specs.declared.runs.Item.{Item}
 use Rattle.usb_serve.specs.declared.runs.Report.{Report}
@@ -27,7 +27,7 @@ use Rattle.usb_serve.proofs.Sums.{none_enough, within_enough}
 use Rattle.usb_serve.proofs.VoidRuns.{Void, carries_void, opens_void}
 
 -- the attempts of a run, and two more
-run_enough : {A E : Type 0} (mode : Mode) (words : RunFault → E) (CutsAt : E → Type 0) (plan : PlanData) (before : Option (List ℕ)) (first last : Hosting) (items : List Item) (result : Result A E)
+run_enough : {A E : Type 0} (mode : Mode) (words : RunFault → E) (CutsAt : E → Type 0) (plan : PlanData) (before : Option (List ℕ)) (first last : HostState) (items : List Item) (result : Result A E)
     → plug_events plan.events ≤ 127 → Opens plan before first → RunsTo mode words CutsAt false first items result last
     → last.world.attempts + 2 ≤ enough_for (length plan.events) (greatest_total plan.devices plan.events) (sum_by moved plan.events)
 run_enough mode words CutsAt plan before first last items result few opens ends = split (length plan.events) refl
@@ -50,7 +50,7 @@ run_enough mode words CutsAt plan before first last items result few opens ends 
     split (suc n) e = within_enough v w m last.world.attempts (event_weight c) (omega (arith, e)) refl
         (run_few (most_owed c plan + event_weight c) (Paid c plan c.polls) (Paid c plan 0) _ (carries_paid c plan) mode words CutsAt false first items result last ends (opens_paid plan few before first opens))
 
-not_limited : {A E : Type 0} (mode : Mode) (words : RunFault → E) (CutsAt : E → Type 0) (plan : PlanData) (before : Option (List ℕ)) (first last : Hosting) (items : List Item) (result : Result A E)
+not_limited : {A E : Type 0} (mode : Mode) (words : RunFault → E) (CutsAt : E → Type 0) (plan : PlanData) (before : Option (List ℕ)) (first last : HostState) (items : List Item) (result : Result A E)
     → plug_events plan.events ≤ 127 → bound_of plan ≤ plan.limit → Opens plan before first → RunsTo mode words CutsAt false first items result last → last.world.limit ≡ plan.limit
     → IsCaused LimitReached last.world → ⊥
 not_limited mode words CutsAt plan before first last items result few below opens ends limit caused =

@@ -92,16 +92,16 @@ entries_end : (entries : Entries) → AreLines (flat_map entry_lines entries)
 entries_end [] = tt
 entries_end (entry ∷ entries) = lines_then (entry_lines entry) _ (finding_ends entry.0 entry.1) (entries_end entries)
 
-number_ends : (number : ℕ) → IsLine (listing_line number)
+listing_line-is_line : (number : ℕ) → IsLine (listing_line number)
 unfolding listing_line
-number_ends number = line_end (codes "listing " ++ decimal number)
+listing_line-is_line number = line_end (codes "listing " ++ decimal number)
 
 listing_ends : (number : ℕ) (entries : Entries) → AreLines (listing_lines number entries)
 unfolding listing_lines
 listing_ends number entries =
     let first = listing_line number ∷ [] in
     let all = flat_map entry_lines entries in
-    lines_then (first ++ all) (codes "end\n" ∷ []) (lines_then first all (number_ends number, tt) (entries_end entries)) (ends_line [] (codes "end"), tt)
+    lines_then (first ++ all) (codes "end\n" ∷ []) (lines_then first all (listing_line-is_line number, tt) (entries_end entries)) (ends_line [] (codes "end"), tt)
 
 sent_ends : (path : List ℕ) (sent : Result ℕ TransferFault) → IsLine (sent_line path sent)
 unfolding sent_line

@@ -7,22 +7,22 @@ use Rattle.usb_world.specs.declared.types.BusFault.TheVariants.{LimitReached, Me
 use Rattle.usb_world.specs.PlanData.{PlanData}
 use Rattle.usb_world.specs.Steps.{TookEvent, after, event, opening}
 use Rattle.usb_world.specs.World.{World}
-use Rattle.usb_address.specs.Ownership.{Owned, TillFault}
+use Rattle.usb_address.specs.Ownership.{MapHolds, WhileBusWorks}
 use Rattle.usb_address.proofs.Interface.{event_keeps, opening_reach, opening_settled}
-use Rattle.usb_host.specs.Hosting.{Hosting}
-use Rattle.usb_host.specs.Ownership.{IsUntouched, Owning, claims}
+use Rattle.usb_host.specs.HostState.{HostState}
+use Rattle.usb_host.specs.Ownership.{IsUntouched, HostMapHolds, claims}
 
 -- before anything came, nothing is reachable
 pub untouched : (plan : PlanData) → IsUntouched (opening plan)
 untouched plan = record { single = refl; settled = opening_settled plan; none = opening_reach plan }
 
 -- what an event leaves of a host, whose bus stands for the world `mid` before it
-pub owning_event : (h : Hosting) (mid v : World) (t : Option (List ℕ)) (result : Result (Option (Option Ask)) BusFault) → mid ≡ h.world → h.stopped ≡ false → TookEvent mid result v
+pub owning_event : (h : HostState) (mid v : World) (t : Option (List ℕ)) (result : Result (Option (Option Ask)) BusFault) → mid ≡ h.world → h.stopped ≡ false → TookEvent mid result v
     → OnOk result (v ≡ after event mid)
     → (result ≡ Err Memory → mid.fault ≡ None → v ≡ record mid { fault = Some Memory })
     → (result ≡ Err TraceFailed → mid.fault ≡ None → v ≡ record (after event mid) { fault = Some TraceFailed })
-    → (result ≡ Err LimitReached → IsSome mid.fault) → Owning h → Owning (record h { world = v; trace = t })
+    → (result ≡ Err LimitReached → IsSome mid.fault) → HostMapHolds h → HostMapHolds (record h { world = v; trace = t })
 owning_event h mid v t result same running took exact refused cut limit o =
-    let before : TillFault (Owned (claims h.entries)) mid = subst (λ w. TillFault (Owned (claims h.entries)) w) (sym same) (o.owned running) in
-    let kept : TillFault (Owned (claims h.entries)) v = (event_keeps mid result v took exact refused cut (λ reached none. cc (ap is_some none, limit reached))).kept (claims h.entries) before in
+    let before : WhileBusWorks (MapHolds (claims h.entries)) mid = subst (λ w. WhileBusWorks (MapHolds (claims h.entries)) w) (sym same) (o.owned running) in
+    let kept : WhileBusWorks (MapHolds (claims h.entries)) v = (event_keeps mid result v took exact refused cut (λ reached none. cc (ap is_some none, limit reached))).kept (claims h.entries) before in
     record { single = kept.single; owned = λ _. kept }

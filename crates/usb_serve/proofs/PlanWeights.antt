@@ -15,7 +15,7 @@ use Rattle.usb_world.specs.World.{change_of, changes}
 use Rattle.usb_backlog.specs.Marks.{PortMark, after_first, looks_by, strays_by}
 use Rattle.usb_enum.specs.TextLengths.{PlugsWithin}
 use Rattle.usb_host.specs.Budget.{Weights}
-use Rattle.usb_host.specs.Hosting.{with_power}
+use Rattle.usb_host.specs.HostState.{with_power}
 use Rattle.usb_plan.specs.Attempts.{bound_of, enough_for, greatest_total, moved, plugged_total, total_after, total_at}
 use Rattle.usb_serve.proofs.Sums.{uncut}
 
@@ -34,11 +34,11 @@ action_within most devices (Change (Plug path device)) h = at_within most (slice
 action_within most devices (Change (Unplug path)) h = tt
 action_within most devices (Ask ask) h = tt
 
-pub totals_within : (most : ℕ) (devices : List Spec) (events : List Event) → greatest_total devices events ≤ most → All (λ e. PlugsWithin most devices e.action) events
+pub greatest_total-plugs : (most : ℕ) (devices : List Spec) (events : List Event) → greatest_total devices events ≤ most → All (λ e. PlugsWithin most devices e.action) events
 unfolding greatest_total plugged_total
-totals_within most devices [] h = All-nil (λ (e : Event). PlugsWithin most devices e.action)
-totals_within most devices (e ∷ events) h =
-    All-cons (λ (x : Event). PlugsWithin most devices x.action) e events (action_within most devices e.action (omega (arith, h))) (totals_within most devices events (omega (arith, h)))
+greatest_total-plugs most devices [] h = All-nil (λ (e : Event). PlugsWithin most devices e.action)
+greatest_total-plugs most devices (e ∷ events) h =
+    All-cons (λ (x : Event). PlugsWithin most devices x.action) e events (action_within most devices e.action (omega (arith, h))) (greatest_total-plugs most devices events (omega (arith, h)))
 
 -- The bound is not cut off where it is within the limit
 

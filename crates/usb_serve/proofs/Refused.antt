@@ -6,11 +6,11 @@ use Rattle.usb_device.specs.Rows.{fresh}
 use Rattle.usb_device.specs.Tree.{changed_at, new_ports, row_of}
 use Rattle.usb_world.specs.PlanData.{PlanData}
 use Rattle.usb_world.specs.World.{World, change_of, changes, root_row}
-use Rattle.usb_world.specs.Steps.{after, event, opening, took}
+use Rattle.usb_world.specs.Steps.{after, event, opening, after_event}
 use Rattle.usb_world.specs.declared.event.Action.TheVariants as act
 use Rattle.usb_world.specs.declared.event.Change.TheVariants as change
 use Rattle.usb_world.specs.declared.event.Ask.{Ask}
-use Rattle.usb_host.specs.Hosting.{Hosting, opening_host as host_opening, with_power}
+use Rattle.usb_host.specs.HostState.{HostState, opening_host as host_opening, with_power}
 use Rattle.usb_plan.specs.declared.fault.PlanFault.{PlanFault}
 use Rattle.usb_plan.specs.declared.fault.PlanFault.TheVariants as plan_fault
 use Rattle.usb_plan.specs.Plan.{spelled_plan}
@@ -25,7 +25,7 @@ use Rattle.usb_serve.specs.ServedRuns.{EndsWell, IsServed, IsUnread, IsWritten, 
 -- Events before their time
 
 -- behind an event at most one root port has its change of connection set, since the host had served all others
-pub arrives_one : {a b : Hosting} {due : Option Ask} → Arrives a (Ok (Some due)) b → changes (root_row b.world) ≤ 1
+pub arrives_one : {a b : HostState} {due : Option Ask} → Arrives a (Ok (Some due)) b → changes (root_row b.world) ≤ 1
 arrives_one {a} {b} {due} arrives =
     let settles = arrives.settles in
     let quiet = settles.last.did.did.quiet settles.ends.quiet in
@@ -47,27 +47,27 @@ two_plugs = record {
 }
 
 -- the host of its bus
-abbrev first : Hosting
-first = host_opening (opening two_plugs) None
+abbrev refused_host : HostState
+refused_host = host_opening (opening two_plugs) None
 
-abbrev both : World
-both = after event (after event first.world)
+abbrev refused_world : World
+refused_world = after event (after event refused_host.world)
 
-both_set : changes (root_row both) ≡ 2
-unfolding after took new_ports with_power changed_at fresh row_of changes change_of
+both_set : changes (root_row refused_world) ≡ 2
+unfolding after after_event new_ports with_power changed_at fresh row_of changes change_of
 both_set = refl
 
-both_came : both.taken ≡ 2
-unfolding after took new_ports with_power changed_at fresh row_of
+both_came : refused_world.taken ≡ 2
+unfolding after after_event new_ports with_power changed_at fresh row_of
 both_came = refl
 
 -- both plugs at once are no part of a run: the second comes only once the host has settled behind the first
-pub both_at_once : (k : Hosting) → k.world ≡ both → Ran first k → ⊥
+pub both_at_once : (k : HostState) → k.world ≡ refused_world → Ran refused_host k → ⊥
 both_at_once k is idle = absurd (omega (arith, ap (λ (w : World). w.taken) is ∙ both_came))
 both_at_once k is (silent due before arrives none) = absurd (omega (arith, arrives_one arrives, ap (λ (w : World). changes (root_row w)) is ∙ both_set))
 
 -- nor do they come before an event that asks for an item
-pub both_before : (due : Option Ask) (k : Hosting) → k.world ≡ both → Reaches first (Ok (Some due)) k → ⊥
+pub both_before : (due : Option Ask) (k : HostState) → k.world ≡ refused_world → Reaches refused_host (Ok (Some due)) k → ⊥
 both_before due k is reaches = absurd (omega (arith, arrives_one reaches.arrives, ap (λ (w : World). changes (root_row w)) is ∙ both_set))
 
 -- Faults without a cause
@@ -80,14 +80,14 @@ limit_reached plan (inr runs) = (runs.last.world, runs.finishes.caused.0 ∙ run
 abbrev failed : ServeFault → Result (Unit {0}) ServeFault
 failed fault = Err fault
 
-same_fault : (f g : ServeFault) → failed f ≡ failed g → g ≡ f
-same_fault f g e = cc e
+failed-injective : (f g : ServeFault) → failed f ≡ failed g → g ≡ f
+failed-injective f g e = cc e
 
 -- of a text that is a plan no fault of a text is told, but for memory
 pub no_text_fault : (mode : Mode) (t : List ℕ) (plan : PlanData) (fault : PlanFault) (before now : Option (List ℕ)) → IsUtf8 t → spelled_plan t ≡ Ok plan → fault ≢ plan_fault.Memory
     → IsServed mode (Some t) before (Err (serve.Plan fault)) now → ⊥
 no_text_fault mode t plan fault before now utf8 good other (unread f is why same) =
-    let no = subst (IsUnread (Some t)) (same_fault (serve.Plan fault) f is) why in
+    let no = subst (IsUnread (Some t)) (failed-injective (serve.Plan fault) f is) why in
     cc (good, no.spelled utf8 other)
 no_text_fault mode t plan fault before now utf8 good other (of_plan p spelled of_run written enough) = of_run
 

@@ -11,11 +11,11 @@ use Rattle.usb_table.specs.declared.pipes.Pipes.{Pipes}
 use Rattle.usb_table.specs.Deliveries.{Delivered, Collected, Restarted, bytes_in}
 use Rattle.usb_table.proofs.Interface.{sent_delivers, received_collects, cleared_restarts}
 use Rattle.usb_host.specs.declared.fault.HostFault.{HostFault}
-use Rattle.usb_host.specs.Hosting.{Hosting}
+use Rattle.usb_host.specs.HostState.{HostState}
 use Rattle.usb_host.specs.Ownership.{claims}
-use Rattle.usb_host.specs.Soundness.{IsSound}
+use Rattle.usb_host.specs.Soundness.{HostInvariant}
 use Rattle.usb_host.specs.ToldFaults.{host_told}
-use Rattle.usb_host.specs.Transfers.{HandsOn, table_in}
+use Rattle.usb_host.specs.Transfers.{MovesThrough, table_in}
 use Rattle.usb_serve.specs.declared.runs.RunFault.{RunFault}
 use Rattle.usb_serve.specs.declared.transfer.TransferFault.{TransferFault}
 use Rattle.usb_host.specs.HostCalls.{ClearTells, ReceiveTells, SendTells}
@@ -23,38 +23,38 @@ use Rattle.usb_serve.specs.Transfers.{Transfers, transfer_ended, failed, sent_co
 
 -- What is told of an answer of the table's
 
-abbrev Tells : {A : Type 0} → Result A EndpointFault → Result A TransferFault → Type 0
-Tells (Ok x) told = told ≡ Ok x
-Tells (Err fault) told = (why : TransferFault) × (told ≡ Err why)
+abbrev TransferReported : {A : Type 0} → Result A EndpointFault → Result A TransferFault → Type 0
+TransferReported (Ok x) told = told ≡ Ok x
+TransferReported (Err fault) told = (why : TransferFault) × (told ≡ Err why)
 
-fault_told : {A : Type 0} (fault : Result TransferFault RunFault) (told : Result A TransferFault) → failed fault ≡ Ok told → (why : TransferFault) × (told ≡ Err why)
-fault_told (Ok why) told e = (why, cc e)
-fault_told (Err fault) told e = absurd (cc e)
+failed_is_told : {A : Type 0} (fault : Result TransferFault RunFault) (told : Result A TransferFault) → failed fault ≡ Ok told → (why : TransferFault) × (told ≡ Err why)
+failed_is_told (Ok why) told e = (why, cc e)
+failed_is_told (Err fault) told e = absurd (cc e)
 
-answer_told : {A : Type 0} (result : Result A EndpointFault) (told : Result A TransferFault) → transfer_ended (host_told result) ≡ Ok told → Tells result told
+answer_told : {A : Type 0} (result : Result A EndpointFault) (told : Result A TransferFault) → transfer_ended (host_told result) ≡ Ok told → TransferReported result told
 answer_told (Ok x) told e = cc e
-answer_told (Err fault) told e = fault_told _ told e
+answer_told (Err fault) told e = failed_is_told _ told e
 
-done_told : {A : Type 0} (result : Result A EndpointFault) (told : Result A TransferFault) → Tells result told → is_ok result ≡ is_ok told
+done_told : {A : Type 0} (result : Result A EndpointFault) (told : Result A TransferFault) → TransferReported result told → is_ok result ≡ is_ok told
 done_told (Ok x) told e = sym (ap is_ok e)
 done_told (Err fault) told e = sym (ap is_ok e.1)
 
-bytes_told : (result : Result (Vec ℕ) EndpointFault) (told : Result (Vec ℕ) TransferFault) → Tells result told → bytes_in result ≡ bytes_in told
+bytes_told : (result : Result (Vec ℕ) EndpointFault) (told : Result (Vec ℕ) TransferFault) → TransferReported result told → bytes_in result ≡ bytes_in told
 bytes_told (Ok x) told e = sym (ap bytes_in e)
 bytes_told (Err fault) told e = sym (ap bytes_in e.1)
 
 -- after a fault of the bus none is told
-no_bus_fault : {A : Type 0} (result : Result A EndpointFault) (told : Result A TransferFault) → transfer_ended (host_told result) ≡ Ok told → (why : BusFault) → result ≢ Err (Pipe (pipe_fault.Bus why))
+pub no_bus_fault : {A : Type 0} (result : Result A EndpointFault) (told : Result A TransferFault) → transfer_ended (host_told result) ≡ Ok told → (why : BusFault) → result ≢ Err (Pipe (pipe_fault.Bus why))
 no_bus_fault result told e why is = let none = sym (ap (λ r. transfer_ended (host_told r)) is) ∙ e in cc none
 
 -- By a host that goes on, and whose bus is at work
 
-module _ (path : List ℕ) (old new : Hosting) (sound : IsSound old) (still : old.world.fault ≡ None) (running : old.stopped ≡ false) where
+module _ (path : List ℕ) (old new : HostState) (sound : HostInvariant old) (still : old.world.fault ≡ None) (running : old.stopped ≡ false) where
   -- no address was held twice
-  single : {A : Type 0} {Moves : Pipes → World → Result A EndpointFault → Pipes → World → Type 0} {result : Result A HostFault} → HandsOn path Moves old result new → new.world.shared ≡ false
+  single : {A : Type 0} {Moves : Pipes → World → Result A EndpointFault → Pipes → World → Type 0} {result : Result A HostFault} → MovesThrough path Moves old result new → new.world.shared ≡ false
   single x = (x.keeps.worlds.addresses.kept (claims old.entries) sound.owned).single
 
-  ended : {A : Type 0} {Moves : Pipes → World → Result A EndpointFault → Pipes → World → Type 0} {result : Result A HostFault} (told : Result A TransferFault) → (x : HandsOn path Moves old result new) → transfer_ended result ≡ Ok told
+  ended : {A : Type 0} {Moves : Pipes → World → Result A EndpointFault → Pipes → World → Type 0} {result : Result A HostFault} (told : Result A TransferFault) → (x : MovesThrough path Moves old result new) → transfer_ended result ≡ Ok told
       → transfer_ended (host_told x.answer) ≡ Ok told
   ended told x e = sym (ap transfer_ended x.told) ∙ e
 

@@ -6,7 +6,7 @@ use Rattle.usb_world.specs.PlanData.{PlanData}
 use Rattle.usb_world.specs.World.{changes, root_row, to_come}
 use Rattle.usb_host.specs.declared.fault.HostFault.{HostFault}
 use Rattle.usb_host.specs.declared.host.Round.{Round}
-use Rattle.usb_host.specs.Hosting.{Hosting}
+use Rattle.usb_host.specs.HostState.{HostState}
 use Rattle.usb_host.specs.HostCalls.{RoundTells}
 use Rattle.usb_serve.specs.RunSegments.{Comes}
 use Rattle.usb_serve.specs.ServedRuns.{Opens}
@@ -15,16 +15,16 @@ use Rattle.usb_serve.proofs.RunBounds.{Carries}
 use Rattle.usb_serve.proofs.Sums.{still_within}
 
 -- nothing is known, nothing came, and nothing will
-pub record Void (h : Hosting) : Type 0 where
+pub record Void (h : HostState) : Type 0 where
   pub entries : h.entries ≡ []
   pub changed : changes (root_row h.world) ≡ 0
   pub few : h.world.attempts ≤ 0
   pub none : to_come h.world ≡ 0
 
-none_comes : (a b : Hosting) (due : Option Ask) → Void a → Comes a (Ok (Some due)) b → ⊥
+none_comes : (a b : HostState) (due : Option Ask) → Void a → Comes a (Ok (Some due)) b → ⊥
 none_comes a b due x comes = absurd (omega (arith, x.none, comes.takes.took.ends.one, comes.takes.took.spends.events))
 
-round_void : (a b : Hosting) (result : Result Round HostFault) → Void a → RoundTells a result b → Void b
+round_void : (a b : HostState) (result : Result Round HostFault) → Void a → RoundTells a result b → Void b
 round_void a b result x tells = subst Void (sym (tells.keeps.rests x.entries x.changed)) x
 
 pub carries_void : Carries 0 Void Void (λ due h. ⊥)
@@ -40,5 +40,5 @@ carries_void = record {
   writes = λ a trace x. record { entries = x.entries; changed = x.changed; few = x.few; none = x.none };
 }
 
-pub opens_void : (plan : PlanData) (before : Option (List ℕ)) (h : Hosting) → length plan.events ≡ 0 → Opens plan before h → Void h
+pub opens_void : (plan : PlanData) (before : Option (List ℕ)) (h : HostState) → length plan.events ≡ 0 → Opens plan before h → Void h
 opens_void plan before h none opens = subst Void (sym opens.is) (record { entries = refl; changed = changes-opening plan.roots; few = omega arith; none = none })

@@ -8,7 +8,7 @@ use Rattle.usb_world.specs.Steps.{opening}
 use Rattle.usb_world.specs.World.{World}
 use Rattle.usb_table.specs.Deliveries.{Delivered, Collected, Restarted, bytes_in}
 use Rattle.usb_table.specs.Listing.{Lists, tree_after}
-use Rattle.usb_host.specs.Hosting.{Hosting}
+use Rattle.usb_host.specs.HostState.{HostState}
 use Rattle.usb_host.specs.Soundness.{IsFairTo}
 use Rattle.usb_host.specs.Transfers.{table_in}
 use Rattle.usb_serve.specs.RunSegments.{Settled}
@@ -18,7 +18,7 @@ use Rattle.usb_serve.specs.declared.runs.Report.{Report}
 
 -- what an item tells of the event that asked for it is so: of a listing the host had settled; the device at the path took the bytes that were to be sent,
 -- gave those that are told, or had its halts cleared
-abbrev pub TellsRight : Option Ask → Item → Hosting → Hosting → Type 0
+abbrev pub TellsRight : Option Ask → Item → HostState → HostState → Type 0
 TellsRight (Some Show) item old new = Settled new
 TellsRight (Some (Send path bytes)) (Sent to told) old new =
     Delivered path (is_ok told) bytes (table_in old) old.world (table_in new) new.world

@@ -8,12 +8,12 @@ abbrev pub held : {W : Type 0} → (W → Option (List ℕ)) → Output W → Op
 held contents output = writer_contents contents output.buffer
 
 -- where the bytes go out
-abbrev pub writer_of : {W : Type 0} → Output W → W
-writer_of output = writer_inner output.buffer
+abbrev pub output_writer : {W : Type 0} → Output W → W
+output_writer output = writer_inner output.buffer
 
 -- the bytes that wait
-abbrev pub waiting : {W : Type 0} → Output W → List ℕ
-waiting output = writer_buffer output.buffer
+abbrev pub buffered : {W : Type 0} → Output W → List ℕ
+buffered output = writer_buffer output.buffer
 
 -- a write has failed
 abbrev pub has_ended : {W : Type 0} → Output W → Bool

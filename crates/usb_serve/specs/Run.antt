@@ -1,12 +1,12 @@
 -- What runs leave of a bus's world.
 use Rattle.std.specs.Prelude.{◌≡◌, ℕ, ◌+◌, Some, Bool, false, Result, OnOk, IfErr, if◌then◌else◌}
 use Rattle.usb_world.specs.PlanData.{PlanData}
-use Rattle.usb_world.specs.World.{World, Spends, to_come}
+use Rattle.usb_world.specs.World.{World, AttemptsWithin, to_come}
 use Rattle.usb_world.specs.declared.types.BusFault.{BusFault}
 use Rattle.usb_world.specs.declared.types.BusFault.TheVariants as bus
 use Rattle.usb_host.specs.declared.fault.HostFault.{HostFault}
 use Rattle.usb_host.specs.declared.fault.HostFault.TheVariants as host
-use Rattle.usb_host.specs.Hosting.{Hosting}
+use Rattle.usb_host.specs.HostState.{HostState}
 use Rattle.usb_serve.specs.declared.runs.Item.{Item}
 use Rattle.usb_serve.specs.declared.runs.Item.TheVariants.{Listing}
 use Rattle.usb_serve.specs.declared.runs.RunFault.{RunFault}
@@ -39,19 +39,19 @@ IsCaused Memory w = Unit {0}
 IsCaused TraceFailed w = w.fault ≡ Some bus.TraceFailed
 
 -- a part of a run that goes so: its host goes on where no fault is told, and a fault has its cause
-pub record RunsOn {A : Type 0} (Goes : Hosting → Result A RunFault → Hosting → Type 0) (old : Hosting) (result : Result A RunFault) (new : Hosting) : Type 0 where
+pub record RunsOn {A : Type 0} (Goes : HostState → Result A RunFault → HostState → Type 0) (old : HostState) (result : Result A RunFault) (new : HostState) : Type 0 where
   pub goes : Goes old result new
   pub running : OnOk result (new.stopped ≡ false)
   pub caused : IfErr result (λ fault. IsCaused fault new.world)
 
 -- attempts were made within the limit, and no event was added
-abbrev pub Spent : Hosting → Hosting → Type 0
-Spent old new = (n : ℕ) × Spends n old.world new.world
+abbrev pub Spent : HostState → HostState → Type 0
+Spent old new = (n : ℕ) × AttemptsWithin n old.world new.world
 
 -- how many items are to come at most
 abbrev pub items_left : Bool → World → ℕ
 items_left over w = to_come w + (if over then 0 else 1)
 
 -- what the host has found, and how many events had come
-abbrev pub listing_of : Hosting → Item
+abbrev pub listing_of : HostState → Item
 listing_of h = Listing h.entries h.world.taken

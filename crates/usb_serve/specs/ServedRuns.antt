@@ -7,8 +7,8 @@ use Rattle.usb_world.specs.Steps.{opening}
 use Rattle.usb_world.specs.World.{World}
 use Rattle.usb_bus.specs.Traces.{Traced}
 use Rattle.usb_bus.specs.Watch.{AppendsFront}
-use Rattle.usb_host.specs.Hosting.{Hosting, opening_host as host_opening}
-use Rattle.usb_host.specs.Soundness.{IsSound}
+use Rattle.usb_host.specs.HostState.{HostState, opening_host as host_opening}
+use Rattle.usb_host.specs.Soundness.{HostInvariant}
 use Rattle.usb_host.specs.Plugs.{plug_events}
 use Rattle.usb_plan.specs.declared.fault.PlanFault.{PlanFault}
 use Rattle.usb_plan.specs.declared.fault.PlanFault.TheVariants as plan
@@ -30,10 +30,10 @@ use Rattle.usb_text.specs.ListingLines.{bound_line}
 use Rattle.usb_serve.specs.Transcript.{RunsTo, Transcript, at_write, items_text, itself, never, of_run}
 
 -- a host of a plan's bus, whose root ports were given power in silence: it knows of no device, and that is so
-pub record Opens (plan : PlanData) (before : Option (List ℕ)) (h : Hosting) : Type 0 where
+pub record Opens (plan : PlanData) (before : Option (List ℕ)) (h : HostState) : Type 0 where
   pub is : h ≡ host_opening (opening plan) before
   pub traced : Traced (opening plan) before h.world h.trace
-  pub sound : IsSound h
+  pub sound : HostInvariant h
   pub rules : IsPlan plan
   pub paths : AtPorts plan.events
 
@@ -45,7 +45,7 @@ pub record Reports (items : List Item) (w : World) (report : Report) : Type 0 wh
   pub worst : report.worst_address_run ≡ w.losses.worst
 
 -- a run to its end, and its report
-pub record Finishes (was : Bool) (old : Hosting) (result : Result Report RunFault) (new : Hosting) : Type 0 where
+pub record Finishes (was : Bool) (old : HostState) (result : Result Report RunFault) (new : HostState) : Type 0 where
   pub items : List Item
   pub ends : RunsTo Tree itself never was old items result new
   pub report : IfOk result (Reports items new.world)
@@ -54,9 +54,9 @@ pub record Finishes (was : Bool) (old : Hosting) (result : Result Report RunFaul
 -- a plan's run to where it ends, with or without a fault: at no attempt so far did two reachable devices hold one address, and what it tells is right; a fault has its cause, and it is none of a trace
 pub record RunsWell (plan : PlanData) (result : Result Report RunFault) : Type 0 where
   pub before : Option (List ℕ)
-  pub first : Hosting
+  pub first : HostState
   pub opens : Opens plan before first
-  pub last : Hosting
+  pub last : HostState
   pub finishes : Finishes false first result last
   pub untraced : result ≢ Err TraceFailed
   pub limit : last.world.limit ≡ plan.limit
@@ -69,10 +69,10 @@ EndsWell plan result = (result ≡ Err Memory) ⊎ RunsWell plan result
 
 -- what is written in mode Run: the text of a run of the plan, at no attempt of which two reachable devices held one address, and which tells what is right
 pub record RunWritten (plan : PlanData) (before : Option (List ℕ)) (result : Result (Unit {0}) ServeFault) (now : Option (List ℕ)) : Type 0 where
-  pub first : Hosting
+  pub first : HostState
   pub opens : Opens plan before first
   pub items : List Item
-  pub last : Hosting
+  pub last : HostState
   pub ends : RunsTo Run of_run at_write false first items result last
   pub caused : IfErr result (λ fault. IsCausedInRun fault last.world)
   pub limit : last.world.limit ≡ plan.limit
@@ -93,10 +93,10 @@ TreeText plan items IsOver before (Err serve.Memory) now = Appends before now (i
 -- what is written in mode Tree: the text of the items of such a run, whose trace is thrown away
 pub record TreeWritten (plan : PlanData) (before : Option (List ℕ)) (result : Result (Unit {0}) ServeFault) (now : Option (List ℕ)) : Type 0 where
   pub thrown : Option (List ℕ)  -- where the trace goes
-  pub first : Hosting
+  pub first : HostState
   pub opens : Opens plan thrown first
   pub items : List Item
-  pub last : Hosting
+  pub last : HostState
   pub ends : RunsTo Tree of_run never false first items result last
   pub caused : IfErr result (λ fault. IsCausedInTree fault last.world)
   pub limit : last.world.limit ≡ plan.limit

@@ -8,7 +8,7 @@ use Rattle.usb_pipe.specs.declared.fault.PipeFault.TheVariants as pipe
 use Rattle.usb_host.specs.declared.fault.HostFault.{HostFault}
 use Rattle.usb_host.specs.declared.fault.HostFault.TheVariants as host
 use Rattle.usb_host.specs.HostCalls.{ClearTells, ReceiveTells, SendTells}
-use Rattle.usb_host.specs.Hosting.{Hosting}
+use Rattle.usb_host.specs.HostState.{HostState}
 use Rattle.usb_serve.specs.declared.runs.Item.{Item}
 use Rattle.usb_serve.specs.declared.runs.Item.TheVariants.{Sent, Received, Cleared}
 use Rattle.usb_serve.specs.declared.runs.RunFault.{RunFault}
@@ -51,13 +51,13 @@ sent_count count (Err fault) = Err fault
 -- One call
 
 -- the host made one call, and this is told of it
-pub record Transfers {A : Type 0} (Tells : Hosting → Result A HostFault → Hosting → Type 0) (old : Hosting) (told : Result A TransferFault) (new : Hosting) : Type 0 where
+pub record Transfers {A : Type 0} (Tells : HostState → Result A HostFault → HostState → Type 0) (old : HostState) (told : Result A TransferFault) (new : HostState) : Type 0 where
   pub answer : Result A HostFault
   pub call : Tells old answer new
   pub tells : transfer_ended answer ≡ Ok told
 
 -- the host made one call, and its fault ends the run
-pub record TransferStops {A : Type 0} (Tells : Hosting → Result A HostFault → Hosting → Type 0) (old : Hosting) (fault : RunFault) (new : Hosting) : Type 0 where
+pub record TransferStops {A : Type 0} (Tells : HostState → Result A HostFault → HostState → Type 0) (old : HostState) (fault : RunFault) (new : HostState) : Type 0 where
   pub answer : Result A HostFault
   pub call : Tells old answer new
   pub tells : transfer_ended answer ≡ Err fault
@@ -65,7 +65,7 @@ pub record TransferStops {A : Type 0} (Tells : Hosting → Result A HostFault �
 -- What a run makes of an event
 
 -- nothing of a change, a listing at once where the host is to list, and of a transfer to the device at a path what it came to
-abbrev pub IsItemOf : Option Ask → Option Item → Hosting → Hosting → Type 0
+abbrev pub IsItemOf : Option Ask → Option Item → HostState → HostState → Type 0
 IsItemOf None item old new = (item ≡ None) × (new ≡ old)
 IsItemOf (Some Show) item old new = (item ≡ Some (listing_of new)) × (new ≡ old)
 IsItemOf (Some (Send path bytes)) item old new =
@@ -79,18 +79,18 @@ IsItemOf (Some (Clear path)) item old new =
     × Transfers (ClearTells path) old told new
 
 -- no item of it: memory was refused for a listing, or a transfer ended the run
-abbrev pub StopsAt : Option Ask → RunFault → Hosting → Hosting → Type 0
+abbrev pub StopsAt : Option Ask → RunFault → HostState → HostState → Type 0
 StopsAt None fault old new = ⊥
 StopsAt (Some Show) fault old new = (fault ≡ Memory) × (new ≡ old)
 StopsAt (Some (Send path bytes)) fault old new = TransferStops (SendTells path bytes) old fault new
 StopsAt (Some (Receive path packets)) fault old new = TransferStops (ReceiveTells path packets) old fault new
 StopsAt (Some (Clear path)) fault old new = TransferStops (ClearTells path) old fault new
 
-abbrev pub Does : Option Ask → Hosting → Result (Option Item) RunFault → Hosting → Type 0
+abbrev pub Does : Option Ask → HostState → Result (Option Item) RunFault → HostState → Type 0
 Does due old (Ok item) new = IsItemOf due item old new
 Does due old (Err fault) new = StopsAt due fault old new
 
 -- the item of what is asked, or the fault in its place
-abbrev pub Gives : Ask → Hosting → Result Item RunFault → Hosting → Type 0
+abbrev pub Gives : Ask → HostState → Result Item RunFault → HostState → Type 0
 Gives ask old (Ok item) new = IsItemOf (Some ask) (Some item) old new
 Gives ask old (Err fault) new = StopsAt (Some ask) fault old new

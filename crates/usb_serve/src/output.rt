@@ -2,7 +2,7 @@
 ghost use Rattle.std.specs.Prelude.{◌≡◌, ◌⊎◌, [], true, false, is_err, IsOk, IfOk, OnOk, OnErr, codes};
 ghost use Rattle.std.specs.Io.{WritesAtMost};
 ghost use Rattle.std.specs.Io.KnownBytes.{Keeps, WriteAppends};
-ghost use Rattle.usb_serve.specs.Outputs.{has_ended, held, waiting, writer_of, LeavesFront};
+ghost use Rattle.usb_serve.specs.Outputs.{has_ended, held, buffered, output_writer, LeavesFront};
 
 use std::alloc::{AllocError, Global};
 use std::io;
@@ -48,7 +48,7 @@ impl<W: Write + Drop> Output<W> {
         ensures ok { OnOk result.0 (Keeps (held W.contents self) (W.contents result.1)) }
         ensures front { LeavesFront (held W.contents self) (W.contents result.1) }
         ensures ended { has_ended self ≡ true
-            → (is_err result.0 ≡ true) × (result.1 ≡ writer_of self) }
+            → (is_err result.0 ≡ true) × (result.1 ≡ output_writer self) }
     {
         let Output { buffer, has_ended } = self;
         if has_ended {
@@ -72,7 +72,7 @@ impl<W: Write + Drop> Write for Output<W> {
         ensures ends { OnErr result (has_ended self.new ≡ true) }
         // Behind a listing nothing waits, or a write has failed.
         ensures listing { piece.now ≡ codes "end\n"
-            → (waiting self.new ≡ []) ⊎ (has_ended self.new ≡ true) }
+            → (buffered self.new ≡ []) ⊎ (has_ended self.new ≡ true) }
     {
         if self.has_ended {
             return Err(Error::from(ErrorKind::Other));
@@ -85,7 +85,7 @@ impl<W: Write + Drop> Write for Output<W> {
     fn flush(&mut self) -> io::Result<()>
         ensures bytes { Keeps (held W.contents self.old) (held W.contents self.new) }
         ensures ended { has_ended self.old ≡ true → (is_err result ≡ true) × (self.new ≡ self.old) }
-        ensures out { (waiting self.new ≡ []) ⊎ (has_ended self.new ≡ true) }
+        ensures out { (buffered self.new ≡ []) ⊎ (has_ended self.new ≡ true) }
         ensures ends { OnErr result (has_ended self.new ≡ true) }
     {
         if self.has_ended {

@@ -9,8 +9,8 @@ ghost use Rattle.std.specs.Io.KnownBytes.{Appends};
 ghost use Rattle.usb_bus.specs.Watch.{inner_of, has_failed, tells_failure, AppendsFront};
 ghost use Rattle.usb_world.specs.Steps.{PutLine, opening};
 ghost use Rattle.usb_host.specs.Plugs.{plug_events};
-ghost use Rattle.usb_host.specs.Progress.{Rests};
-ghost use Rattle.usb_host.specs.Ownership.{Owning};
+ghost use Rattle.usb_host.specs.Progress.{OnlyBusSteps};
+ghost use Rattle.usb_host.specs.Ownership.{HostMapHolds};
 ghost use Rattle.usb_plan.specs.Attempts.{bound_of};
 ghost use Rattle.usb_serve.specs.declared.runs.RunFault.TheVariants.{Memory as NoMemory};
 ghost use Rattle.usb_serve.specs.Moments.{ListsPlugged};
@@ -95,7 +95,7 @@ pub fn settle<T: Trace>(host: &mut Host<SimBus<T>>) -> Result<(), RunFault>
     ensures settled { OnOk result (changes (root_row host.new.world) ≡ 0) }
     // Where what the host knew is so, nothing is left to do, and it lists what is plugged.
     ensures leaves { OnOk result (LeavesSettled host.old host.new) }
-    ensures owning { Owning host.old → Owning host.new }
+    ensures owning { HostMapHolds host.old → HostMapHolds host.new }
 {
     'rounds: loop {
         let taken = host.bus().events_taken();
@@ -110,7 +110,7 @@ pub fn settle<T: Trace>(host: &mut Host<SimBus<T>>) -> Result<(), RunFault>
 fn round_of<T: Trace>(host: &mut Host<SimBus<T>>) -> Result<Round, RunFault>
     requires running { host.old.stopped ≡ false }
     ensures on { RunsOn OneRound host.old result host.new }
-    ensures owning { Owning host.old → Owning host.new }
+    ensures owning { HostMapHolds host.old → HostMapHolds host.new }
 {
     match host.round() {
         Ok(round) => Ok(round),
@@ -182,7 +182,7 @@ pub struct Runner<T: Trace> {
     /// Nothing more is made.
     over: bool,
     ghost running: { over ≡ false → host.stopped ≡ false },
-    ghost owning: { Owning host } by { Prim.hlevel (props, ports_code) },
+    ghost owning: { HostMapHolds host } by { Prim.hlevel (props, ports_code) },
     ghost few_events: { host.world.taken + to_come host.world ≤ 10000 },
 }
 
@@ -341,7 +341,7 @@ fn item_of_events<T: Trace>(host: &mut Host<SimBus<T>>) -> Result<Option<Item>, 
     ensures spent { Spent host.old host.new }
     ensures fewer { IfOk result (λ item. IsSome item
         → to_come host.new.world < to_come host.old.world) }
-    ensures owning { Owning host.old → Owning host.new }
+    ensures owning { HostMapHolds host.old → HostMapHolds host.new }
 {
     'events: loop {
         let Some(due) = next_due(host)? else {
@@ -360,7 +360,7 @@ fn next_due<T: Trace>(host: &mut Host<SimBus<T>>) -> Result<Option<Option<Ask>>,
     ensures spent { Spent host.old host.new }
     ensures fewer { IfOk result (λ due. IsSome due
         → to_come host.new.world < to_come host.old.world) }
-    ensures owning { Owning host.old → Owning host.new }
+    ensures owning { HostMapHolds host.old → HostMapHolds host.new }
 {
     settle(host)?;
     Ok(host.bus_mut().apply_next_event()?)
@@ -370,7 +370,7 @@ fn next_due<T: Trace>(host: &mut Host<SimBus<T>>) -> Result<Option<Option<Ask>>,
 fn item_of<T: Trace>(host: &mut Host<SimBus<T>>, due: Option<Ask>) -> Result<Option<Item>, RunFault>
     requires running { host.old.stopped ≡ false }
     ensures on { RunsOn (Does due) host.old result host.new }
-    ensures owning { Owning host.old → Owning host.new }
+    ensures owning { HostMapHolds host.old → HostMapHolds host.new }
 {
     match due {
         None => Ok(None),
@@ -382,7 +382,7 @@ fn item_of<T: Trace>(host: &mut Host<SimBus<T>>, due: Option<Ask>) -> Result<Opt
 fn asked_item<T: Trace>(host: &mut Host<SimBus<T>>, ask: Ask) -> Result<Option<Item>, RunFault>
     requires running { host.old.stopped ≡ false }
     ensures on { RunsOn (Does (Some ask)) host.old result host.new }
-    ensures owning { Owning host.old → Owning host.new }
+    ensures owning { HostMapHolds host.old → HostMapHolds host.new }
 {
     match ask {
         Ask::Show => Ok(Some(listing(host)?)),
@@ -400,7 +400,7 @@ fn send<T: Trace>(
 ) -> Result<Item, RunFault>
     requires running { host.old.stopped ≡ false }
     ensures on { RunsOn (Gives (Ask.Send path bytes.now)) host.old result host.new }
-    ensures owning { Owning host.old → Owning host.new }
+    ensures owning { HostMapHolds host.old → HostMapHolds host.new }
 {
     let sent = answered(host.send(&path, bytes))?;
     Ok(Item::Sent(path, counted(bytes.len(), sent)))
@@ -414,7 +414,7 @@ fn receive<T: Trace>(
 ) -> Result<Item, RunFault>
     requires running { host.old.stopped ≡ false }
     ensures on { RunsOn (Gives (Ask.Receive path packets)) host.old result host.new }
-    ensures owning { Owning host.old → Owning host.new }
+    ensures owning { HostMapHolds host.old → HostMapHolds host.new }
 {
     let received = answered(host.receive(&path, packets))?;
     Ok(Item::Received(path, received))
@@ -424,7 +424,7 @@ fn receive<T: Trace>(
 fn clear<T: Trace>(host: &mut Host<SimBus<T>>, path: PortPath) -> Result<Item, RunFault>
     requires running { host.old.stopped ≡ false }
     ensures on { RunsOn (Gives (Ask.Clear path)) host.old result host.new }
-    ensures owning { Owning host.old → Owning host.new }
+    ensures owning { HostMapHolds host.old → HostMapHolds host.new }
 {
     let cleared = answered(host.clear_halt(&path))?;
     Ok(Item::Cleared(path, cleared))

@@ -16,7 +16,7 @@ use Rattle.usb_wire.specs.declared.question.Question.{Question}
 use Rattle.usb_stream.specs.declared.fault.LiveFault.{LiveFault}
 use Rattle.usb_stream.specs.declared.fault.LiveFault.TheVariants.{LimitReached, Write}
 use Rattle.usb_stream.specs.declared.fault.LiveFault.TheVariants as fault
-use Rattle.usb_stream.specs.Stream.{AskedWell, AsksNoMore, AsksNothing, Heard, Kept, ReadLines, ReadOne, SaidLine, Says, Told, WholeLines, counted_on, streams, questions}
+use Rattle.usb_stream.specs.Stream.{AskedWell, AsksNoMore, AsksNoQuestion, AnswerLinesRead, Kept, ReadLines, ReadOne, SaidLine, Says, StatusesRead, WholeLines, counted_on, streams, questions}
 
 -- a status is a line: the end is none
 said_changed : (a : Asked) (roots : ℕ) (unread left : Option (List ℕ)) (number : ℕ) (status : List ℕ) → Says a roots unread left (Changed number status)
@@ -33,15 +33,15 @@ counted_on-more lines more = sym (ap (counted_on lines) (add-one more))
 pub record ToldSo (a : Asked) (unread left : Option (List ℕ)) (old new : Kept) : Type 0 where
   pub pushed : ℕ
   pub text : List ℕ
-  pub told : Told a old.roots old.statuses pushed text new.statuses
+  pub told : StatusesRead a old.roots old.statuses pushed text new.statuses
   pub read : Consumes unread left text
   pub lines : new.lines ≡ counted_on old.lines pushed
 
-pub told_none : (a : Asked) (r : Option (List ℕ)) (k : Kept) → ToldSo a r r k k
-told_none a r k = record {
+pub told_so_none : (a : Asked) (r : Option (List ℕ)) (k : Kept) → ToldSo a r r k k
+told_so_none a r k = record {
   pushed = 0;
   text = [];
-  told = Told.none;
+  told = StatusesRead.none;
   read = Consumes-nil r;
   lines = refl;
 }
@@ -54,7 +54,7 @@ told_more a fn l r0 r1 r2 number status so says =
     record {
       pushed = so.pushed + 1;
       text = so.text ++ (line.line ++ 10 ∷ []);
-      told = Told.next line.line number status so.told line.unbroken line.may line.says;
+      told = StatusesRead.next line.line number status so.told line.unbroken line.may line.says;
       read = Consumes-trans r0 r1 r2 so.text (line.line ++ 10 ∷ []) so.read line.read;
       lines = ap (λ n. counted_on n 1) so.lines ∙ counted_on-more fn.lines so.pushed;
     }
@@ -85,9 +85,9 @@ number_within a roots number status unread left says = let line = said_changed a
 
 pub heard_so : (a : Asked) (fn l n : Kept) (r0 r1 r2 : Option (List ℕ)) (got : Answer) → ToldSo a r0 r1 fn l
     → l ≡ record fn { statuses = l.statuses; lines = l.lines } → n ≡ record l { lines = counted_on l.lines 1 }
-    → Says a l.roots r1 r2 (Answered got) → Heard a fn.roots r0 r2 fn.statuses fn.lines got n.statuses n.lines
+    → Says a l.roots r1 r2 (Answered got) → AnswerLinesRead a fn.roots r0 r2 fn.statuses fn.lines got n.statuses n.lines
 heard_so a fn l n r0 r1 r2 got so same kept says =
-    subst (λ (k : Kept). Heard a fn.roots r0 r2 fn.statuses fn.lines got k.statuses k.lines) (sym kept) (record {
+    subst (λ (k : Kept). AnswerLinesRead a fn.roots r0 r2 fn.statuses fn.lines got k.statuses k.lines) (sym kept) (record {
       pushed = so.pushed;
       text = so.text;
       mid = r1;
@@ -98,9 +98,9 @@ heard_so a fn l n r0 r1 r2 got so same kept says =
     })
 
 -- lines that tell statuses are whole
-whole_told : (a : Asked) (roots : ℕ) (old new : List (List ℕ)) (n : ℕ) (text : List ℕ) → Told a roots old n text new → WholeLines n text
-whole_told a roots old new n text Told.none = WholeLines.none
-whole_told a roots old new n text (Told.next line number status told unbroken may says) =
+whole_told : (a : Asked) (roots : ℕ) (old new : List (List ℕ)) (n : ℕ) (text : List ℕ) → StatusesRead a roots old n text new → WholeLines n text
+whole_told a roots old new n text StatusesRead.none = WholeLines.none
+whole_told a roots old new n text (StatusesRead.next line number status told unbroken may says) =
     WholeLines.next line (whole_told a roots old _ _ _ told) unbroken
 
 pub read_all : (a : Asked) (r0 r1 : Option (List ℕ)) (fn l : Kept) → ToldSo a r0 r1 fn l → ReadLines r0 r1 fn.lines l.lines
@@ -114,9 +114,9 @@ read_all a r0 r1 fn l so = record {
   lines = inl (refl, so.lines);
 }
 
-read_last : (a : Asked) (r0 r1 r2 : Option (List ℕ)) (fn l : Kept) (line : List ℕ) → ToldSo a r0 r1 fn l → IsUnbroken line
+lines_read_last : (a : Asked) (r0 r1 r2 : Option (List ℕ)) (fn l : Kept) (line : List ℕ) → ToldSo a r0 r1 fn l → IsUnbroken line
     → Consumes r1 r2 (line ++ 10 ∷ []) ⊎ Consumes r1 r2 line → ReadLines r0 r2 fn.lines (counted_on l.lines 1)
-read_last a r0 r1 r2 fn l line so unbroken (inl whole) =
+lines_read_last a r0 r1 r2 fn l line so unbroken (inl whole) =
     let all : List ℕ = so.text ++ (line ++ 10 ∷ []) in
     record {
       whole = so.pushed + 1;
@@ -127,7 +127,7 @@ read_last a r0 r1 r2 fn l line so unbroken (inl whole) =
       read = subst (Consumes r0 r2) (sym (append-nil all)) (Consumes-trans r0 r1 r2 so.text (line ++ 10 ∷ []) so.read whole);
       lines = inl (refl, ap (λ n. counted_on n 1) so.lines ∙ counted_on-more fn.lines so.pushed);
     }
-read_last a r0 r1 r2 fn l line so unbroken (inr part) = record {
+lines_read_last a r0 r1 r2 fn l line so unbroken (inr part) = record {
   whole = so.pushed;
   text = so.text;
   are = whole_told a fn.roots fn.statuses l.statuses so.pushed so.text so.told;
@@ -140,7 +140,7 @@ read_last a r0 r1 r2 fn l line so unbroken (inr part) = record {
 pub read_so : (a : Asked) (r0 r1 r2 : Option (List ℕ)) (fn l n : Kept) → ToldSo a r0 r1 fn l
     → n ≡ record l { lines = counted_on l.lines 1 } → ReadOne r1 r2 → ReadLines r0 r2 fn.lines n.lines
 read_so a r0 r1 r2 fn l n so kept one =
-    subst (ReadLines r0 r2 fn.lines) (sym (ap (λ (k : Kept). k.lines) kept)) (read_last a r0 r1 r2 fn l one.line so one.unbroken one.read)
+    subst (ReadLines r0 r2 fn.lines) (sym (ap (λ (k : Kept). k.lines) kept)) (lines_read_last a r0 r1 r2 fn l one.line so one.unbroken one.read)
 
 -- ---- one line that says nothing
 
@@ -175,8 +175,8 @@ none_read r k = record {
   lines = inl (refl, refl);
 }
 
-pub at_limit : (q : Question) (r w : Option (List ℕ)) (k : Kept) → k.left ≡ 0 → AsksNoMore q (streams r r w w) k LimitReached (record k { fault = Some LimitReached })
-at_limit q r w k none = record {
+pub asks_no_more_at_limit : (q : Question) (r w : Option (List ℕ)) (k : Kept) → k.left ≡ 0 → AsksNoMore q (streams r r w w) k LimitReached (record k { fault = Some LimitReached })
+asks_no_more_at_limit q r w k none = record {
   kept = refl;
   written = nothing_of w (question_line q ++ 10 ∷ []);
   read = none_read r k;
@@ -221,7 +221,7 @@ not_heard q r0 r1 w0 w1 k f st lines gone some other read = record {
 }
 
 pub heard_well : (q : Question) (r0 r1 w0 w1 : Option (List ℕ)) (k : Kept) (got : Answer) (st : List (List ℕ)) (lines : ℕ) → Appends w0 w1 (question_line q ++ 10 ∷ [])
-    → k.left ≢ 0 → k.fault ≡ None → Heard (kind_asked q) k.roots r0 r1 k.statuses k.lines got st lines
+    → k.left ≢ 0 → k.fault ≡ None → AnswerLinesRead (kind_asked q) k.roots r0 r1 k.statuses k.lines got st lines
     → AskedWell q (streams r0 r1 w0 w1) k got (record k { left = k.left - 1; statuses = st; lines = lines })
 heard_well q r0 r1 w0 w1 k got st lines gone some sound heard = record {
   written = gone;
@@ -231,7 +231,7 @@ heard_well q r0 r1 w0 w1 k got st lines gone some sound heard = record {
   sound = sound;
 }
 
-pub asked_none : (r w : Option (List ℕ)) (k : Kept) → AsksNothing (streams r r w w) k k
+pub asked_none : (r w : Option (List ℕ)) (k : Kept) → AsksNoQuestion (streams r r w w) k k
 asked_none r w k = record { same = refl; read = Consumes-nil r; written = Appends-nil w }
 
 -- the answer to the hello is 1 to 7 root ports

@@ -40,33 +40,33 @@ use Rattle.usb_world.specs.declared.types.BusFault.TheVariants as bus
 
 -- ---- attempts as questions
 
-abbrev pub speed_of : Bool → Bool → Speed
-speed_of true true = LowBelowHub
-speed_of false true = LowBelowHub
-speed_of true false = Low
-speed_of false false = Full
+abbrev pub line_speed : Bool → Bool → Speed
+line_speed true true = LowBelowHub
+line_speed false true = LowBelowHub
+line_speed true false = Low
+line_speed false false = Full
 
 abbrev pub setup_with : Speed → Endpoint → Option SetupData → Option Question
 setup_with speed e None = None
 setup_with speed e (Some setup) = Some (Setup speed e setup)
 
-abbrev pub setup_question : Speed → Endpoint → Option (Toggle × ArrayVec ℕ) → Option Question
-setup_question speed e None = None
-setup_question speed e (Some (Zero, bytes)) = setup_with speed e (setup_by Zero bytes.items)
-setup_question speed e (Some (One, bytes)) = None
+abbrev pub question_of_setup : Speed → Endpoint → Option (Toggle × ArrayVec ℕ) → Option Question
+question_of_setup speed e None = None
+question_of_setup speed e (Some (Zero, bytes)) = setup_with speed e (setup_by Zero bytes.items)
+question_of_setup speed e (Some (One, bytes)) = None
 
-abbrev pub out_question : Speed → Endpoint → Option (Toggle × ArrayVec ℕ) → Option Question
-out_question speed e None = None
-out_question speed e (Some (toggle, bytes)) = Some (Out speed e (record { toggle = toggle; bytes = bytes }))
+abbrev pub question_of_out : Speed → Endpoint → Option (Toggle × ArrayVec ℕ) → Option Question
+question_of_out speed e None = None
+question_of_out speed e (Some (toggle, bytes)) = Some (Out speed e (record { toggle = toggle; bytes = bytes }))
 
 abbrev pub question_by : TokenKind → Speed → Endpoint → ℕ → Option (Toggle × ArrayVec ℕ) → Option Question
-question_by SetupTok speed e most payload = setup_question speed e payload
-question_by OutTok speed e most payload = out_question speed e payload
+question_by SetupTok speed e most payload = question_of_setup speed e payload
+question_by OutTok speed e most payload = question_of_out speed e payload
 question_by InTok speed e most payload = Some (In speed e most)
 
 -- the question for an attempt, where there is a line for it
 abbrev pub question_for : Attempt → Option Question
-question_for a = question_by a.kind (speed_of a.low a.pre) (record { address = a.addr; number = a.ep }) a.max a.payload
+question_for a = question_by a.kind (line_speed a.low a.pre) (record { address = a.addr; number = a.ep }) a.max a.payload
 
 -- more data than the endpoint's maximum packet are none (8.7.4)
 abbrev pub data_for : ℕ → DataPacket → Outcome
@@ -110,13 +110,13 @@ written_of contents b = contents (inner_of b.writer)
 -- ---- what is read and written
 
 -- the bytes that the reader has left and those that the writer has, before and after, where they are known
-pub record Streams : Type 0 where
+pub record StreamTexts : Type 0 where
   pub unread : Option (List ℕ)
   pub left : Option (List ℕ)
   pub before : Option (List ℕ)
   pub now : Option (List ℕ)
 
-abbrev pub streams : Option (List ℕ) → Option (List ℕ) → Option (List ℕ) → Option (List ℕ) → Streams
+abbrev pub streams : Option (List ℕ) → Option (List ℕ) → Option (List ℕ) → Option (List ℕ) → StreamTexts
 streams unread left before now = record { unread = unread; left = left; before = before; now = now }
 
 -- so many lines more are counted, up to the greatest u64
@@ -131,12 +131,12 @@ pub data WholeLines : ℕ → List ℕ → Type 0 where
       → WholeLines (n + 1) (text ++ (line ++ 10 ∷ []))
 
 -- so many lines that tell statuses of root ports were read, each is kept
-pub data Told (a : Asked) (roots : ℕ) (old : List (List ℕ)) : ℕ → List ℕ → List (List ℕ) → Type 0 where
-  none : Told a roots old 0 [] old
+pub data StatusesRead (a : Asked) (roots : ℕ) (old : List (List ℕ)) : ℕ → List ℕ → List (List ℕ) → Type 0 where
+  none : StatusesRead a roots old 0 [] old
   next : {n : ℕ} {text : List ℕ} {mid : List (List ℕ)} (line : List ℕ) (number : ℕ) (status : List ℕ)
-      → Told a roots old n text mid → IsUnbroken line
+      → StatusesRead a roots old n text mid → IsUnbroken line
       → MaySay a roots (Changed number status) → IsSaidLine line (Changed number status)
-      → Told a roots old (n + 1) (text ++ (line ++ 10 ∷ [])) (slice_set mid (number - 1) status)
+      → StatusesRead a roots old (n + 1) (text ++ (line ++ 10 ∷ [])) (slice_set mid (number - 1) status)
 
 -- a line was read that says this
 pub record SaidLine (a : Asked) (roots : ℕ) (unread left : Option (List ℕ)) (said : Said) : Type 0 where
@@ -157,12 +157,12 @@ abbrev pub Says : Asked → ℕ → Option (List ℕ) → Option (List ℕ) → 
 Says a roots unread left said = SaidLine a roots unread left said ⊎ SaidEnd a unread left said
 
 -- statuses, and then the answer: each is a line, and is counted
-pub record Heard (a : Asked) (roots : ℕ) (unread left : Option (List ℕ)) (old : List (List ℕ)) (before : ℕ) (got : Answer)
+pub record AnswerLinesRead (a : Asked) (roots : ℕ) (unread left : Option (List ℕ)) (old : List (List ℕ)) (before : ℕ) (got : Answer)
     (new : List (List ℕ)) (after : ℕ) : Type 0 where
   pub pushed : ℕ
   pub text : List ℕ
   pub mid : Option (List ℕ)
-  pub told : Told a roots old pushed text new
+  pub told : StatusesRead a roots old pushed text new
   pub read : Consumes unread mid text
   pub answered : Says a roots mid left (Answered got)
   pub lines : after ≡ counted_on before (pushed + 1)
@@ -184,9 +184,9 @@ pub record ReadOne (unread left : Option (List ℕ)) : Type 0 where
   pub read : Consumes unread left (line ++ 10 ∷ []) ⊎ Consumes unread left line
 
 -- a question went out as one line, one question less is left, and its answer was heard
-pub record AskedWell (q : Question) (s : Streams) (old : Kept) (got : Answer) (new : Kept) : Type 0 where
+pub record AskedWell (q : Question) (s : StreamTexts) (old : Kept) (got : Answer) (new : Kept) : Type 0 where
   pub written : Appends s.before s.now (question_line q ++ 10 ∷ [])
-  pub heard : Heard (kind_asked q) old.roots s.unread s.left old.statuses old.lines got new.statuses new.lines
+  pub heard : AnswerLinesRead (kind_asked q) old.roots s.unread s.left old.statuses old.lines got new.statuses new.lines
   pub one : new.left + 1 ≡ old.left
   pub roots : new.roots ≡ old.roots
   pub sound : new.fault ≡ None
@@ -201,7 +201,7 @@ questions fault.Write = 1
 questions fault.LimitReached = 0
 
 -- a fault is kept; at most one question went out, or a front of it, and one less is left; at the limit nothing did
-pub record AsksNoMore (q : Question) (s : Streams) (old : Kept) (f : LiveFault) (new : Kept) : Type 0 where
+pub record AsksNoMore (q : Question) (s : StreamTexts) (old : Kept) (f : LiveFault) (new : Kept) : Type 0 where
   pub kept : new.fault ≡ Some f
   pub written : AppendsFront s.before s.now (question_line q ++ 10 ∷ [])
   pub read : ReadLines s.unread s.left old.lines new.lines
@@ -209,23 +209,23 @@ pub record AsksNoMore (q : Question) (s : Streams) (old : Kept) (f : LiveFault) 
   pub spent : new.left + questions f ≡ old.left
   pub roots : new.roots ≡ old.roots
 
-abbrev pub AsksOnce : Question → Streams → Kept → Result Answer LiveFault → Kept → Type 0
+abbrev pub AsksOnce : Question → StreamTexts → Kept → Result Answer LiveFault → Kept → Type 0
 AsksOnce q s old (Ok got) new = AskedWell q s old got new
 AsksOnce q s old (Err f) new = AsksNoMore q s old f new
 
 -- the same of a bus that has not kept the fault yet
-abbrev pub FailsOnce : Question → Streams → Kept → Result Answer LiveFault → Kept → Type 0
+abbrev pub FailsOnce : Question → StreamTexts → Kept → Result Answer LiveFault → Kept → Type 0
 FailsOnce q s old (Ok got) new = AskedWell q s old got new
 FailsOnce q s old (Err f) new = AsksNoMore q s old f (record new { fault = Some f })
 
 -- nothing was asked
-pub record AsksNothing (s : Streams) (old new : Kept) : Type 0 where
+pub record AsksNoQuestion (s : StreamTexts) (old new : Kept) : Type 0 where
   pub same : new ≡ old
   pub read : Consumes s.unread s.left []
   pub written : Appends s.before s.now []
 
 -- an attempt was asked for, and this is what its answer gives
-pub record GivesAs (q : Question) (most : ℕ) (s : Streams) (old : Kept) (outcome : Outcome) (new : Kept) : Type 0 where
+pub record GivesAs (q : Question) (most : ℕ) (s : StreamTexts) (old : Kept) (outcome : Outcome) (new : Kept) : Type 0 where
   pub got : Answer
   pub asked : AskedWell q s old got new
   pub is : outcome ≡ outcome_for most got
@@ -240,39 +240,39 @@ bus_fault fault.Write = bus.TraceFailed
 bus_fault fault.LimitReached = bus.LimitReached
 
 -- an attempt was asked for, and a fault is kept, which is told as it is to a host
-pub record FailsAs (q : Question) (s : Streams) (old : Kept) (told : BusFault) (new : Kept) : Type 0 where
+pub record FailsByLine (q : Question) (s : StreamTexts) (old : Kept) (told : BusFault) (new : Kept) : Type 0 where
   pub f : LiveFault
   pub asked : AsksNoMore q s old f new
   pub is : told ≡ bus_fault f
 
-abbrev pub AttemptsBy : Option Question → ℕ → Streams → Kept → Result Outcome BusFault → Kept → Type 0
+abbrev pub AttemptsBy : Option Question → ℕ → StreamTexts → Kept → Result Outcome BusFault → Kept → Type 0
 AttemptsBy (Some q) most s old (Ok outcome) new = GivesAs q most s old outcome new
-AttemptsBy (Some q) most s old (Err told) new = FailsAs q s old told new
-AttemptsBy None most s old result new = AsksNothing s old new × (result ≡ Ok Nothing)
+AttemptsBy (Some q) most s old (Err told) new = FailsByLine q s old told new
+AttemptsBy None most s old result new = AsksNoQuestion s old new × (result ≡ Ok Nothing)
 
 -- an attempt is one question, where there is a line for it
-abbrev pub Attempts : Attempt → Streams → Kept → Result Outcome BusFault → Kept → Type 0
-Attempts a s old result new = AttemptsBy (question_for a) a.max s old result new
+abbrev pub AttemptsByLine : Attempt → StreamTexts → Kept → Result Outcome BusFault → Kept → Type 0
+AttemptsByLine a s old result new = AttemptsBy (question_for a) a.max s old result new
 
 -- a call at a root port that there is is one question
-pub record CallsPort (port : ℕ) (c : PortCall) (s : Streams) (old new : Kept) : Type 0 where
+pub record AsksCall (port : ℕ) (c : PortCall) (s : StreamTexts) (old new : Kept) : Type 0 where
   pub result : Result Answer LiveFault
   pub asked : AsksOnce (Port port c) s old result new
 
-abbrev pub Calls : ℕ → Option PortCall → Streams → Kept → Kept → Type 0
-Calls port None s old new = AsksNothing s old new
-Calls port (Some c) s old new = (1 ≤ port → port ≤ old.roots → CallsPort port c s old new)
-    × (port ≡ 0 → AsksNothing s old new) × (old.roots < port → AsksNothing s old new)
+abbrev pub Calls : ℕ → Option PortCall → StreamTexts → Kept → Kept → Type 0
+Calls port None s old new = AsksNoQuestion s old new
+Calls port (Some c) s old new = (1 ≤ port → port ≤ old.roots → AsksCall port c s old new)
+    × (port ≡ 0 → AsksNoQuestion s old new) × (old.roots < port → AsksNoQuestion s old new)
 
 -- lines were told, or a front of them where the writer failed, and that is kept
-abbrev pub Tells : List ℕ → Option (List ℕ) → Option (List ℕ) → Kept → Result (Unit {0}) LiveFault → Kept → Type 0
-Tells lines before now old (Ok done) new = Appends before now lines × (new ≡ old)
-Tells lines before now old (Err f) new =
+abbrev pub WritesLines : List ℕ → Option (List ℕ) → Option (List ℕ) → Kept → Result (Unit {0}) LiveFault → Kept → Type 0
+WritesLines lines before now old (Ok done) new = Appends before now lines × (new ≡ old)
+WritesLines lines before now old (Err f) new =
     AppendsFront before now lines × (f ≡ Write) × (new ≡ record old { fault = Some Write })
 
 -- as it was told last, 0 where there is no such port
-abbrev pub status_at : Kept → ℕ → List ℕ
-status_at k port = if nat_lt 0 port && nat_le port 7 then slice_index_or k.statuses (port - 1) [] else 0 ∷ 0 ∷ 0 ∷ 0 ∷ []
+abbrev pub kept_status : Kept → ℕ → List ℕ
+kept_status k port = if nat_lt 0 port && nat_le port 7 then slice_index_or k.statuses (port - 1) [] else 0 ∷ 0 ∷ 0 ∷ 0 ∷ []
 
 -- before the hello all statuses are 0
 abbrev pub unasked : ℕ → Kept
@@ -301,7 +301,7 @@ greeted (Ok got) k = greeted_by got k
 greeted (Err f) k = k
 
 -- the hello was asked
-pub record Opens (limit : ℕ) (s : Streams) (new : Kept) : Type 0 where
+pub record SaysHello (limit : ℕ) (s : StreamTexts) (new : Kept) : Type 0 where
   pub result : Result Answer LiveFault
   pub mid : Kept
   pub asked : AsksOnce Hello s (unasked limit) result mid

@@ -4,7 +4,7 @@ ghost use Rattle.usb_packet.specs.Spelling.{IsBytes};
 ghost use Rattle.usb_wire.specs.Questions.{IsEndpoint, IsQuestion, kind_asked};
 ghost use Rattle.usb_wire.specs.declared.question.Asked.TheVariants as asked;
 ghost use Rattle.usb_world.specs.World.{FitsMaximum, IsAttempt};
-ghost use Rattle.usb_stream.specs.Stream.{out_question, outcome_for, question_for, setup_question, speed_of};
+ghost use Rattle.usb_stream.specs.Stream.{question_of_out, outcome_for, question_for, question_of_setup, line_speed};
 
 use arrayvec::ArrayVec;
 use usb_bus::{Attempt, Outcome};
@@ -41,7 +41,7 @@ fn setup_question(
     payload: &Option<(Toggle, ArrayVec<u8, 64>)>,
 ) -> Option<Question>
     requires { IsEndpoint endpoint }
-    ensures value { result ≡ setup_question speed endpoint payload.now }
+    ensures value { result ≡ question_of_setup speed endpoint payload.now }
     ensures asks { IfSome result (λ q. IsQuestion q × (kind_asked q ≡ asked.Attempt)) }
 {
     match payload {
@@ -63,7 +63,7 @@ fn out_question(
     payload: &Option<(Toggle, ArrayVec<u8, 64>)>,
 ) -> Option<Question>
     requires { IsEndpoint endpoint }
-    ensures value { result ≡ out_question speed endpoint payload.now }
+    ensures value { result ≡ question_of_out speed endpoint payload.now }
     ensures asks { IfSome result (λ q. IsQuestion q × (kind_asked q ≡ asked.Attempt)) }
 {
     match payload {
@@ -91,7 +91,7 @@ fn copied(bytes: &[u8]) -> ArrayVec<u8, 64>
 
 /// How fast a device is, and where (8.6.5).
 fn speed_of(low: bool, pre: bool) -> Speed
-    ensures { result ≡ speed_of low pre }
+    ensures { result ≡ line_speed low pre }
 {
     match (low, pre) {
         (_, true) => Speed::LowBelowHub,

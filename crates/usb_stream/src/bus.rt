@@ -54,7 +54,7 @@ impl<R, W> StreamBus<R, W> {
 /// question tells it.
 impl<R: Read, W: Write> Bus for StreamBus<R, W> {
     ghost use Rattle.std.specs.Prelude.{false};
-    ghost use Rattle.usb_stream.specs.Stream.{Attempts, Calls, bus_fault, kept_of, no_world, status_at, streams};
+    ghost use Rattle.usb_stream.specs.Stream.{AttemptsByLine, Calls, bus_fault, kept_of, no_world, kept_status, streams};
     ghost use Rattle.usb_stream.specs.declared.fault.LiveFault.{LiveFault as AFault};
 
     ghost modelled = { false };
@@ -71,7 +71,7 @@ impl<R: Read, W: Write> Bus for StreamBus<R, W> {
         requires { IsAttempt attempt.now }
         ensures again { (f : AFault) → (kept_of self.old).fault ≡ Some f
             → (result ≡ Err (bus_fault f)) × (self.new ≡ self.old) }
-        ensures asks { (kept_of self.old).fault ≡ None → Attempts attempt.now
+        ensures asks { (kept_of self.old).fault ≡ None → AttemptsByLine attempt.now
             (streams (R.remaining (inner_of self.old.reader))
             (R.remaining (inner_of self.new.reader)) (W.contents (inner_of self.old.writer))
             (W.contents (inner_of self.new.writer)))
@@ -97,7 +97,7 @@ impl<R: Read, W: Write> Bus for StreamBus<R, W> {
 
     /// The status of a root port as it was told last, 0 where there is no such port (11.24.2.7).
     fn root_status(&self, port: u8) -> [u8; 4]
-        ensures { result ≡ status_at (kept_of self.now) port }
+        ensures { result ≡ kept_status (kept_of self.now) port }
     {
         if port < 1 || port > ROOTS {
             return [0; 4];
@@ -139,7 +139,7 @@ impl<R: Read, W: Write> Bus for StreamBus<R, W> {
 }
 
 impl<R: Read, W: Write> StreamBus<R, W> {
-    ghost use Rattle.usb_stream.specs.Stream.{AsksOnce, Calls, FailsOnce, Heard, Opens, ReadLines, ReadOne, Says, Tells, bus_fault, counted_on, greeted, kept_of, streams};
+    ghost use Rattle.usb_stream.specs.Stream.{AsksOnce, Calls, FailsOnce, AnswerLinesRead, SaysHello, ReadLines, ReadOne, Says, WritesLines, bus_fault, counted_on, greeted, kept_of, streams};
     ghost use Rattle.usb_stream.specs.declared.fault.LiveFault.{LiveFault as AFault};
 
     /// Says the hello to a far end, which tells how many root ports there are; at most so many questions are asked in
@@ -147,7 +147,7 @@ impl<R: Read, W: Write> StreamBus<R, W> {
     ///
     /// The bus is made whatever is answered: it may have a fault from the first.
     pub fn open(reader: Watched<R>, writer: Watched<W>, limit: u64) -> Self
-        ensures { Opens limit (streams (R.remaining (inner_of reader))
+        ensures { SaysHello limit (streams (R.remaining (inner_of reader))
             (R.remaining (inner_of result.reader)) (W.contents (inner_of writer))
             (W.contents (inner_of result.writer))) (kept_of result) }
     {
@@ -220,7 +220,7 @@ impl<R: Read, W: Write> StreamBus<R, W> {
     pub fn tell(&mut self, lines: &[u8]) -> Result<(), LiveFault>
         ensures again { (f : AFault) → (kept_of self.old).fault ≡ Some f
             → (result ≡ Err f) × (self.new ≡ self.old) }
-        ensures told { (kept_of self.old).fault ≡ None → Tells lines.now
+        ensures told { (kept_of self.old).fault ≡ None → WritesLines lines.now
             (W.contents (inner_of self.old.writer)) (W.contents (inner_of self.new.writer))
             (kept_of self.old) result (kept_of self.new) }
         ensures reader { self.new.reader ≡ self.old.reader }
@@ -311,7 +311,7 @@ impl<R: Read, W: Write> StreamBus<R, W> {
 
     /// Reads up to an answer; each status before it is kept.
     fn hear(&mut self, asked: Asked) -> Result<Answer, LiveFault>
-        ensures ok { IfOk result (λ got. Heard asked self.old.roots
+        ensures ok { IfOk result (λ got. AnswerLinesRead asked self.old.roots
             (R.remaining (inner_of self.old.reader)) (R.remaining (inner_of self.new.reader))
             self.old.statuses self.old.lines got self.new.statuses self.new.lines) }
         ensures err { IfErr result (λ f. (f ≢ LiveFault.LimitReached) × ReadLines

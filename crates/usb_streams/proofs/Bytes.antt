@@ -42,8 +42,8 @@ pub record SinkStep (done : Bool) (bytes : List ℕ) (pipe left : Option Bulk) (
   pub stuck : (IsAtWork pipe → ⊥) → (v.sink ≡ s.sink) × (done ≡ true → bytes ≡ []) × (IsAtWork left → ⊥)
 
 -- what sends nothing
-pub step_none : (done : Bool) (pipe left : Option Bulk) (s v : State) → left ≡ pipe → v.sink ≡ s.sink → SinkStep done [] pipe left s v
-step_none done pipe left s v kept same = record {
+pub sink_step_none : (done : Bool) (pipe left : Option Bulk) (s v : State) → left ≡ pipe → v.sink ≡ s.sink → SinkStep done [] pipe left s v
+sink_step_none done pipe left s v kept same = record {
   whole = λ told works. same ∙ sym (append-nil s.sink);
   cut = λ told works. ([], [], refl, same ∙ sym (append-nil s.sink), λ works. refl);
   stuck = λ stuck. (same, (λ told. refl), λ works. stuck (subst IsAtWork kept works));

@@ -6,7 +6,7 @@ use Rattle.usb_packet.specs.declared.Toggle.{Toggle}
 use Rattle.usb_packet.specs.Toggles.{flips}
 use Rattle.usb_device.specs.Progress.{IsSink}
 use Rattle.usb_device.specs.Rows.{State}
-use Rattle.usb_device.specs.Tree.{Spot}
+use Rattle.usb_device.specs.Tree.{Location}
 use Rattle.usb_world.specs.declared.types.BusFault.{BusFault}
 use Rattle.usb_world.specs.AttemptPackets.{IsSettled}
 use Rattle.usb_world.specs.Devices.{EachWas}
@@ -22,13 +22,14 @@ use Rattle.usb_pipe.specs.declared.fault.PipeFault.TheVariants as pipe_fault
 use Rattle.usb_pipe.specs.Bulk.{Bulk, MovedOut, Sends, after_fault}
 use Rattle.usb_pipe.specs.Control.{FaultAfter}
 use Rattle.usb_pipe.specs.End.{packet_target}
-use Rattle.usb_pipe.specs.Leaves.{FitsSink}
+use Rattle.usb_pipe.specs.Leaves.{OutPipeInSync}
 use Rattle.usb_pipe.specs.Moves.{Gave, start, packet, NotGone}
+use Rattle.usb_table.proofs.Interface.{empty_or_not}
 
 -- What was given to an endpoint that is halted
 
 -- none of the packets was acknowledged
-record NoneGiven (t : Target) (ep : ℕ) (sent : List ℕ) (x : Spot) (s v : State) : Type 0 where
+record NoneGiven (t : Target) (ep : ℕ) (sent : List ℕ) (x : Location) (s v : State) : Type 0 where
   halted : is_at s t ≡ true → IsSink ep t.max s → s.bulk_out.halted ≡ true → (v ≡ s) × (sent ≡ [])
 
 given_settled : {t : Target} {ep : ℕ} {first : Toggle} {old : World} {n : ℕ} {sent : List ℕ} {new : World} → Gave t ep first old n sent new → IsSettled old.roots → IsSettled new.roots
@@ -36,7 +37,7 @@ given_settled start h = h
 given_settled (packet bytes g full some fits puts) h = trail_settled puts.trail (given_settled g h)
 
 module _ (t : Target) (ep : ℕ) where
-  one_given : (toggle : Toggle) (sent bytes : List ℕ) (x : Spot) (s u v : State) → NoneGiven t ep sent x s u → SinkOut t ep toggle bytes (Ok []) x u v → NoneGiven t ep (sent ++ bytes) x s v
+  one_given : (toggle : Toggle) (sent bytes : List ℕ) (x : Location) (s u v : State) → NoneGiven t ep sent x s u → SinkOut t ep toggle bytes (Ok []) x u v → NoneGiven t ep (sent ++ bytes) x s v
   one_given toggle sent bytes x s u v first second = record { halted = λ at sink halt. absurd (never at sink halt) }
     where
       never : is_at s t ≡ true → IsSink ep t.max s → s.bulk_out.halted ≡ true → ⊥
@@ -53,12 +54,8 @@ module _ (t : Target) (ep : ℕ) where
 -- A send
 
 -- the device took nothing, and the send is done only where there was nothing to send
-pub record NoneSent (bytes : List ℕ) (pipe : Bulk) (answer : Result (Unit {0}) PipeFault) (x : Spot) (s v : State) : Type 0 where
-  pub none : is_at s pipe.target ≡ true → FitsSink pipe s → (v.sink ≡ s.sink) × (is_ok answer ≡ true → bytes ≡ [])
-
-empty_or_not : (bytes : List ℕ) → (bytes ≡ []) ⊎ (bytes ≢ [])
-empty_or_not [] = inl refl
-empty_or_not (b ∷ bytes) = inr (λ e. cc e)
+pub record NoneSent (bytes : List ℕ) (pipe : Bulk) (answer : Result (Unit {0}) PipeFault) (x : Location) (s v : State) : Type 0 where
+  pub none : is_at s pipe.target ≡ true → OutPipeInSync pipe s → (v.sink ≡ s.sink) × (is_ok answer ≡ true → bytes ≡ [])
 
 condition_cases : (G : Type 0) (c : Condition) → (c ≡ Ready → G) → (c ≡ Halted → G) → (c ≡ Broken → G) → G
 condition_cases G Ready ready halts breaks = ready refl

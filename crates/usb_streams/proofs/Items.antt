@@ -6,7 +6,7 @@ use Rattle.std.specs.Prelude.{is_ok, is_some, if◌then◌else◌}
 use Rattle.usb_port.specs.Order.{path_cmp}
 use Rattle.usb_device.specs.declared.bulk.EndpointState.{EndpointState}
 use Rattle.usb_device.specs.Rows.{State}
-use Rattle.usb_device.specs.Tree.{Spot, path_to, reach, reach_on, state_on}
+use Rattle.usb_device.specs.Tree.{Location, path_to, reach, reach_on, state_on}
 use Rattle.usb_device.specs.View.{state_there}
 use Rattle.usb_world.specs.declared.event.Ask.{Ask}
 use Rattle.usb_world.specs.declared.event.Ask.TheVariants.{Show, Send, Receive, Clear}
@@ -20,7 +20,7 @@ use Rattle.usb_pipe.specs.declared.condition.Condition.TheVariants.{Ready}
 use Rattle.usb_pipe.specs.declared.fault.PipeFault.{PipeFault}
 use Rattle.usb_pipe.specs.declared.fault.PipeFault.TheVariants as pipe_fault
 use Rattle.usb_pipe.specs.Bulk.{Bulk, Sends}
-use Rattle.usb_pipe.specs.Leaves.{FitsSink}
+use Rattle.usb_pipe.specs.Leaves.{OutPipeInSync}
 use Rattle.usb_enum.specs.declared.finding.Accepted.{Accepted}
 use Rattle.usb_table.specs.declared.fault.EndpointFault.{EndpointFault}
 use Rattle.usb_table.specs.declared.fault.EndpointFault.TheVariants.{Pipe}
@@ -31,12 +31,12 @@ use Rattle.usb_table.specs.Deliveries.{ChangesAt, GaveBy, HaltClearedBy, HaltsCl
 use Rattle.usb_table.specs.Entries.{Entries}
 use Rattle.usb_table.specs.Findings.{accepted_device_at, out_endpoint}
 use Rattle.usb_table.specs.KnownPorts.{is_below_hub}
-use Rattle.usb_table.specs.Levels.{AreLevel, FitsOut}
+use Rattle.usb_table.specs.Levels.{PipesInSync, FitsOut}
 use Rattle.usb_table.specs.Pipes.{ArePipesIf, ArePipesTo, IsPipe}
 use Rattle.usb_table.specs.Table.{GoesThrough, pipes_at}
 use Rattle.usb_table.specs.Transfers.{ClearedAfter, ClearedBy, ClearedIf, PipesCleared, PipesReceived, PipesSent, ReceivedBy, SameSettings, SentBy, endpoint_answer}
-use Rattle.usb_table.proofs.Interface.{held_address, path_itself, path_tied}
-use Rattle.usb_host.specs.Hosting.{Hosting}
+use Rattle.usb_table.proofs.Interface.{held_address, path_itself, path_tied, done_through}
+use Rattle.usb_host.specs.HostState.{HostState}
 use Rattle.usb_host.specs.Ownership.{claims}
 use Rattle.usb_host.specs.ToldFaults.{host_told}
 use Rattle.usb_host.specs.Transfers.{table_in}
@@ -47,11 +47,11 @@ use Rattle.usb_serve.specs.declared.transfer.TransferFault.{TransferFault}
 use Rattle.usb_serve.specs.RunSegments.{Knows}
 use Rattle.usb_host.specs.HostCalls.{ClearTells, ReceiveTells, SendTells}
 use Rattle.usb_serve.specs.Transfers.{IsItemOf, Transfers, failed, sent_count, transfer_ended}
-use Rattle.usb_serve.proofs.Interface.{Answered, silent, listed, sent, received, cleared, answered, count_done, told_cleared, told_received, told_sent}
+use Rattle.usb_serve.proofs.Interface.{AskAnswered, silent, listed, sent, received, cleared, answered, count_done, told_cleared, told_received, told_sent, no_bus_fault}
 use Rattle.usb_streams.specs.Stretches.{ToldItem}
 use Rattle.usb_streams.specs.Streams.{ClearsNoIn, ClearsNoOut, GaveNextBy, IsAtWork, Joins, StreamsAt, bytes_for, bytes_from, is_done}
-use Rattle.usb_streams.proofs.Bytes.{SinkStep, joins_none, step_none}
-use Rattle.usb_streams.proofs.Devices.{Moves, gave_none}
+use Rattle.usb_streams.proofs.Bytes.{SinkStep, joins_none, sink_step_none}
+use Rattle.usb_streams.proofs.Devices.{DeviceMoves, gave_no_bytes}
 use Rattle.usb_streams.proofs.HaltedSends.{NoneSent, empty_stuck, failed_stuck, none_sent}
 
 -- The pipes over a call
@@ -113,10 +113,6 @@ clears_alone done (Some pipe) (Some left) before after end works none = let e = 
 
 -- What is told
 
-answer_done : {A : Type 0} (answer : Result A PipeFault) (result : Result A EndpointFault) → result ≡ endpoint_answer answer → is_ok answer ≡ is_ok result
-answer_done (Ok x) result e = sym (ap is_ok e)
-answer_done (Err why) result e = sym (ap is_ok e)
-
 fault_done : {A : Type 0} (fault : Result TransferFault RunFault) (told : Result A TransferFault) → failed fault ≡ Ok told → is_ok told ≡ false
 fault_done (Ok why) told e = let is : told ≡ Err why = cc e in ap is_ok is
 fault_done (Err fault) told e = absurd (cc e)
@@ -125,10 +121,6 @@ fault_done (Err fault) told e = absurd (cc e)
 ended_done : {A : Type 0} (result : Result A EndpointFault) (told : Result A TransferFault) → transfer_ended (host_told result) ≡ Ok told → is_ok result ≡ is_ok told
 ended_done (Ok x) told e = let is : told ≡ Ok x = cc e in sym (ap is_ok is)
 ended_done (Err fault) told e = sym (fault_done _ told e)
-
--- and of none of the bus
-no_fault : {A : Type 0} (result : Result A EndpointFault) (told : Result A TransferFault) → transfer_ended (host_told result) ≡ Ok told → (why : BusFault) → result ≢ Err (Pipe (pipe_fault.Bus why))
-no_fault result told e why is = let none = sym (ap (λ r. transfer_ended (host_told r)) is) ∙ e in cc none
 
 pipe_address : (device : Accepted) (is_in : Bool) (endpoint : Option (ℕ × ℕ)) (pipe : Bulk) → IsPipe device is_in endpoint (Some pipe) → pipe.target.addr ≡ device.address
 pipe_address device is_in None pipe is = absurd is
@@ -154,11 +146,11 @@ gave_sink bytes (Some pipe) (Some left) s v x = (ap (λ (d : State). d.sink) x.r
 -- A send through the OUT pipe
 
 -- one state stands at a place
-one_stands : (w : World) (x : Spot) (s u : State) → state_on w.roots x ≡ Some s → state_on w.roots x ≡ Some u → u ≡ s
+one_stands : (w : World) (x : Location) (s u : State) → state_on w.roots x ≡ Some s → state_on w.roots x ≡ Some u → u ≡ s
 one_stands w x s u e f = cc (e, f)
 
 -- the device that is reached before and after it
-module _ (bytes : List ℕ) (old new : World) (x : Spot) (s v : State) (on : reach_on new.roots x ≡ true) (stands : state_on new.roots x ≡ Some v) (stood : state_on old.roots x ≡ Some s) where
+module _ (bytes : List ℕ) (old new : World) (x : Location) (s v : State) (on : reach_on new.roots x ≡ true) (stands : state_on new.roots x ≡ Some v) (stood : state_on old.roots x ≡ Some s) where
   untried : (done : Bool) (pipe left : Option Bulk) → done ≡ false → pipe ≡ None → new ≡ old → SinkStep done bytes pipe left s v
   untried done pipe left failed none same =
       let still : v.sink ≡ s.sink = ap (λ (d : State). d.sink) (one_stands old x s v stood (sym (ap (λ (w : World). state_on w.roots x) same) ∙ stands)) in
@@ -168,12 +160,12 @@ module _ (bytes : List ℕ) (old new : World) (x : Spot) (s v : State) (on : rea
         stuck = λ stuck. absurd (stuck (subst IsAtWork (sym none) tt));
       }
 
-  module _ (pipe left : Bulk) (at : is_at s pipe.target ≡ true) (fits : FitsSink pipe s) (single : new.shared ≡ false) where
+  module _ (pipe left : Bulk) (at : is_at s pipe.target ≡ true) (fits : OutPipeInSync pipe s) (single : new.shared ≡ false) where
     nothing_sent : (answer : Result (Unit {0}) PipeFault) → Sends bytes pipe old answer left new → pipe.condition ≢ Ready → (v.sink ≡ s.sink) × (is_ok answer ≡ true → bytes ≡ [])
     nothing_sent answer sends stuck =
         let was : Was (NoneSent bytes pipe answer) old x v = none_sent bytes pipe answer left old new stuck single sends x v on stands in
         let same : was.before ≡ s = one_stands old x s was.before stood was.stands in
-        let none = was.so.none (ap (λ q. is_at q pipe.target) same ∙ at) (subst (FitsSink pipe) (sym same) fits) in
+        let none = was.so.none (ap (λ q. is_at q pipe.target) same ∙ at) (subst (OutPipeInSync pipe) (sym same) fits) in
         (none.0 ∙ ap (λ (d : State). d.sink) same, none.1)
 
     -- by what the pipe answered
@@ -193,16 +185,16 @@ module _ (bytes : List ℕ) (old new : World) (x : Spot) (s v : State) (on : rea
         }
 
   by_pipe : (out left : Option Bulk) (result : Result (Unit {0}) EndpointFault) → ((why : BusFault) → result ≢ Err (Pipe (pipe_fault.Bus why))) → new.shared ≡ false
-      → ((pipe : Bulk) → out ≡ Some pipe → (is_at s pipe.target ≡ true) × FitsSink pipe s) → SentBy out bytes old result left new → JoinsSink (is_ok result) bytes s v → SinkStep (is_ok result) bytes out left s v
+      → ((pipe : Bulk) → out ≡ Some pipe → (is_at s pipe.target ≡ true) × OutPipeInSync pipe s) → SentBy out bytes old result left new → JoinsSink (is_ok result) bytes s v → SinkStep (is_ok result) bytes out left s v
   by_pipe None left result other single fits x joins = untried (is_ok result) None left (ap is_ok x.0) refl x.2
   by_pipe (Some pipe) None result other single fits x joins = absurd x
   by_pipe (Some pipe) (Some left) result other single fits x joins =
-      let same : is_ok x.answer ≡ is_ok result = answer_done x.answer result x.told in
+      let same : is_ok x.answer ≡ is_ok result = done_through x.answer result x.told in
       subst (λ d. SinkStep d bytes (Some pipe) (Some left) s v) same
       (through pipe left (fits pipe refl).0 (fits pipe refl).1 single x.answer (λ why e. other why (x.told ∙ ap endpoint_answer e)) x.sends (subst (λ d. JoinsSink d bytes s v) (sym same) joins))
 
   by_pipes : (pipes left : Pipes) (result : Result (Unit {0}) EndpointFault) → ((why : BusFault) → result ≢ Err (Pipe (pipe_fault.Bus why))) → new.shared ≡ false
-      → ((pipe : Bulk) → pipe_out pipes ≡ Some pipe → (is_at s pipe.target ≡ true) × FitsSink pipe s) → PipesSent pipes bytes old result left new → JoinsSink (is_ok result) bytes s v
+      → ((pipe : Bulk) → pipe_out pipes ≡ Some pipe → (is_at s pipe.target ≡ true) × OutPipeInSync pipe s) → PipesSent pipes bytes old result left new → JoinsSink (is_ok result) bytes s v
       → SinkStep (is_ok result) bytes (pipe_out pipes) (pipe_out left) s v
   by_pipes (Hub pipe) left result other single fits x joins = untried (is_ok result) None (pipe_out left) (ap is_ok x.0) refl x.2
   by_pipes (Function pipes) left result other single fits x joins =
@@ -212,7 +204,7 @@ module _ (bytes : List ℕ) (old new : World) (x : Spot) (s v : State) (on : rea
 -- what an item moves, by the bytes that it has for the path
 module _ (path : List ℕ) (t : ToldItem) (pipes left : Pipes) (s v : State) where
   moved : (to from : List ℕ) → bytes_for path t.due ≡ to → bytes_from path t.item ≡ from → Joins (is_done t.item) to s.sink v.sink → (ClearsNoOut path t → SinkStep (is_done t.item) to (pipe_out pipes) (pipe_out left) s v)
-      → (ClearsNoIn path t → GaveNextBy from (pipe_in pipes) (pipe_in left) s v) → v.spec ≡ s.spec → Moves path t pipes left s v
+      → (ClearsNoIn path t → GaveNextBy from (pipe_in pipes) (pipe_in left) s v) → v.spec ≡ s.spec → DeviceMoves path t pipes left s v
   moved to from e f sink took gave spec = record {
     sink = subst (λ l. Joins (is_done t.item) l s.sink v.sink) (sym e) sink;
     took = λ none. subst (λ l. SinkStep (is_done t.item) l (pipe_out pipes) (pipe_out left) s v) (sym e) (took none);
@@ -221,32 +213,32 @@ module _ (path : List ℕ) (t : ToldItem) (pipes left : Pipes) (s v : State) whe
   }
 
   -- nothing there
-  unmoved : bytes_for path t.due ≡ [] → bytes_from path t.item ≡ [] → left ≡ pipes → v ≡ s → Moves path t pipes left s v
+  unmoved : bytes_for path t.due ≡ [] → bytes_from path t.item ≡ [] → left ≡ pipes → v ≡ s → DeviceMoves path t pipes left s v
   unmoved e f kept same =
       moved [] [] e f (joins_none (is_done t.item) [] s.sink v.sink refl (ap (λ (d : State). d.sink) same))
-      (λ none. step_none (is_done t.item) (pipe_out pipes) (pipe_out left) s v (ap pipe_out kept) (ap (λ (d : State). d.sink) same))
-      (λ none. gave_none (pipe_in pipes) (pipe_in left) (record { row = 0; rest = [] }) s v (ap pipe_in kept) (ap (λ (d : State). d.spec) same, ap (λ (d : State). d.registers) same)
+      (λ none. sink_step_none (is_done t.item) (pipe_out pipes) (pipe_out left) s v (ap pipe_out kept) (ap (λ (d : State). d.sink) same))
+      (λ none. gave_no_bytes (pipe_in pipes) (pipe_in left) (record { row = 0; rest = [] }) s v (ap pipe_in kept) (ap (λ (d : State). d.spec) same, ap (λ (d : State). d.registers) same)
       (ap (λ (d : State). d.place) same) (ap (λ (d : State). d.bulk_in) same))
       (ap (λ (d : State). d.spec) same)
 
 -- Hosts
 
 -- the accepted device at a path was listed there before an item, and moved what the item tells
-pub record MovesAt (path : List ℕ) (device : Accepted) (due : Option Ask) (item : Item) (old new : Hosting) : Type 0 where
+pub record MovesAt (path : List ℕ) (device : Accepted) (due : Option Ask) (item : Item) (old new : HostState) : Type 0 where
   pub listed : accepted_device_at path old.entries ≡ Some device
-  pub moves : StreamsAt path (Moves path (record { due = due; asked = old; item = item }) (pipes_at path (table_in old)) (pipes_at path (table_in new))) old new
+  pub moves : StreamsAt path (DeviceMoves path (record { due = due; asked = old; item = item }) (pipes_at path (table_in old)) (pipes_at path (table_in new))) old new
 
-module _ (path : List ℕ) (device : Accepted) (old new : Hosting) (at : accepted_device_at path new.entries ≡ Some device) where
+module _ (path : List ℕ) (device : Accepted) (old new : HostState) (at : accepted_device_at path new.entries ≡ Some device) where
   -- a listing
   shown : (item : Item) → bytes_from path item ≡ [] → new ≡ old → MovesAt path device (Some Show) item old new
   shown item none same = record {
-    listed = ap (λ (h : Hosting). accepted_device_at path h.entries) (sym same) ∙ at;
+    listed = ap (λ (h : HostState). accepted_device_at path h.entries) (sym same) ∙ at;
     moves = λ x v is on stands. record {
       before = v;
-      on = ap (λ (h : Hosting). reach_on h.world.roots x) (sym same) ∙ on;
-      stands = ap (λ (h : Hosting). state_on h.world.roots x) (sym same) ∙ stands;
+      on = ap (λ (h : HostState). reach_on h.world.roots x) (sym same) ∙ on;
+      stands = ap (λ (h : HostState). state_on h.world.roots x) (sym same) ∙ stands;
       so = unmoved path (record { due = Some Show; asked = old; item = item }) (pipes_at path (table_in old)) (pipes_at path (table_in new)) v v refl none
-          (ap (λ (h : Hosting). pipes_at path (table_in h)) same) refl;
+          (ap (λ (h : HostState). pipes_at path (table_in h)) same) refl;
     };
   }
 
@@ -271,8 +263,8 @@ module _ (path : List ℕ) (device : Accepted) (old new : Hosting) (at : accepte
 
   -- to the path itself
   here : (due : Option Ask) (item : Item) (So : State → State → Type 0) → GoesThrough path (table_in old) (table_in new) → EachWas (ChangesAt path So) old.world new.world
-      → ((x : Spot) (s v : State) → path ≡ path_to x → reach_on old.world.roots x ≡ true → reach_on new.world.roots x ≡ true → state_on new.world.roots x ≡ Some v → state_on old.world.roots x ≡ Some s → So s v
-      → Moves path (record { due = due; asked = old; item = item }) (pipes_at path (table_in old)) (pipes_at path (table_in new)) s v)
+      → ((x : Location) (s v : State) → path ≡ path_to x → reach_on old.world.roots x ≡ true → reach_on new.world.roots x ≡ true → state_on new.world.roots x ≡ Some v → state_on old.world.roots x ≡ Some s → So s v
+      → DeviceMoves path (record { due = due; asked = old; item = item }) (pipes_at path (table_in old)) (pipes_at path (table_in new)) s v)
       → MovesAt path device due item old new
   here due item So through each so = record {
     listed = listed_before path through;
@@ -283,7 +275,7 @@ module _ (path : List ℕ) (device : Accepted) (old new : Hosting) (at : accepte
 
   module _ (knows : Knows old) (still : old.world.fault ≡ None) (running : old.stopped ≡ false) where
     -- the OUT pipe is to the device that is reached at the path
-    fits_out : (pipes : Pipes) (s : State) → ArePipesTo device (is_below_hub path) pipes → address_of s ≡ device.address → AreLevel pipes s → (pipe : Bulk) → pipe_out pipes ≡ Some pipe → (is_at s pipe.target ≡ true) × FitsSink pipe s
+    fits_out : (pipes : Pipes) (s : State) → ArePipesTo device (is_below_hub path) pipes → address_of s ≡ device.address → PipesInSync pipes s → (pipe : Bulk) → pipe_out pipes ≡ Some pipe → (is_at s pipe.target ≡ true) × OutPipeInSync pipe s
     fits_out (Hub status) s are has level pipe e = absurd (cc e)
     fits_out (Function pipes) s are has level pipe e =
         let is : IsPipe device false (out_endpoint device) (Some pipe) = subst (IsPipe device false (out_endpoint device)) e are.1 in
@@ -306,14 +298,14 @@ module _ (path : List ℕ) (device : Accepted) (old new : Hosting) (at : accepte
         let reached : reach old.world.roots path ≡ true = ap (reach old.world.roots) is_path ∙ was_on in
         let there : state_there old.world.roots path ≡ Some s = ap (state_there old.world.roots) is_path ∙ stood in
         let has : address_of s ≡ device.address = held_address (table_in old) old.world path device s (knows.sound.owned.so still) listed reached there in
-        let level : AreLevel before s = (knows.sound.level still path).level device s listed reached there in
+        let level : PipesInSync before s = (knows.sound.level still path).level device s listed reached there in
         let are : ArePipesTo device (is_below_hub path) before = subst (λ f. ArePipesIf f (is_below_hub path) before) listed hands.through.fits in
         moved path (record { due = Some (Send path bytes); asked = old; item = made }) before left s v bytes [] (ap (λ (b : Bool). if b then bytes else []) (path_itself path)) refl
         (subst (λ d. Joins d bytes s.sink v.sink) (count_done (length bytes) told) (joins_sink (is_ok told) bytes s v took.joins))
         (λ none. subst (λ d. SinkStep d bytes (pipe_out before) (pipe_out left) s v) done
-        (by_pipes bytes old.world new.world x s v on stands stood before left hands.answer (no_fault hands.answer told tells) single (fits_out before s are has level) hands.moves
+        (by_pipes bytes old.world new.world x s v on stands stood before left hands.answer (no_bus_fault hands.answer told tells) single (fits_out before s are has level) hands.moves
         (subst (λ d. JoinsSink d bytes s v) (sym (ended_done hands.answer told tells)) took.joins)))
-        (λ none. gave_none (pipe_in before) (pipe_in left) x s v (sent_in before left bytes old.world new.world hands.answer hands.moves) (spec, ap (λ (d : State). d.registers) took.rest)
+        (λ none. gave_no_bytes (pipe_in before) (pipe_in left) x s v (sent_in before left bytes old.world new.world hands.answer hands.moves) (spec, ap (λ (d : State). d.registers) took.rest)
         (ap (λ (d : State). d.place) took.rest) (ap (λ (d : State). d.bulk_in) took.rest))
         spec)
 
@@ -327,7 +319,7 @@ module _ (path : List ℕ) (device : Accepted) (old new : Hosting) (at : accepte
         let kept = gave_sink (bytes_in told) (pipe_in before) (pipe_in left) s v gave in
         moved path (record { due = Some (Receive path packets); asked = old; item = item.Received path told }) before left s v [] (bytes_in told) refl (ap (λ (b : Bool). if b then bytes_in told else []) (path_itself path))
         (joins_none (is_ok told) [] s.sink v.sink refl kept.0)
-        (λ none. step_none (is_ok told) (pipe_out before) (pipe_out left) s v (received_out before left packets old.world new.world hands.answer hands.moves) kept.0)
+        (λ none. sink_step_none (is_ok told) (pipe_out before) (pipe_out left) s v (received_out before left packets old.world new.world hands.answer hands.moves) kept.0)
         (λ none. gave_by (bytes_in told) (pipe_in before) (pipe_in left) s v gave (received_in before left packets old.world new.world hands.answer hands.moves)) kept.1)
 
     cleared_here : (told : Result (Unit {0}) TransferFault) → Transfers (ClearTells path) old told new → MovesAt path device (Some (Clear path)) (item.Cleared path told) old new
@@ -342,11 +334,11 @@ module _ (path : List ℕ) (device : Accepted) (old new : Hosting) (at : accepte
         let same : SameSettings x s v = subst (λ (d : State). SameSettings x d v) (one_stands old.world x s was.before stood was.stands) was.so in
         moved path (record { due = Some (Clear path); asked = old; item = item.Cleared path told }) before left s v [] [] refl refl
         (joins_none (is_ok told) [] s.sink v.sink refl cleared.sink)
-        (λ works. step_none (is_ok told) (pipe_out before) (pipe_out left) s v
+        (λ works. sink_step_none (is_ok told) (pipe_out before) (pipe_out left) s v
         (clears_alone (is_ok told) (pipe_out before) (pipe_out left) s.bulk_out v.bulk_out cleared.out (works refl) (cleared_out before left old.world new.world hands.answer hands.moves)).0 cleared.sink)
         (λ works.
         let alone = clears_alone (is_ok told) (pipe_in before) (pipe_in left) s.bulk_in v.bulk_in cleared.into (works refl) (cleared_in before left old.world new.world hands.answer hands.moves) in
-        gave_none (pipe_in before) (pipe_in left) x s v alone.0 same cleared.place alone.1)
+        gave_no_bytes (pipe_in before) (pipe_in left) x s v alone.0 same cleared.place alone.1)
         same.0)
 
     -- whether it is to the path or to another
@@ -383,7 +375,7 @@ module _ (path : List ℕ) (device : Accepted) (old new : Hosting) (at : accepte
             subst (λ d. MovesAt path device d made old new) (sym asks)
             (subst (λ (i : Item). MovesAt path device asked i old new) (sym same) so)
 
-        moves_as : Answered due (Some made) old new → MovesAt path device due made old new
+        moves_as : AskAnswered due (Some made) old new → MovesAt path device due made old new
         moves_as (silent none same) = absurd (cc none)
         moves_as (listed asks e same) =
             let listing : Item = item.Listing new.entries new.world.taken in

@@ -9,7 +9,7 @@ use Rattle.usb_device.specs.Progress.{SourceAt}
 use Rattle.usb_device.specs.Rows.{State}
 use Rattle.usb_pipe.specs.declared.condition.Condition.TheVariants.{Ready}
 use Rattle.usb_pipe.specs.Bulk.{Bulk}
-use Rattle.usb_pipe.specs.Leaves.{FitsSource}
+use Rattle.usb_pipe.specs.Leaves.{InPipeInSync}
 use Rattle.usb_descriptor.specs.Choice.{status_endpoint_of}
 use Rattle.usb_enum.specs.declared.finding.Accepted.{Accepted}
 use Rattle.usb_enum.specs.Device.{configuration_of}
@@ -48,9 +48,9 @@ new_in device below pipe e = by_hub (is_some device.hub) refl
         new_end device (in_endpoint device) pipe (sym (ap pipe_in there) ∙ e)
 
 -- through such a pipe to an endpoint that has begun again, the host has got as many bytes as the device counts
-pub begun_place : (pipe : Bulk) (got : ℕ) (s : State) → pipe.condition ≡ Ready → pipe.toggle ≡ Zero → s.bulk_in ≡ rested → FitsSource pipe got s → FitsSource pipe s.place s
+pub begun_place : (pipe : Bulk) (got : ℕ) (s : State) → pipe.condition ≡ Ready → pipe.toggle ≡ Zero → s.bulk_in ≡ rested → InPipeInSync pipe got s → InPipeInSync pipe s.place s
 begun_place pipe got s works first begun fits = by_source (fits.level works)
   where
-    by_source : SourceAt pipe.max got pipe.toggle s → FitsSource pipe s.place s
-    by_source (SourceAt.level place toggle) = subst (λ n. FitsSource pipe n s) (sym place) fits
+    by_source : SourceAt pipe.max got pipe.toggle s → InPipeInSync pipe s.place s
+    by_source (SourceAt.level place toggle) = subst (λ n. InPipeInSync pipe n s) (sym place) fits
     by_source (SourceAt.ahead place more toggle) = absurd (cc (sym (ap (λ (x : EndpointState). x.toggle) begun) ∙ toggle ∙ ap other first))

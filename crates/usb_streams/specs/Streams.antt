@@ -4,13 +4,13 @@ use Rattle.std.specs.BTreeMap.{is_at}
 use Rattle.std.specs.List.{AllByRecursion}
 use Rattle.usb_port.specs.Order.{path_cmp}
 use Rattle.usb_device.specs.Rows.{State}
-use Rattle.usb_device.specs.Tree.{Spot, path_to, reach_on, state_on}
+use Rattle.usb_device.specs.Tree.{Location, path_to, reach_on, state_on}
 use Rattle.usb_world.specs.declared.event.Ask.{Ask}
 use Rattle.usb_world.specs.declared.event.Ask.TheVariants.{Send, Clear}
 use Rattle.usb_world.specs.Devices.{Was}
 use Rattle.usb_pipe.specs.declared.condition.Condition.TheVariants.{Ready}
 use Rattle.usb_pipe.specs.Bulk.{Bulk}
-use Rattle.usb_pipe.specs.Leaves.{FitsSource}
+use Rattle.usb_pipe.specs.Leaves.{InPipeInSync}
 use Rattle.usb_enum.specs.declared.finding.Accepted.{Accepted}
 use Rattle.usb_table.specs.declared.pipes.Pipes.{Pipes}
 use Rattle.usb_table.specs.Deliveries.{bytes_in, pipe_in, pipe_out}
@@ -19,7 +19,7 @@ use Rattle.usb_table.specs.Levels.{FitsIn}
 use Rattle.usb_table.specs.Table.{pipes_at}
 use Rattle.usb_host.specs.BulkPipes.{RenewedAt}
 use Rattle.usb_host.specs.declared.host.Round.{Round}
-use Rattle.usb_host.specs.Hosting.{Hosting}
+use Rattle.usb_host.specs.HostState.{HostState}
 use Rattle.usb_host.specs.Transfers.{table_in}
 use Rattle.usb_serve.specs.declared.runs.Item.{Item}
 use Rattle.usb_serve.specs.declared.runs.Item.TheVariants.{Listing, Sent, Received, Cleared}
@@ -98,8 +98,8 @@ ClearsNoIn path t = t.due ≡ Some (Clear path) → IsAtWork (pipe_in (pipes_at 
 
 -- through a pipe that had got some number of bytes of the device's source these came, which are the next ones; the pipe has got so many more
 pub record GaveNext (bytes : List ℕ) (pipe left : Bulk) (s v : State) : Type 0 where
-  pub next : (got : ℕ) → FitsSource pipe got s → bytes ≡ take (length bytes) (drop got s.spec.source)
-  pub has : (got : ℕ) → FitsSource pipe got s → FitsSource left (got + length bytes) v
+  pub next : (got : ℕ) → InPipeInSync pipe got s → bytes ≡ take (length bytes) (drop got s.spec.source)
+  pub has : (got : ℕ) → InPipeInSync pipe got s → InPipeInSync left (got + length bytes) v
 
 -- without a pipe none came
 abbrev pub GaveNextBy : List ℕ → Option Bulk → Option Bulk → State → State → Type 0
@@ -119,27 +119,27 @@ pub record Streams (path : List ℕ) (told : List ToldItem) (pipes left : Pipes)
   pub spec : v.spec ≡ s.spec
 
 -- so it is of the device that is reached at a path in the new world, which was reached there in the old one
-abbrev pub StreamsAt : List ℕ → (State → State → Type 0) → Hosting → Hosting → Type 0
-StreamsAt path So old new = (x : Spot) (v : State) → path ≡ path_to x → reach_on new.world.roots x ≡ true → state_on new.world.roots x ≡ Some v
+abbrev pub StreamsAt : List ℕ → (State → State → Type 0) → HostState → HostState → Type 0
+StreamsAt path So old new = (x : Location) (v : State) → path ≡ path_to x → reach_on new.world.roots x ≡ true → state_on new.world.roots x ≡ Some v
     → Was (λ y s v. So s v) old.world x v
 
 -- the accepted device at a path stood there from the beginning of a stretch
-pub record StoodAt (path : List ℕ) (device : Accepted) (told : List ToldItem) (old new : Hosting) : Type 0 where
+pub record StoodAt (path : List ℕ) (device : Accepted) (told : List ToldItem) (old new : HostState) : Type 0 where
   pub listed : accepted_device_at path old.entries ≡ Some device
   pub streams : StreamsAt path (Streams path told (pipes_at path (table_in old)) (pipes_at path (table_in new))) old new
 
 -- the IN pipe to the device that is reached at a path has got as many bytes of its source as the device counts
-abbrev pub StartsAt : List ℕ → Hosting → Type 0
-StartsAt path h = (x : Spot) (s : State) (pipe : Bulk) → path ≡ path_to x → reach_on h.world.roots x ≡ true → state_on h.world.roots x ≡ Some s
-    → pipe_in (pipes_at path (table_in h)) ≡ Some pipe → FitsSource pipe s.place s
+abbrev pub StartsAt : List ℕ → HostState → Type 0
+StartsAt path h = (x : Location) (s : State) (pipe : Bulk) → path ≡ path_to x → reach_on h.world.roots x ≡ true → state_on h.world.roots x ≡ Some s
+    → pipe_in (pipes_at path (table_in h)) ≡ Some pipe → InPipeInSync pipe s.place s
 
 -- it was found anew in a round of the stretch, and stood there since
-pub record FoundSince (path : List ℕ) (device : Accepted) (told : List ToldItem) (old new : Hosting) : Type 0 where
+pub record FoundSince (path : List ℕ) (device : Accepted) (told : List ToldItem) (old new : HostState) : Type 0 where
   pub earlier : List ToldItem
-  pub before : Hosting
+  pub before : HostState
   pub up_to : Stretch old earlier before
   pub done : Round
-  pub found : Hosting
+  pub found : HostState
   pub round : RoundTells before (Ok done) found
   pub renewed : RenewedAt path device before found
   pub starts : StartsAt path found
@@ -148,5 +148,5 @@ pub record FoundSince (path : List ℕ) (device : Accepted) (told : List ToldIte
   pub stood : StoodAt path device since found new
   pub all : since ++ earlier ≡ told
 
-abbrev pub StoodOrFound : List ℕ → Accepted → List ToldItem → Hosting → Hosting → Type 0
+abbrev pub StoodOrFound : List ℕ → Accepted → List ToldItem → HostState → HostState → Type 0
 StoodOrFound path device told old new = StoodAt path device told old new ⊎ FoundSince path device told old new

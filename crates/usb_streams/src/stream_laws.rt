@@ -4,7 +4,7 @@
 ghost use Rattle.std.specs.Prelude.{◌≡◌, ℕ, List, Bool, false, None, Some};
 ghost use Rattle.usb_enum.specs.declared.finding.Accepted.{Accepted};
 ghost use Rattle.usb_table.specs.Findings.{accepted_device_at};
-ghost use Rattle.usb_host.specs.Hosting.{Hosting};
+ghost use Rattle.usb_host.specs.HostState.{HostState};
 ghost use Rattle.usb_serve.specs.declared.runs.Item.{Item};
 ghost use Rattle.usb_serve.specs.declared.serving.Mode.{Mode};
 ghost use Rattle.usb_serve.specs.RunSegments.{Knows};
@@ -18,7 +18,7 @@ ghost use Rattle.usb_streams.specs.Stretches.{IsStretch, Stretch, ToldItem};
 /// told done handed back, end to end, the next bytes of its source, none twice and none left out: each as long as no
 /// halt of the endpoint is cleared.
 pub fn transfers_join()
-    ensures { (old new : Hosting) (told : List ToldItem) → Stretch old told new → Knows old
+    ensures { (old new : HostState) (told : List ToldItem) → Stretch old told new → Knows old
         → new.world.fault ≡ None
         → (path : List ℕ) (device : Accepted) → accepted_device_at path new.entries ≡ Some device
         → StoodOrFound path device told old new }
@@ -27,6 +27,6 @@ pub fn transfers_join()
 /// A run is a stretch, in which the items that events asked for are told; where it is over, its last listing stands behind
 /// them.
 pub fn runs_are_stretches()
-    ensures { (mode : Mode) (old new : Hosting) (items : List Item) (over : Bool)
+    ensures { (mode : Mode) (old new : HostState) (items : List Item) (over : Bool)
         → Transcript mode false old items over new → IsStretch items over old new }
 {}

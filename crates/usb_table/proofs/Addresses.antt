@@ -5,7 +5,7 @@ use Rattle.std.specs.Option.{option_map}
 use Rattle.usb_enum.specs.declared.finding.Finding.{Finding}
 use Rattle.usb_table.specs.Findings.{address_found, HasDevice, HasNoDevice}
 use Rattle.usb_table.specs.Keys.{Slots, PathKeys, AddressKeys, key_of_path, key_of_address, finding_under, entries_of, address_in, AreIndexes}
-use Rattle.usb_table.proofs.Keys.{entries-lookup, found_at, some_address, finding_stands}
+use Rattle.usb_table.proofs.Keys.{entries-lookup, entries_of-key, some_address, finding_stands}
 
 pub addressed_stands : (found : Slots) (paths : PathKeys) (addresses : AddressKeys) (address key : ℕ) → AreIndexes found paths addresses → key_of_address addresses address ≡ Some key → IsSome (found key)
 addressed_stands found paths addresses address key are is = some_address (found key) address ((are.addressed address key).0 is)
@@ -15,7 +15,7 @@ has_device found paths addresses address key finding are is stands =
     let at = are.named key (ap is_some stands) in
     record {
       path = at.0;
-      found = found_at found at.0 paths key finding at.1 stands;
+      found = entries_of-key found at.0 paths key finding at.1 stands;
       addressed = sym (ap address_in stands) ∙ (are.addressed address key).0 is;
     }
 
@@ -31,6 +31,6 @@ no_device_by found paths addresses address are none path finding (Some key) at i
     let here : key_of_address addresses address ≡ Some key = (are.addressed address key).1 (ap address_in it.1 ∙ ap address_found same ∙ has) in
     absurd (cc (here, none))
 
-pub no_device : (found : Slots) (paths : PathKeys) (addresses : AddressKeys) (address : ℕ) → AreIndexes found paths addresses → key_of_address addresses address ≡ None → HasNoDevice address (entries_of found paths)
-no_device found paths addresses address are none path finding is =
+pub key_of_address-no_device : (found : Slots) (paths : PathKeys) (addresses : AddressKeys) (address : ℕ) → AreIndexes found paths addresses → key_of_address addresses address ≡ None → HasNoDevice address (entries_of found paths)
+key_of_address-no_device found paths addresses address are none path finding is =
     no_device_by found paths addresses address are none path finding (key_of_path paths path) refl (sym (entries-lookup found path paths) ∙ is)

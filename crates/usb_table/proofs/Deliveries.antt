@@ -2,23 +2,23 @@
 use Rattle.std.proofs.Common.{◌≡◌, ◌≢◌, refl, sym, ap, subst, Bool, true, false, ℕ, ◌==◌, append-nil, List, [], Some, Result, Ok, Err}
 use Rattle.std.specs.Prelude.{is_ok, is_some}
 use Rattle.usb_device.specs.Rows.{State}
-use Rattle.usb_device.specs.Tree.{reach, Spot}
+use Rattle.usb_device.specs.Tree.{reach, Location}
 use Rattle.usb_world.specs.Paths.{address_of}
 use Rattle.usb_world.specs.World.{World}
 use Rattle.usb_transaction.specs.declared.target.Target.{Target}
 use Rattle.usb_pipe.specs.declared.fault.PipeFault.{PipeFault}
 use Rattle.usb_pipe.specs.Bulk.{Bulk, Sends}
-use Rattle.usb_pipe.specs.Leaves.{FitsSink, SendLeaves}
+use Rattle.usb_pipe.specs.Leaves.{OutPipeInSync, SendLeaves}
 use Rattle.usb_pipe.proofs.Interface.{send_leaves, who_sends}
 use Rattle.usb_enum.specs.declared.finding.Accepted.{Accepted}
 use Rattle.usb_table.specs.declared.fault.EndpointFault.{EndpointFault}
 use Rattle.usb_table.specs.Deliveries.{TookBytes, Delivered}
 use Rattle.usb_table.specs.Findings.{accepted_device_at}
 use Rattle.usb_table.specs.KnownPorts.{is_below_hub}
-use Rattle.usb_table.specs.Levels.{AreLevel, IsHeld, LevelAt}
+use Rattle.usb_table.specs.Levels.{PipesInSync, IsHeld, InSyncAt}
 use Rattle.usb_table.specs.Table.{Table, pipes_at, ArePipesAt}
 use Rattle.usb_table.specs.Transfers.{PipesSent, SentThrough}
-use Rattle.usb_table.proofs.PathTransfers.{Reached, answers_there, changes_there, done_through, levels_there, none_changes}
+use Rattle.usb_table.proofs.PathTransfers.{PathReaches, answers_there, changes_there, done_through, levels_there, none_changes}
 use Rattle.usb_table.proofs.ThroughPipes.{through_pipes}
 
 module _ (path bytes : List ℕ) (old new : Table) (before after : World) where
@@ -34,8 +34,8 @@ module _ (path bytes : List ℕ) (old new : Table) (before after : World) where
       })
 
   module _ (held : IsHeld old before) (single : after.shared ≡ false) (device : Accepted) (found : accepted_device_at path old.entries ≡ Some device) where
-    module _ (pipe : Bulk) (is : pipe.target.addr ≡ device.address) (fits : Reached path before (FitsSink pipe)) where
-      taken : (answer : Result (Unit {0}) PipeFault) (left : Bulk) (s : State) → FitsSink pipe s → (j : Spot) (v : State) → SendLeaves bytes pipe answer left j s v → (address_of s == pipe.target.addr) ≡ true → TookBytes (is_ok answer) bytes s v
+    module _ (pipe : Bulk) (is : pipe.target.addr ≡ device.address) (fits : PathReaches path before (OutPipeInSync pipe)) where
+      taken : (answer : Result (Unit {0}) PipeFault) (left : Bulk) (s : State) → OutPipeInSync pipe s → (j : Location) (v : State) → SendLeaves bytes pipe answer left j s v → (address_of s == pipe.target.addr) ≡ true → TookBytes (is_ok answer) bytes s v
       taken (Ok u) left s fit j v x at = record { joins = x.done at fit u refl; rest = x.frame fit.endpoint }
       taken (Err why) left s fit j v x at = record { joins = x.failed at fit why refl; rest = x.frame fit.endpoint }
 
@@ -54,17 +54,17 @@ module _ (path bytes : List ℕ) (old new : Table) (before after : World) where
       }
 
   pub sent_delivers : (result : Result (Unit {0}) EndpointFault) → IsHeld old before
-      → LevelAt path old before → after.shared ≡ false → ArePipesAt path old
+      → InSyncAt path old before → after.shared ≡ false → ArePipesAt path old
       → PipesSent (pipes_at path old) bytes before result (pipes_at path new) after
       → Delivered path (is_ok result) bytes old before new after
   sent_delivers result held level single are x =
       through_pipes false (λ p. SentThrough p bytes) before result after
       (accepted_device_at path old.entries) (is_below_hub path)
-      (λ p l. Reached path before (AreLevel p)
+      (λ p l. PathReaches path before (PipesInSync p)
       → Delivered path (is_ok result) bytes old before new after)
       (λ pipes fault none told e same l. not_sent result fault e same)
       (λ device endpoint pipe left other found is y l.
-      let fits : Reached path before (FitsSink pipe) =
+      let fits : PathReaches path before (OutPipeInSync pipe) =
       λ s on there. (l s on there).0 in
       subst (λ (b : Bool). Delivered path b bytes old before new after)
       (done_through y.answer result y.told)

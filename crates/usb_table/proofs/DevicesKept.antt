@@ -19,7 +19,7 @@ use Rattle.usb_device.specs.Rows.{State, with_endpoint_state, begun, accepted}
 use Rattle.usb_device.specs.Spec.{Spec}
 use Rattle.usb_device.specs.declared.request.Registers.{Registers}
 use Rattle.usb_device.specs.Transfer.{first_stage, ending}
-use Rattle.usb_device.specs.Tree.{Spot, reach_on, state_on}
+use Rattle.usb_device.specs.Tree.{Location, reach_on, state_on}
 use Rattle.usb_world.specs.declared.types.Attempt.{Attempt}
 use Rattle.usb_world.specs.declared.types.BusFault.{BusFault}
 use Rattle.usb_world.specs.Addresses.{is_setup}
@@ -27,10 +27,10 @@ use Rattle.usb_world.specs.Devices.{EachWas, DidIn, DidOut}
 use Rattle.usb_world.specs.OneHolder.{IsMade, IsIn, IsOut}
 use Rattle.usb_world.specs.AttemptPackets.{IsSettled}
 use Rattle.usb_world.specs.PortRequests.{asks_no_port}
-use Rattle.usb_world.specs.RestingPorts.{AsksNothingOf}
-use Rattle.usb_world.specs.Steps.{Step, attempt, root_call, event, report, after, ready, with_attempt, Course, here, step}
+use Rattle.usb_world.specs.RestingPorts.{LeavesPortAlone}
+use Rattle.usb_world.specs.Steps.{Step, attempt, root_call, event, report, after, at_attempt, with_attempt, Course, here, step}
 use Rattle.usb_world.specs.World.{World, Failed}
-use Rattle.usb_world.proofs.Interface.{Cut, MadeOrNot, attempt_cases, cut_or_same, data_asks_nothing, each_in, each_joined, each_none, each_out, each_wider, made_here, made_is, made_whole, neither, ready_shared, settled_after, settled_course, settled_wider, unequal, unmade}
+use Rattle.usb_world.proofs.Interface.{AttemptCut, MadeOrNot, attempt_cases, cut_or_same, data_asks_nothing, each_in, each_joined, each_none, each_out, each_wider, made_here, made_is, made_whole, neither, ready_shared, settled_after, settled_course, settled_wider, unequal, unmade}
 use Rattle.usb_backlog.specs.Marks.{Few, KeepsAll, PortMark}
 use Rattle.usb_backlog.proofs.Interface.{KeepsStep, all_none, data_allows, keeps-attempt, keeps-chain}
 use Rattle.usb_transaction.specs.Attempts.{IsOnly, GivenUp}
@@ -51,53 +51,53 @@ use Rattle.usb_pipe.specs.Stages.{Writes}
 use Rattle.usb_pipe.proofs.Interface.{given_registers, harmless, poll_attempts, receive_attempts, send_attempts}
 use Rattle.usb_address.specs.Ownership.{KeepsAddresses}
 use Rattle.usb_address.proofs.Interface.{Ran, clears_keep, in_kept, keeps_none, out_kept, polls_keep, receives_keep, sends_keep}
-use Rattle.usb_hub.specs.Requests.{AllRest, Ordered}
+use Rattle.usb_hub.specs.Requests.{TouchesNoPort, Commanded}
 use Rattle.usb_hub.proofs.Interface.{each_leaves, order_elsewhere, write_backlog, write_rests, write_so}
-use Rattle.usb_enum.proofs.Interface.{ended}
+use Rattle.usb_enum.proofs.Interface.{ends_without_fault}
 use Rattle.usb_table.specs.Transfers.{SameSettings, KeepsSettings, OnlyTransfers}
 use Rattle.usb_table.proofs.KeptPipes.{broken_or_not, ready_or_not, empty_or_not, none_or_some}
 
 -- Each device over such an attempt
 
-abbrev pub RanAs : Spot → State → State → Type 0
+abbrev pub RanAs : Location → State → State → Type 0
 RanAs j s v = Ran s v
 
-data IsFar (a : Attempt) : Type 0 where
-  into : IsIn a → (a.ep == 0) ≡ false → IsFar a
-  out : (t : Toggle) (bytes : List ℕ) → IsOut a t bytes → (a.ep == 0) ≡ false → IsFar a
+data IsBulkAttempt (a : Attempt) : Type 0 where
+  into : IsIn a → (a.ep == 0) ≡ false → IsBulkAttempt a
+  out : (t : Toggle) (bytes : List ℕ) → IsOut a t bytes → (a.ep == 0) ≡ false → IsBulkAttempt a
 
-far_kind : (a : Attempt) → IsFar a → is_setup a.kind ≡ false
+far_kind : (a : Attempt) → IsBulkAttempt a → is_setup a.kind ≡ false
 far_kind a (into i far) = ap is_setup i.kind
 far_kind a (out t bytes i far) = ap is_setup i.kind
 
 as_it_was : (s v : State) → v ≡ s → Ran s v
 as_it_was s v e = (ap (λ x. x.spec) e, ap (λ x. x.registers) e, ap (λ x. x.changes.halted) e)
 
-kept_by : (s u v : State) → v ≡ u → Ran s u → Ran s v
-kept_by s u v e h = (ap (λ x. x.spec) e ∙ h.0, ap (λ x. x.registers) e ∙ h.1, ap (λ x. x.changes.halted) e ∙ h.2)
+ran_same : (s u v : State) → v ≡ u → Ran s u → Ran s v
+ran_same s u v e h = (ap (λ x. x.spec) e ∙ h.0, ap (λ x. x.registers) e ∙ h.1, ap (λ x. x.changes.halted) e ∙ h.2)
 
-did_in : (a : Attempt) (w : World) (j : Spot) (s v : State) → (a.ep == 0) ≡ false → DidIn a w j s v → RanAs j s v
+did_in : (a : Attempt) (w : World) (j : Location) (s v : State) → (a.ep == 0) ≡ false → DidIn a w j s v → RanAs j s v
 did_in a w j s v far (DidIn.other d e) = as_it_was s v e
 did_in a w j s v far (DidIn.silent at y o e) = as_it_was s v e
-did_in a w j s v far (DidIn.asked at y b below h x o e) = kept_by s _ v e (in_kept s _ a.ep a.max x.first x.second x.third far)
+did_in a w j s v far (DidIn.asked at y b below h x o e) = ran_same s _ v e (in_kept s _ a.ep a.max x.first x.second x.third far)
 
-did_out : (a : Attempt) (t : Toggle) (bytes : List ℕ) (w : World) (j : Spot) (s v : State) → (a.ep == 0) ≡ false → DidOut a t bytes w j s v → RanAs j s v
+did_out : (a : Attempt) (t : Toggle) (bytes : List ℕ) (w : World) (j : Location) (s v : State) → (a.ep == 0) ≡ false → DidOut a t bytes w j s v → RanAs j s v
 did_out a t bytes w j s v far (DidOut.other d e) = as_it_was s v e
 did_out a t bytes w j s v far (DidOut.silent at y o e) = as_it_was s v e
-did_out a t bytes w j s v far (DidOut.asked at y x o e) = kept_by s _ v e (out_kept s a.ep t bytes x.first x.second x.third far)
+did_out a t bytes w j s v far (DidOut.asked at y x o e) = ran_same s _ v e (out_kept s a.ep t bytes x.first x.second x.third far)
 
-each_far : (a : Attempt) (w : World) → IsFar a → IsMade a w → (after (attempt a) w).shared ≡ false → EachWas RanAs w (after (attempt a) w)
+each_far : (a : Attempt) (w : World) → IsBulkAttempt a → IsMade a w → (after (attempt a) w).shared ≡ false → EachWas RanAs w (after (attempt a) w)
 each_far a w (into i far) m single = each_wider (DidIn a w) RanAs (λ j s v. did_in a w j s v far) w (after (attempt a) w) (each_in a w m i single)
 each_far a w (out t bytes i far) m single = each_wider (DidOut a t bytes w) RanAs (λ j s v. did_out a t bytes w j s v far) w (after (attempt a) w) (each_out a w t bytes m i single)
 
 each_itself : (w : World) → EachWas RanAs w w
 each_itself w = each_none RanAs (λ j s. (refl, refl, refl)) w
 
-each_then : (u w v : World) → EachWas RanAs u w → EachWas RanAs w v → EachWas RanAs u v
-each_then u w v x y = each_joined RanAs RanAs RanAs (λ j s t v h k. (k.0 ∙ h.0, k.1 ∙ h.1, k.2 ∙ h.2)) u w v x y
+each_ran_then : (u w v : World) → EachWas RanAs u w → EachWas RanAs w v → EachWas RanAs u v
+each_ran_then u w v x y = each_joined RanAs RanAs RanAs (λ j s t v h k. (k.0 ∙ h.0, k.1 ∙ h.1, k.2 ∙ h.2)) u w v x y
 
-each_at : (u w v : World) → w.roots ≡ v.roots → EachWas RanAs u w → EachWas RanAs u v
-each_at u w v e x j s on there = x j s (ap (λ k. reach_on k j) e ∙ on) (ap (λ k. state_on k j) e ∙ there)
+each_ran_at : (u w v : World) → w.roots ≡ v.roots → EachWas RanAs u w → EachWas RanAs u v
+each_ran_at u w v e x j s on there = x j s (ap (λ k. reach_on k j) e ∙ on) (ap (λ k. state_on k j) e ∙ there)
 
 -- no address was held twice before, and each device stays
 record Stayed (w v : World) : Type 0 where
@@ -109,13 +109,13 @@ unfolding with_attempt
 made_single a w m single =
     sym (ready_shared w) ∙ (neither _ _ (sym (ap (λ x. x.shared) (made_is a w m)) ∙ single)).0
 
-step_stays : (a : Attempt) (w : World) → IsFar a → IsSettled w.roots → (after (attempt a) w).shared ≡ false → Stayed w (after (attempt a) w)
+step_stays : (a : Attempt) (w : World) → IsBulkAttempt a → IsSettled w.roots → (after (attempt a) w).shared ≡ false → Stayed w (after (attempt a) w)
 step_stays a w far settled single = pick (attempt_cases a w)
   where
     pick : MadeOrNot a w (after (attempt a) w) → Stayed w (after (attempt a) w)
     pick (inl e) = record {
       before = sym (ap (λ x. x.shared) e) ∙ single;
-      each = each_at w w (after (attempt a) w) (sym (ap (λ x. x.roots) e)) (each_itself w);
+      each = each_ran_at w w (after (attempt a) w) (sym (ap (λ x. x.roots) e)) (each_itself w);
     }
     pick (inr m) =
         let made : IsMade a w = made_here a w m.0 settled in
@@ -126,11 +126,11 @@ step_stays a w far settled single = pick (attempt_cases a w)
 -- what is left of all devices and ports
 pub record Spared (old new : World) : Type 0 where
   pub ran : new.shared ≡ false → EachWas RanAs old new
-  pub rests : new.fault ≡ None → AllRest old new
+  pub rests : new.fault ≡ None → TouchesNoPort old new
   pub backlog : new.fault ≡ None → KeepsAll old new
 
 abbrev IsFarStep : Step → Type 0
-IsFarStep (attempt a) = IsFar a
+IsFarStep (attempt a) = IsBulkAttempt a
 IsFarStep (root_call c n) = ⊥
 IsFarStep event = ⊥
 IsFarStep (report line) = ⊥
@@ -141,7 +141,7 @@ any_stays (root_call c n) w far settled single = absurd far
 any_stays event w far settled single = absurd far
 any_stays (report line) w far settled single = absurd far
 
-any_rests : (s : Step) (w : World) (x : List ℕ) → IsFarStep s → IsSettled w.roots → AsksNothingOf x s w
+any_rests : (s : Step) (w : World) (x : List ℕ) → IsFarStep s → IsSettled w.roots → LeavesPortAlone x s w
 any_rests (attempt a) w x far settled = data_asks_nothing a w x (far_kind a far) settled
 any_rests (root_call c n) w x far settled = absurd far
 any_rests event w x far settled = absurd far
@@ -159,9 +159,9 @@ module _ (K : Step → World → Type 0) (far : (s : Step) (w : World) → K s w
   course_stays (step s {w} {v} k c) settled single =
       let rest = course_stays c (settled_after s w settled) single in
       let first = any_stays s w (far s w k) settled rest.before in
-      record { before = first.before; each = each_then w (after s w) v first.each rest.each }
+      record { before = first.before; each = each_ran_then w (after s w) v first.each rest.each }
 
-  course_rests : (x : List ℕ) {w v : World} → Course K w v → IsSettled w.roots → Course (AsksNothingOf x) w v
+  course_rests : (x : List ℕ) {w v : World} → Course K w v → IsSettled w.roots → Course (LeavesPortAlone x) w v
   course_rests x c = settled_wider (λ s w k. any_rests s w x (far s w k)) c
 
   course_backlog : {w v : World} → Course K w v → IsSettled w.roots → KeepsAll w v
@@ -177,11 +177,11 @@ module _ (K : Step → World → Type 0) (far : (s : Step) (w : World) → K s w
       (cut_or_same g.last g.mid fault new g.fits (settled_course g.course settled) g.refused g.fails
       single)
     where
-      pick : Cut g.last g.mid new → EachWas RanAs old new
+      pick : AttemptCut g.last g.mid new → EachWas RanAs old new
       pick (unmade h each) =
-          each_then old g.mid new (course_stays g.course settled h).each (each_wider (λ j s x. x ≡ s) RanAs (λ j s v e. as_it_was s v e) g.mid new each)
+          each_ran_then old g.mid new (course_stays g.course settled h).each (each_wider (λ j s x. x ≡ s) RanAs (λ j s v e. as_it_was s v e) g.mid new each)
       pick (made_whole h m u r) =
-          each_then old g.mid new (course_stays g.course settled h).each (each_at g.mid (after (attempt g.last) g.mid) new r (each_far g.last g.mid (far (attempt g.last) g.mid g.is) m u))
+          each_ran_then old g.mid new (course_stays g.course settled h).each (each_ran_at g.mid (after (attempt g.last) g.mid) new r (each_far g.last g.mid (far (attempt g.last) g.mid g.is) m u))
 
   -- they ran to their end, or the bus gave up
   attempts_cases : {A : Type 0} (old : World) (result : Result A PipeFault) (new : World)
@@ -347,34 +347,34 @@ pipe_spec s BulkOut pipe = refl
 pipe_spec s BulkIn pipe = refl
 pipe_spec s Changes pipe = refl
 
-begun_stays : (s v : State) (row : List PortState) (n : ℕ) (o : Outcome) → IsOfEndpoint o → OnlyControl (begun s row n o) v → v.registers ≡ (begun s row n o).registers → (v.spec ≡ s.spec) × (v.registers ≡ s.registers)
-begun_stays s v row n stalled is frame same = (ap (λ x. x.spec) frame, same)
-begun_stays s v row n (answers bytes) is frame same = absurd is
-begun_stays s v row n (takes_address a) is frame same = absurd is
-begun_stays s v row n (takes_configuration c) is frame same = absurd is
-begun_stays s v row n (halts which) is frame same = absurd is
-begun_stays s v row n (unhalts which) is frame same = (ap (λ x. x.spec) frame ∙ pipe_spec s which rested, same)
-begun_stays s v row n (tells_port i) is frame same = absurd is
-begun_stays s v row n (calls_port c i) is frame same = absurd is
+endpoint_begun_stays : (s v : State) (row : List PortState) (n : ℕ) (o : Outcome) → IsOfEndpoint o → OnlyControl (begun s row n o) v → v.registers ≡ (begun s row n o).registers → (v.spec ≡ s.spec) × (v.registers ≡ s.registers)
+endpoint_begun_stays s v row n stalled is frame same = (ap (λ x. x.spec) frame, same)
+endpoint_begun_stays s v row n (answers bytes) is frame same = absurd is
+endpoint_begun_stays s v row n (takes_address a) is frame same = absurd is
+endpoint_begun_stays s v row n (takes_configuration c) is frame same = absurd is
+endpoint_begun_stays s v row n (halts which) is frame same = absurd is
+endpoint_begun_stays s v row n (unhalts which) is frame same = (ap (λ x. x.spec) frame ∙ pipe_spec s which rested, same)
+endpoint_begun_stays s v row n (tells_port i) is frame same = absurd is
+endpoint_begun_stays s v row n (calls_port c i) is frame same = absurd is
 
-no_address : (row : List PortState) (n : ℕ) (address : Option ℕ) (o : Outcome) → IsOfEndpoint o → first_stage row n o ≡ ending address → address ≡ None
-no_address row n address stalled is e = absurd cc
-no_address row n address (answers bytes) is e = absurd is
-no_address row n address (takes_address a) is e = absurd is
-no_address row n address (takes_configuration c) is e = absurd is
-no_address row n address (halts which) is e = absurd is
-no_address row n address (unhalts which) is e = cc
-no_address row n address (tells_port i) is e = absurd is
-no_address row n address (calls_port c i) is e = absurd is
+endpoint_takes_no_address : (row : List PortState) (n : ℕ) (address : Option ℕ) (o : Outcome) → IsOfEndpoint o → first_stage row n o ≡ ending address → address ≡ None
+endpoint_takes_no_address row n address stalled is e = absurd cc
+endpoint_takes_no_address row n address (answers bytes) is e = absurd is
+endpoint_takes_no_address row n address (takes_address a) is e = absurd is
+endpoint_takes_no_address row n address (takes_configuration c) is e = absurd is
+endpoint_takes_no_address row n address (halts which) is e = absurd is
+endpoint_takes_no_address row n address (unhalts which) is e = cc
+endpoint_takes_no_address row n address (tells_port i) is e = absurd is
+endpoint_takes_no_address row n address (calls_port c i) is e = absurd is
 
-module _ (t : Target) (request : Setup) (of : (spec : Spec) (g : Registers) → IsOfEndpoint (outcome spec g request)) (old new : World) (j : Spot) (s v : State) where
+module _ (t : Target) (request : Setup) (of : (spec : Spec) (g : Registers) → IsOfEndpoint (outcome spec g request)) (old new : World) (j : Location) (s v : State) where
   accepted_stays : (row : List PortState) → OnlyControl (accepted s row request) v → v.registers ≡ (accepted s row request).registers → SameSettings j s v
-  accepted_stays row frame same = begun_stays s v row request.length (outcome s.spec s.registers request) (of s.spec s.registers) frame same
+  accepted_stays row frame same = endpoint_begun_stays s v row request.length (outcome s.spec s.registers request) (of s.spec s.registers) frame same
 
   write_stays : (result : Result (Unit {0}) PipeFault) → WriteLeaves t request result old new j s v → SameSettings j s v
   write_stays =
       write_so t request old new j s v (SameSettings j s v) accepted_stays
-      (λ row address is frame given. accepted_stays row frame (given_registers address (accepted s row request) v (no_address row request.length address (outcome s.spec s.registers request) (of s.spec s.registers) is) given))
+      (λ row address is frame given. accepted_stays row frame (given_registers address (accepted s row request) v (endpoint_takes_no_address row request.length address (outcome s.spec s.registers request) (of s.spec s.registers) is) given))
       (λ frame same. (ap (λ x. x.spec) frame, same))
 
 module _ (endpoint : ℕ) where
@@ -390,7 +390,7 @@ module _ (endpoint : ℕ) where
   unfolding clear_endpoint_halt
   clear_length = refl
 
-pub cleared_ordered : (pipe : Bulk) (old : World) (result : Result (Unit {0}) PipeFault) (left : Bulk) (new : World) → Cleared pipe old result left new → Ordered pipe.target (clear_endpoint_halt (halt_address pipe.ep pipe.is_in)) old result new
+pub cleared_ordered : (pipe : Bulk) (old : World) (result : Result (Unit {0}) PipeFault) (left : Bulk) (new : World) → Cleared pipe old result left new → Commanded pipe.target (clear_endpoint_halt (halt_address pipe.ep pipe.is_in)) old result new
 cleared_ordered pipe old result left new x = record {
   settled = x.settled;
   ends = x.ends;
@@ -401,8 +401,8 @@ cleared_ordered pipe old result left new x = record {
   elsewhere = order_elsewhere pipe.target (clear_endpoint_halt (halt_address pipe.ep pipe.is_in)) result old new x.stages;
 }
 
-cleared_stays : (pipe : Bulk) (old : World) (result : Result (Unit {0}) PipeFault) (left : Bulk) (new : World) → Cleared pipe old result left new → KeepsSettings old new
-cleared_stays pipe old result left new x = record {
+cleared_keeps_settings : (pipe : Bulk) (old : World) (result : Result (Unit {0}) PipeFault) (left : Bulk) (new : World) → Cleared pipe old result left new → KeepsSettings old new
+cleared_keeps_settings pipe old result left new x = record {
   same = λ single.
       let request : Setup = clear_endpoint_halt (halt_address pipe.ep pipe.is_in) in
       each_wider (WriteLeaves pipe.target request result old new) SameSettings
@@ -431,11 +431,11 @@ clears_only pipe old answer left new x = elim (ready_or_not pipe.condition) [
       let which = halt_address pipe.ep pipe.is_in in
       record {
         addresses = clears_keep pipe old answer left new x;
-        devices = cleared_stays pipe old answer left new sent;
+        devices = cleared_keeps_settings pipe old answer left new sent;
         rests = λ sound.
-            ordered.rests (clear_asks_no_port which) (ended 2 answer old new sent.ends sound);
+            ordered.rests (clear_asks_no_port which) (ends_without_fault 2 answer old new sent.ends sound);
         backlog = λ sound.
-            ordered.backlog (clear_sets_none which) (ended 2 answer old new sent.ends sound);
+            ordered.backlog (clear_sets_none which) (ends_without_fault 2 answer old new sent.ends sound);
       }
 ]
 

@@ -20,7 +20,7 @@ use Rattle.usb_table.specs.declared.pipes.Pipes.{Pipes}
 use Rattle.usb_table.specs.declared.pipes.Pipes.TheVariants.{Absent}
 use Rattle.usb_table.specs.Findings.{accepted_device_of, accepted_device_at}
 use Rattle.usb_table.specs.KnownPorts.{is_below_hub}
-use Rattle.usb_table.specs.Levels.{AreLevel, LevelAt}
+use Rattle.usb_table.specs.Levels.{PipesInSync, InSyncAt}
 use Rattle.usb_table.specs.Pipes.{new_pipes}
 use Rattle.usb_table.specs.Table.{Table, pipes_at, entered}
 use Rattle.usb_table.proofs.NewPipes.{new_level}
@@ -66,20 +66,20 @@ pipes_at-entered_elsewhere path finding table x apart = ap (λ o. unwrap_or o Ab
 module _ (path : List ℕ) (finding : Finding) (table : Table) (w : World) where
   -- to a device whose finding is its own, where it is reachable
   pub level_entered : (tier supply : ℕ) → ((device : Accepted) (s : State) → finding ≡ Device device → reach w.roots path ≡ true → state_there w.roots path ≡ Some s → IsSpec s.spec × IsOwn tier supply device s)
-      → LevelAt path (entered path finding table) w
+      → InSyncAt path (entered path finding table) w
   level_entered tier supply own = record { level = by_finding finding refl }
     where
       by_finding : (f : Finding) → finding ≡ f → (device : Accepted) (s : State) → accepted_device_at path (entered path finding table).entries ≡ Some device → reach w.roots path ≡ true → state_there w.roots path ≡ Some s
-          → AreLevel (pipes_at path (entered path finding table)) s
+          → PipesInSync (pipes_at path (entered path finding table)) s
       by_finding (Device d) is device s e on there =
           let so = own d s is on there in
-          subst (λ (q : Pipes). AreLevel q s) (sym (pipes_at-entered path finding table ∙ ap (λ f. new_pipes f (is_below_hub path)) is)) (new_level tier supply d (is_below_hub path) s so.0 so.1)
+          subst (λ (q : Pipes). PipesInSync q s) (sym (pipes_at-entered path finding table ∙ ap (λ f. new_pipes f (is_below_hub path)) is)) (new_level tier supply d (is_below_hub path) s so.0 so.1)
       by_finding (Refused cause) is device s e on there = absurd (cc (sym (ap accepted_device_of (lookup-inserted path finding table.entries ∙ ap Some is)) ∙ e))
 
   -- to others
-  pub level_beside : (x : List ℕ) → is_at (path_cmp x) path ≡ false → LevelAt x table w → LevelAt x (entered path finding table) w
+  pub level_beside : (x : List ℕ) → is_at (path_cmp x) path ≡ false → InSyncAt x table w → InSyncAt x (entered path finding table) w
   level_beside x apart l = record {
     level = λ device s e on there.
-        subst (λ (q : Pipes). AreLevel q s) (sym (pipes_at-entered_elsewhere path finding table x apart))
+        subst (λ (q : Pipes). PipesInSync q s) (sym (pipes_at-entered_elsewhere path finding table x apart))
         (l.level device s (sym (ap accepted_device_of (lookup-inserted_elsewhere path finding x table.entries apart)) ∙ e) on there);
   }

@@ -1,5 +1,5 @@
 -- A clear of the halt of one endpoint leaves the endpoint of the other direction.
-use Rattle.usb_device.specs.Tree.{Spot}
+use Rattle.usb_device.specs.Tree.{Location}
 use Rattle.std.proofs.Common.{◌≡◌, ◌∙◌, refl, ap, true, false}
 use Rattle.std.specs.Prelude.{ℕ, List, Result}
 use Rattle.usb_port.specs.PortState.{PortState}
@@ -20,7 +20,7 @@ use Rattle.usb_transaction.specs.declared.target.Target.{Target}
 use Rattle.usb_pipe.specs.declared.fault.PipeFault.{PipeFault}
 use Rattle.usb_pipe.specs.Bulk.{Bulk, halt_address, Cleared}
 use Rattle.usb_pipe.specs.Leaves.{WriteLeaves}
-use Rattle.usb_pipe.proofs.Interface.{asks_in, asks_out, clear_of, harmless}
+use Rattle.usb_pipe.proofs.Interface.{clear_of-in, asks_out, clear_of, harmless}
 use Rattle.usb_hub.proofs.Interface.{each_leaves, write_so}
 use Rattle.usb_table.proofs.DevicesKept.{cleared_ordered, clear_length}
 
@@ -39,28 +39,28 @@ module _ {X : Type 0} (seen : State → X) (blind : (s : State) (m : RememberedP
     accepted_keeps : (row : List PortState) (v : State) → OnlyControl (accepted s row request) v → seen v ≡ seen s
     accepted_keeps row v o = control_keeps (accepted s row request) v o ∙ ap (λ x. seen (begun s row request.length x)) is ∙ begun_keeps row
 
-    write_keeps : {t : Target} {old new : World} {j : Spot} (v : State) (result : Result (Unit {0}) PipeFault) → WriteLeaves t request result old new j s v → seen v ≡ seen s
+    write_keeps : {t : Target} {old new : World} {j : Location} (v : State) (result : Result (Unit {0}) PipeFault) → WriteLeaves t request result old new j s v → seen v ≡ seen s
     write_keeps {t} {old} {new} {j} v =
         write_so t request old new j s v (seen v ≡ seen s) (λ row frame same. accepted_keeps row v frame) (λ row address ends frame given. accepted_keeps row v frame) (λ frame same. control_keeps s v frame)
 
 -- the endpoint of the other direction is as it was, and no byte moves there
-pub record ClearSpares (pipe : Bulk) (j : Spot) (s v : State) : Type 0 where
+pub record ClearSpares (pipe : Bulk) (j : Location) (s v : State) : Type 0 where
   pub into : pipe.is_in ≡ false → IsSink pipe.ep pipe.max s → (v.bulk_in ≡ s.bulk_in) × (v.place ≡ s.place)
   pub out : pipe.is_in ≡ true → IsSource pipe.ep pipe.max s → (v.bulk_out ≡ s.bulk_out) × (v.sink ≡ s.sink)
 
-clear_spares : (pipe : Bulk) (result : Result (Unit {0}) PipeFault) (old new : World) (j : Spot) (s v : State) → WriteLeaves pipe.target (clear_of pipe) result old new j s v → ClearSpares pipe j s v
-clear_spares pipe result old new j s v x = record {
+write_clear_spares : (pipe : Bulk) (result : Result (Unit {0}) PipeFault) (old new : World) (j : Location) (s v : State) → WriteLeaves pipe.target (clear_of pipe) result old new j s v → ClearSpares pipe j s v
+write_clear_spares pipe result old new j s v x = record {
   into = λ way i. (
     write_keeps (λ (d : State). d.bulk_in) (λ s m n g r. refl) (clear_of pipe) BulkOut s (asks_out pipe s way i) refl v result x,
     write_keeps (λ (d : State). d.place) (λ s m n g r. refl) (clear_of pipe) BulkOut s (asks_out pipe s way i) refl v result x,
   );
   out = λ way i. (
-    write_keeps (λ (d : State). d.bulk_out) (λ s m n g r. refl) (clear_of pipe) BulkIn s (asks_in pipe s way i) refl v result x,
-    write_keeps (λ (d : State). d.sink) (λ s m n g r. refl) (clear_of pipe) BulkIn s (asks_in pipe s way i) refl v result x,
+    write_keeps (λ (d : State). d.bulk_out) (λ s m n g r. refl) (clear_of pipe) BulkIn s (clear_of-in pipe s way i) refl v result x,
+    write_keeps (λ (d : State). d.sink) (λ s m n g r. refl) (clear_of pipe) BulkIn s (clear_of-in pipe s way i) refl v result x,
   );
 }
 
 pub cleared_apart : (pipe : Bulk) (old : World) (result : Result (Unit {0}) PipeFault) (left : Bulk) (new : World) → Cleared pipe old result left new → new.shared ≡ false → EachWas (ClearSpares pipe) old new
 cleared_apart pipe old result left new x single =
-    each_wider (WriteLeaves pipe.target (clear_of pipe) result old new) (ClearSpares pipe) (clear_spares pipe result old new) old new
+    each_wider (WriteLeaves pipe.target (clear_of pipe) result old new) (ClearSpares pipe) (write_clear_spares pipe result old new) old new
     (each_leaves pipe.target (clear_of pipe) (harmless (halt_address pipe.ep pipe.is_in)) (clear_length (halt_address pipe.ep pipe.is_in)) result old new (cleared_ordered pipe old result left new x) single)

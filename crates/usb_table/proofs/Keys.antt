@@ -24,7 +24,7 @@ use Rattle.usb_table.specs.declared.pipes.Pipes.{Pipes}
 use Rattle.usb_table.specs.Table.{Table}
 use Rattle.usb_table.specs.Entries.{Entries, Rises, has_at, is_at_or_below}
 use Rattle.usb_table.specs.declared.entry.Entry.{Entry}
-use Rattle.usb_table.specs.Keys.{Standings, Slots, PathKeys, AddressKeys, key_of_path, key_of_address, under, values_by_path, findings, finding_under, entries_of, address_in, with_address, without_address}
+use Rattle.usb_table.specs.Keys.{TableSlots, Slots, PathKeys, AddressKeys, key_of_path, key_of_address, under, values_by_path, findings, finding_under, entries_of, address_in, with_address, without_address}
 
 -- Tests of keys
 
@@ -72,9 +72,9 @@ module _ {A : Type 0} (none : A) (slots : ℕ → Option A) where
 
 -- slots that agree on the keys show the same
 
-if_some : {P : ℕ → Type 0} (slot : Option ℕ) → ((key : ℕ) → slot ≡ Some key → P key) → IfSome slot P
-if_some None each = tt
-if_some (Some key) each = each key refl
+if_some_slot : {P : ℕ → Type 0} (slot : Option ℕ) → ((key : ℕ) → slot ≡ Some key → P key) → IfSome slot P
+if_some_slot None each = tt
+if_some_slot (Some key) each = each key refl
 
 module _ {A : Type 0} (none : A) (old new : ℕ → Option A) where
   values_by_path-agree : (paths : PathKeys) → All (λ k. new k ≡ old k) (values_of paths) → values_by_path none new paths ≡ values_by_path none old paths
@@ -87,28 +87,28 @@ module _ {A : Type 0} (none : A) (old new : ℕ → Option A) where
   pub agree : (paths : PathKeys) → IsStrictlySortedBy path_cmp (keys_of paths) → ((path : List ℕ) (key : ℕ) → key_of_path paths path ≡ Some key → new key ≡ old key) → values_by_path none new paths ≡ values_by_path none old paths
   agree paths rises each =
       values_by_path-agree paths
-      (All-values_from_lookup (eq_by_cmp_equiv nat_list_cmp_total) (λ k. new k ≡ old k) paths (IsDistinct-from_sorted path_cmp (keys_of paths) rises) (λ q. if_some (key_of_path paths q) (each q)))
+      (All-values_from_lookup (eq_by_cmp_equiv nat_list_cmp_total) (λ k. new k ≡ old k) paths (IsDistinct-from_sorted path_cmp (keys_of paths) rises) (λ q. if_some_slot (key_of_path paths q) (each q)))
 
 -- What the entries show of the keys
 
 pub entries-lookup : (found : Slots) (path : List ℕ) (paths : PathKeys) → lookup (is_at (path_cmp path)) (entries_of found paths) ≡ option_map (finding_under found) (key_of_path paths path)
 entries-lookup found = values_by_path-lookup (Refused Silent) found
 
-pub found_at : (found : Slots) (path : List ℕ) (paths : PathKeys) (key : ℕ) (finding : Finding) → key_of_path paths path ≡ Some key → found key ≡ Some finding → lookup (is_at (path_cmp path)) (entries_of found paths) ≡ Some finding
-found_at found = listed_at (Refused Silent) found
+pub entries_of-key : (found : Slots) (path : List ℕ) (paths : PathKeys) (key : ℕ) (finding : Finding) → key_of_path paths path ≡ Some key → found key ≡ Some finding → lookup (is_at (path_cmp path)) (entries_of found paths) ≡ Some finding
+entries_of-key found = listed_at (Refused Silent) found
 
-pub none_at : (found : Slots) (path : List ℕ) (paths : PathKeys) → key_of_path paths path ≡ None → lookup (is_at (path_cmp path)) (entries_of found paths) ≡ None
-none_at found = listed_none (Refused Silent) found
+pub entries_of-no_key : (found : Slots) (path : List ℕ) (paths : PathKeys) → key_of_path paths path ≡ None → lookup (is_at (path_cmp path)) (entries_of found paths) ≡ None
+entries_of-no_key found = listed_none (Refused Silent) found
 
-pub found_in : (standings : Standings) (key : ℕ) (s : Entry) → standings key ≡ Some s → findings standings key ≡ Some s.finding
-found_in standings key s stands = ap (option_map (λ (t : Entry). t.finding)) stands
+pub findings-standing : (standings : TableSlots) (key : ℕ) (s : Entry) → standings key ≡ Some s → findings standings key ≡ Some s.finding
+findings-standing standings key s stands = ap (option_map (λ (t : Entry). t.finding)) stands
 
-some_by : (o : Option Entry) → IsSome (option_map (λ (t : Entry). t.finding) o) → IsSome o
-some_by None h = absurd cc
-some_by (Some s) h = refl
+finding-some : (o : Option Entry) → IsSome (option_map (λ (t : Entry). t.finding) o) → IsSome o
+finding-some None h = absurd cc
+finding-some (Some s) h = refl
 
-pub some_standing : (standings : Standings) (key : ℕ) → IsSome (findings standings key) → IsSome (standings key)
-some_standing standings key h = some_by (standings key) h
+pub some_standing : (standings : TableSlots) (key : ℕ) → IsSome (findings standings key) → IsSome (standings key)
+some_standing standings key h = finding-some (standings key) h
 
 pub finding_stands : (found : Slots) (key : ℕ) (finding : Finding) → found key ≡ Some finding → finding_under found key ≡ finding
 finding_stands found key finding stands = ap (λ f. unwrap_or f (Refused Silent)) stands

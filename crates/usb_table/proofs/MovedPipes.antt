@@ -1,5 +1,5 @@
 -- What transfers leave of the pipes to a device.
-use Rattle.usb_device.specs.Tree.{Spot}
+use Rattle.usb_device.specs.Tree.{Location}
 use Rattle.std.proofs.Common.{◌≡◌, ◌≢◌, inl, inr, refl, sym, subst, arith, Bool, true, false}
 use Rattle.std.specs.Prelude.{ℕ, ◌≤◌, List, Option, Some, None, Result, Ok, Err}
 use Rattle.std.specs.Global.{Vec}
@@ -21,13 +21,13 @@ use Rattle.usb_table.specs.declared.pipes.Pipes.TheVariants.{Function}
 use Rattle.usb_table.specs.Pipes.{IsBulkPipe}
 use Rattle.usb_table.specs.Transfers.{SameSettings, both_sides}
 use Rattle.usb_table.proofs.HaltClears.{ClearSpares, cleared_apart}
-use Rattle.usb_table.proofs.FittingPipes.{Moves, send_moves, receive_moves}
+use Rattle.usb_table.proofs.FittingPipes.{PipesMove, send_moves, receive_moves}
 use Rattle.usb_table.proofs.KeptPipes.{ready_or_not}
 use Rattle.usb_table.proofs.DevicesKept.{PipeKeeps, clear_keeps, receive_keeps, send_keeps}
 
 -- each device over a call, where no address was held twice
 abbrev pub EachMoves : ℕ → Type 0 → Pipes → Pipes → World → World → Type 0
-EachMoves address ends pipes left old new = new.shared ≡ false → EachWas (Moves address ends pipes left) old new
+EachMoves address ends pipes left old new = new.shared ≡ false → EachWas (PipesMove address ends pipes left) old new
 
 -- Where the bus is at work, the answer is not its own
 
@@ -106,7 +106,7 @@ clear_spared pipe old answer left new x single = elim (ready_or_not pipe.conditi
 ]
 
 module _ (pipe : Bulk) (old : World) (answer : Result (Unit {0}) PipeFault) (left : Bulk) (new : World) (x : Clears pipe old answer left new) where
-  pub clear_whole : (R : Relation) → ((j : Spot) (s v : State) → ClearLeaves pipe answer left j s v → ClearSpares pipe j s v → SameSettings j s v → R j s v) → new.shared ≡ false → EachWas R old new
+  pub clear_whole : (R : Relation) → ((j : Location) (s v : State) → ClearLeaves pipe answer left j s v → ClearSpares pipe j s v → SameSettings j s v → R j s v) → new.shared ≡ false → EachWas R old new
   clear_whole R f single =
       each_joint (λ j s v. ClearLeaves pipe answer left j s v × ClearSpares pipe j s v) SameSettings R (λ j s v a k. f j s v a.0 a.1 k) old new
       (each_both (ClearLeaves pipe answer left) (ClearSpares pipe) old new

@@ -20,8 +20,8 @@ use Rattle.usb_table.specs.declared.pipes.Pipes.TheVariants.{Absent}
 use Rattle.usb_table.specs.Entries.{Entries, has_at, is_at_or_below}
 use Rattle.usb_table.specs.Findings.{address_found, has_address, HasNewAddress}
 use Rattle.usb_table.specs.declared.entry.Entry.{Entry}
-use Rattle.usb_table.specs.Keys.{IsPiped, Standings, Slots, PathKeys, AddressKeys, key_of_path, key_of_address, findings, pipings, values_by_path, entries_of, table_of, address_in, AreIndexes, ArePiped, UpdatesAddress, Enters}
-use Rattle.usb_table.proofs.Keys.{number_tied, number_itself, same_or_not, found_at, entries-has_at, values_by_path-insert, agree, some_address, none_or, found_in, same_table}
+use Rattle.usb_table.specs.Keys.{IsPiped, TableSlots, Slots, PathKeys, AddressKeys, key_of_path, key_of_address, findings, pipings, values_by_path, entries_of, table_of, address_in, AreIndexes, ArePiped, UpdatesAddress, Enters}
+use Rattle.usb_table.proofs.Keys.{number_tied, number_itself, same_or_not, entries_of-key, entries-has_at, values_by_path-insert, agree, some_address, none_or, findings-standing, same_table}
 use Rattle.usb_table.proofs.Paths.{path_tied, path_itself}
 
 module _ (old new : Slots) (before after : Indexes) (path : List ℕ) (key : ℕ) (finding : Finding)
@@ -127,7 +127,7 @@ came_at : (before : PathKeys) (path : List ℕ) (key : ℕ) (q : List ℕ) (k : 
 came_at before path key q k true tie h = inl (sym (path_tied path q tie), cc h)
 came_at before path key q k false tie h = inr h
 
-pub come_piped : (old new : Standings) (before after : PathKeys) (path : List ℕ) (key : ℕ) (s : Entry) → ArePiped old before
+pub come_piped : (old new : TableSlots) (before after : PathKeys) (path : List ℕ) (key : ℕ) (s : Entry) → ArePiped old before
     → ((q : List ℕ) → key_of_path after q ≡ cond (is_at (path_cmp path) q) (Some key) (key_of_path before q))
     → ((q : List ℕ) (k : ℕ) → key_of_path before q ≡ Some k → k ≢ key) → new key ≡ Some s → ((k : ℕ) → k ≢ key → new k ≡ old k)
     → IsPiped path s → ArePiped new after
@@ -140,7 +140,7 @@ come_piped old new before after path key s piped path_keys apart changed others 
 
 -- An entry comes, with its pipes
 
-module _ (old new : Standings) (before after : Indexes) (path : List ℕ) (key : ℕ) (s : Entry)
+module _ (old new : TableSlots) (before after : Indexes) (path : List ℕ) (key : ℕ) (s : Entry)
     (are : AreIndexes (findings old) before.by_path.entries before.by_address.entries) (piped : ArePiped old before.by_path.entries) (vacant : old key ≡ None)
     (changed : new key ≡ Some s) (others : (k : ℕ) → k ≢ key → new k ≡ old k) (fits : IsPiped path s)
     (away : key_of_path before.by_path.entries path ≡ None)
@@ -153,10 +153,10 @@ module _ (old new : Standings) (before after : Indexes) (path : List ℕ) (key :
   finding_others k ne = ap (option_map (λ (t : Entry). t.finding)) (others k ne)
 
   key_apart : (q : List ℕ) (k : ℕ) → key_of_path before.by_path.entries q ≡ Some k → k ≢ key
-  key_apart = apart (findings old) (findings new) before after path key s.finding are finding_vacant (found_in new key s changed) finding_others away free enters
+  key_apart = apart (findings old) (findings new) before after path key s.finding are finding_vacant (findings-standing new key s changed) finding_others away free enters
 
   pub came_indexes : AreIndexes (findings new) after.by_path.entries after.by_address.entries
-  came_indexes = come (findings old) (findings new) before after path key s.finding are finding_vacant (found_in new key s changed) finding_others away free enters
+  came_indexes = come (findings old) (findings new) before after path key s.finding are finding_vacant (findings-standing new key s changed) finding_others away free enters
 
   pub came_piped : ArePiped new after.by_path.entries
   came_piped = come_piped old new before.by_path.entries after.by_path.entries path key s piped enters.path_keys key_apart changed others fits
@@ -165,23 +165,23 @@ module _ (old new : Standings) (before after : Indexes) (path : List ℕ) (key :
       ≡ record { entries = insert_entry path_cmp (entries_of (findings old) before.by_path.entries) path s.finding; pipes = insert_entry path_cmp (values_by_path Absent (pipings old) before.by_path.entries) path s.pipes }
   came_table =
       same_table _ _ _ _
-      (come_listed (Refused Silent) (findings old) (findings new) before.by_path.entries after.by_path.entries path key s.finding enters.paths enters.rises key_apart (found_in new key s changed) finding_others)
+      (come_listed (Refused Silent) (findings old) (findings new) before.by_path.entries after.by_path.entries path key s.finding enters.paths enters.rises key_apart (findings-standing new key s changed) finding_others)
       (come_listed Absent (pipings old) (pipings new) before.by_path.entries after.by_path.entries path key s.pipes enters.paths enters.rises key_apart (ap (option_map (λ (t : Entry). t.pipes)) changed) (λ k ne. ap (option_map (λ (t : Entry). t.pipes)) (others k ne)))
 
 -- What is told of the entries, as the keys have it
 
-not_tied : (path q : List ℕ) → is_at_or_below q path ≡ false → (b : Bool) → is_at (path_cmp path) q ≡ b → b ≡ false
-not_tied path q apart true tie =
+is_at-not_way : (path q : List ℕ) → is_at_or_below q path ≡ false → (b : Bool) → is_at (path_cmp path) q ≡ b → b ≡ false
+is_at-not_way path q apart true tie =
     let same : q ≡ path = sym (path_tied path q tie) in
     let yes : pointwise nat_eq q path ≡ true = texts_ties q path ∙ subst (λ (r : List ℕ). is_at (path_cmp q) r ≡ true) same (path_itself q) in
     absurd (cc (yes, (neither (pointwise nat_eq q path) (is_below q path) apart).0))
-not_tied path q apart false tie = refl
+is_at-not_way path q apart false tie = refl
 
 no_key : (path : List ℕ) (paths : PathKeys) → list_any (λ e. is_at_or_below e.0 path) paths ≡ false → key_of_path paths path ≡ None
 no_key path [] none = refl
 no_key path (e ∷ es) none =
     let parts = neither (is_at_or_below e.0 path) (list_any (λ d. is_at_or_below d.0 path) es) none in
-    ap (λ b. cond b (Some e.1) (key_of_path es path)) (not_tied path e.0 parts.0 (is_at (path_cmp path) e.0) refl) ∙ no_key path es parts.1
+    ap (λ b. cond b (Some e.1) (key_of_path es path)) (is_at-not_way path e.0 parts.0 (is_at (path_cmp path) e.0) refl) ∙ no_key path es parts.1
 
 pub away_key : (found : Slots) (path : List ℕ) (paths : PathKeys) → has_at path (entries_of found paths) ≡ false → key_of_path paths path ≡ None
 away_key found path paths none = no_key path paths (sym (entries-has_at found path paths) ∙ none)
@@ -193,14 +193,14 @@ counted_here a e es f is has none =
     let one : ◌≡◌ {A = ℕ} (cond (has_address a e.1) 1 0) 1 = ap (λ (b : Bool). cond b 1 0) h in
     absurd (omega (arith, split, one, none))
 
-counted : (a : ℕ) (path : List ℕ) (es : Entries) (f : Finding) → lookup (is_at (path_cmp path)) es ≡ Some f → has_address a f ≡ true → count_by (λ d. has_address a d.1) es ≡ 0 → ⊥
-counted a path [] f is has none = absurd cc
-counted a path (e ∷ es) f is has none =
+count_by-found : (a : ℕ) (path : List ℕ) (es : Entries) (f : Finding) → lookup (is_at (path_cmp path)) es ≡ Some f → has_address a f ≡ true → count_by (λ d. has_address a d.1) es ≡ 0 → ⊥
+count_by-found a path [] f is has none = absurd cc
+count_by-found a path (e ∷ es) f is has none =
     let split : count_by (λ d. has_address a d.1) (e ∷ es) ≡ cond (has_address a e.1) 1 0 + count_by (λ d. has_address a d.1) es = sum_by-cons (λ d. cond (has_address a d.1) 1 0) e es in
     let rest : count_by (λ d. has_address a d.1) es ≡ 0 = omega (arith, split, none) in
     (elim (is_at (path_cmp path) e.0) as (λ b. cond b (Some e.1) (lookup (is_at (path_cmp path)) es) ≡ Some f → ⊥) [
       | true ↦ λ h. counted_here a e es f (cc h) has none
-      | false ↦ λ h. counted a path es f h has rest
+      | false ↦ λ h. count_by-found a path es f h has rest
     ]) is
 
 pub has_its : (f : Finding) (a : ℕ) → address_found f ≡ Some a → has_address a f ≡ true
@@ -208,20 +208,20 @@ unfolding has_address
 has_its (Device device) a is = eq-eqb device.address a (cc is)
 has_its (Refused cause) a is = absurd cc
 
-found_by : (o : Option Finding) (a : ℕ) → address_in o ≡ Some a → (f : Finding) × (o ≡ Some f) × (address_found f ≡ Some a)
-found_by None a h = absurd cc
-found_by (Some f) a h = (f, refl, h)
+address_in-some : (o : Option Finding) (a : ℕ) → address_in o ≡ Some a → (f : Finding) × (o ≡ Some f) × (address_found f ≡ Some a)
+address_in-some None a h = absurd cc
+address_in-some (Some f) a h = (f, refl, h)
 
-free_of : (found : Slots) (paths : PathKeys) (addresses : AddressKeys) → AreIndexes found paths addresses → (a : ℕ) → count_by (λ e. has_address a e.1) (entries_of found paths) ≡ 0 → key_of_address addresses a ≡ None
-free_of found paths addresses are a none = elim (none_or (key_of_address addresses a)) [
+key_of_address-none : (found : Slots) (paths : PathKeys) (addresses : AddressKeys) → AreIndexes found paths addresses → (a : ℕ) → count_by (λ e. has_address a e.1) (entries_of found paths) ≡ 0 → key_of_address addresses a ≡ None
+key_of_address-none found paths addresses are a none = elim (none_or (key_of_address addresses a)) [
   | inl nothing ↦ nothing
   | inr some ↦
       let k = some.0 in
-      let f = found_by (found k) a ((are.addressed a k).0 some.1) in
+      let f = address_in-some (found k) a ((are.addressed a k).0 some.1) in
       let at = are.named k (ap is_some f.1) in
-      absurd (counted a at.0 (entries_of found paths) f.0 (found_at found at.0 paths k f.0 at.1 f.1) (has_its f.0 a f.2) none)
+      absurd (count_by-found a at.0 (entries_of found paths) f.0 (entries_of-key found at.0 paths k f.0 at.1 f.1) (has_its f.0 a f.2) none)
 ]
 
 pub free_key : (found : Slots) (paths : PathKeys) (addresses : AddressKeys) (finding : Finding) → AreIndexes found paths addresses → HasNewAddress finding (entries_of found paths) → IfSome (address_found finding) (λ a. key_of_address addresses a ≡ None)
-free_key found paths addresses (Device device) are fresh = free_of found paths addresses are device.address fresh
+free_key found paths addresses (Device device) are fresh = key_of_address-none found paths addresses are device.address fresh
 free_key found paths addresses (Refused cause) are fresh = tt

@@ -19,9 +19,9 @@ use Rattle.usb_enum.specs.Device.{configuration_of, is_hub_device}
 use Rattle.usb_enum.specs.Findings.{IsOwn}
 use Rattle.usb_table.specs.declared.pipes.Pipes.TheVariants.{Function}
 use Rattle.usb_table.specs.Findings.{at_full_speed}
-use Rattle.usb_table.specs.Levels.{FitsOut, FitsIn, AreLevel}
+use Rattle.usb_table.specs.Levels.{FitsOut, FitsIn, PipesInSync}
 use Rattle.usb_table.specs.Pipes.{new_status, new_bulk, new_pipes}
-use Rattle.usb_enum.proofs.Interface.{Accepts, HasChosen, accepts, chosen_bulk, has_chosen}
+use Rattle.usb_enum.proofs.Interface.{AcceptsChosen, HasChosen, accepts, chosen_bulk, has_chosen}
 use Rattle.usb_table.proofs.Endpoints.{bulk_out_end, bulk_in_end}
 use Rattle.usb_pipe.proofs.Interface.{is_some_byte}
 
@@ -32,7 +32,7 @@ module _ (tier supply : ℕ) (device : Accepted) (below_hub : Bool) (s : State) 
   fresh : IsFresh s
   fresh = own.2
 
-  accepted : Accepts s.spec supply device.chosen
+  accepted : AcceptsChosen s.spec supply device.chosen
   accepted = accepts s.spec tier supply device.chosen own.0.0
 
   chosen : HasChosen s.spec device.chosen
@@ -76,7 +76,7 @@ module _ (tier supply : ℕ) (device : Accepted) (below_hub : Bool) (s : State) 
     tells : tells_changes s.spec s.registers ≡ true
     tells = ap (λ b. b && not (s.registers.configuration == 0)) has_ports ∙ some_value
 
-    status_level : (o : Option (ℕ × ℕ)) → AreLevel (new_status device below_hub o) s
+    status_level : (o : Option (ℕ × ℕ)) → PipesInSync (new_status device below_hub o) s
     status_level None = tt
     status_level (Some endpoint) = record {
       tells = tells;
@@ -129,7 +129,7 @@ module _ (tier supply : ℕ) (device : Accepted) (below_hub : Bool) (s : State) 
     )
 
   by_kind : (b : Bool) → is_some device.hub ≡ b
-      → AreLevel (if b then new_status device below_hub (status_endpoint_of (configuration_of device))
+      → PipesInSync (if b then new_status device below_hub (status_endpoint_of (configuration_of device))
       else Function (record {
         out = new_bulk device false (if b then None else at_full_speed device.low (bulk_out_of (configuration_of device)));
         into = new_bulk device true (if b then None else at_full_speed device.low (bulk_in_of (configuration_of device)));
@@ -138,5 +138,5 @@ module _ (tier supply : ℕ) (device : Accepted) (below_hub : Bool) (s : State) 
   by_kind false e = (out_level e device.low (bulk_out_of (configuration_of device)) refl refl, in_level e device.low (bulk_in_of (configuration_of device)) refl refl)
 
   -- of a device whose finding is its own, and that keeps the rules of devices
-  pub new_level : AreLevel (new_pipes (Device device) below_hub) s
+  pub new_level : PipesInSync (new_pipes (Device device) below_hub) s
   new_level = by_kind (is_some device.hub) refl

@@ -45,8 +45,8 @@ if_after : (last : Option (List ℕ)) (path : List ℕ) → ComesAfter last path
 if_after None path h = refl
 if_after (Some l) path h = rw h refl
 
-not_below : (q : List ℕ) (e : List ℕ × Finding) (es : Entries) (f : Finding) → Rises (e ∷ es) → lookup (is_at (path_cmp q)) (e ∷ es) ≡ Some f → path_cmp q e.0 ≢ Less
-not_below q e es f rises found = λ less.
+path_cmp-not_less : (q : List ℕ) (e : List ℕ × Finding) (es : Entries) (f : Finding) → Rises (e ∷ es) → lookup (is_at (path_cmp q)) (e ∷ es) ≡ Some f → path_cmp q e.0 ≢ Less
+path_cmp-not_less q e es f rises found = λ less.
     let none = lookup-none (is_at (path_cmp q)) (e ∷ es) (none_below_head nat_list_cmp_total q e es rises less) in
     absurd (cc (none, found))
 
@@ -84,7 +84,7 @@ module _ (kind : Finding → Bool) (last : Option (List ℕ)) (e : List ℕ × F
   in_tail q fails s = in_tail_by q fails s (is_at (path_cmp q) e.0) refl
 
   next_here : Rises (e ∷ es) → (is_after last e.0 && kind e.1) ≡ true → IsNext kind last (e ∷ es) e.0
-  next_here rises pass = record { stands = here pass; least = λ other s. not_below other e es s.finding rises s.found }
+  next_here rises pass = record { stands = here pass; least = λ other s. path_cmp-not_less other e es s.finding rises s.found }
 
   next_later : (path : List ℕ) → Rises (e ∷ es) → (is_after last e.0 && kind e.1) ≡ false → IsNext kind last es path → IsNext kind last (e ∷ es) path
   next_later path rises fails next = record { stands = later path rises next.stands; least = λ other s. next.least other (in_tail other fails s) }

@@ -8,7 +8,7 @@ use Rattle.usb_enum.specs.declared.finding.Finding.TheVariants.{Device, Refused}
 use Rattle.usb_enum.specs.declared.hub.HubFacts.{HubFacts}
 use Rattle.usb_enum.specs.Verdicts.{IsFindingOf, IsRight}
 use Rattle.usb_table.specs.Entries.{Entries}
-use Rattle.usb_table.specs.Listing.{Tree, finding_at, hub_facts_in, hub_facts_at, IsPortBelow, IsListedPort, tier_of, supply_at, ListsEach, Lists, NoneWaits, IsFoundLike, ListsLike}
+use Rattle.usb_table.specs.Listing.{SpecTree, finding_at, hub_facts_in, hub_facts_at, IsPortBelow, IsListedPort, tier_of, supply_at, ListsEach, Lists, NoneWaits, IsFoundLike, ListsLike}
 use Rattle.usb_table.proofs.Ports.{parent_shorter}
 
 found_like : (spec : Spec) (tier supply : ℕ) (f g : Finding) → IsFindingOf spec tier supply f → IsFindingOf spec tier supply g → IsFoundLike f g
@@ -33,9 +33,9 @@ by_description entries none path spec f tier supply at (inl x) = x
 by_description entries none path spec f tier supply at (inr x) = absurd (none path (at ∙ ap (λ x. Some x) x.refused))
 
 -- the finding at a listed port where a device is plugged
-found_at : (roots : ℕ) (tree : Tree) (entries : Entries) → Lists roots tree entries → NoneWaits entries → (path : List ℕ) (spec : Spec) → IsListedPort roots entries path → tree path ≡ Some spec
+listed_finding : (roots : ℕ) (tree : SpecTree) (entries : Entries) → Lists roots tree entries → NoneWaits entries → (path : List ℕ) (spec : Spec) → IsListedPort roots entries path → tree path ≡ Some spec
     → IsSomeAnd (finding_at path entries) (IsFindingOf spec (tier_of path) (supply_at tree path))
-found_at roots tree entries l none path spec port t = pick (finding_at path entries) refl (l.there path spec port t)
+listed_finding roots tree entries l none path spec port t = pick (finding_at path entries) refl (l.there path spec port t)
   where
     pick : (o : Option Finding) → finding_at path entries ≡ o → IsSomeAnd o (IsRight (ListsEach entries) spec (tier_of path) (supply_at tree path))
         → IsSomeAnd o (IsFindingOf spec (tier_of path) (supply_at tree path))
@@ -58,9 +58,9 @@ same_hub a b path hub like at = pick (finding_at path a) refl at
     pick None e at = absurd cc
     pick (Some f) e at = same_facts f (finding_at path b) hub (like f e) at
 
-moved : (o u : Option HubFacts) (P : HubFacts → Type 0) → ((hub : HubFacts) → o ≡ Some hub → u ≡ Some hub) → IsSomeAnd o P → IsSomeAnd u P
-moved None u P on h = absurd h
-moved (Some hub) u P on h = subst (λ x. IsSomeAnd x P) (sym (on hub refl)) h
+is_some_and-moved : (o u : Option HubFacts) (P : HubFacts → Type 0) → ((hub : HubFacts) → o ≡ Some hub → u ≡ Some hub) → IsSomeAnd o P → IsSomeAnd u P
+is_some_and-moved None u P on h = absurd h
+is_some_and-moved (Some hub) u P on h = subst (λ x. IsSomeAnd x P) (sym (on hub refl)) h
 
 -- what is listed alike at shorter paths has the same ports
 port_moved : (roots : ℕ) (a b : Entries) (path : List ℕ) → ((p : List ℕ) → length p < length path → (f : Finding) → finding_at p a ≡ Some f → IsSomeAnd (finding_at p b) (IsFoundLike f))
@@ -69,9 +69,9 @@ port_moved roots a b path like h = record { some = h.some; port = pick (parent_o
   where
     pick : (o : Option (List ℕ)) → parent_of path ≡ o → IsPortBelow roots a o (port_on_hub path) → IsPortBelow roots b o (port_on_hub path)
     pick None e h = h
-    pick (Some p) e h = moved (hub_facts_at p a) (hub_facts_at p b) (λ facts. (1 ≤ port_on_hub path) × (port_on_hub path ≤ facts.ports)) (λ hub at. same_hub a b p hub (like p (parent_shorter path p e)) at) h
+    pick (Some p) e h = is_some_and-moved (hub_facts_at p a) (hub_facts_at p b) (λ facts. (1 ≤ port_on_hub path) × (port_on_hub path ≤ facts.ports)) (λ hub at. same_hub a b p hub (like p (parent_shorter path p e)) at) h
 
-same_here : (roots : ℕ) (tree : Tree) (a b : Entries) → Lists roots tree a → Lists roots tree b → NoneWaits a → NoneWaits b → (path : List ℕ) (f : Finding) → finding_at path a ≡ Some f
+same_here : (roots : ℕ) (tree : SpecTree) (a b : Entries) → Lists roots tree a → Lists roots tree b → NoneWaits a → NoneWaits b → (path : List ℕ) (f : Finding) → finding_at path a ≡ Some f
     → (IsListedPort roots a path → IsListedPort roots b path) → IsSomeAnd (finding_at path b) (IsFoundLike f)
 same_here roots tree a b x y m n path f at move = pick (tree path) refl (x.nothing_else path f at).1
   where
@@ -86,14 +86,14 @@ same_here roots tree a b x y m n path f at move = pick (tree path) refl (x.nothi
     pick None t some = absurd cc
     pick (Some spec) t some =
         both spec (finding_at path b)
-        (subst (λ o. IsSomeAnd o (IsFindingOf spec (tier_of path) (supply_at tree path))) at (found_at roots tree a x m path spec port t))
-        (found_at roots tree b y n path spec (move port) t)
+        (subst (λ o. IsSomeAnd o (IsFindingOf spec (tier_of path) (supply_at tree path))) at (listed_finding roots tree a x m path spec port t))
+        (listed_finding roots tree b y n path spec (move port) t)
 
-below : (roots : ℕ) (tree : Tree) (a b : Entries) → Lists roots tree a → Lists roots tree b → NoneWaits a → NoneWaits b
+listed_alike : (roots : ℕ) (tree : SpecTree) (a b : Entries) → Lists roots tree a → Lists roots tree b → NoneWaits a → NoneWaits b
     → (n : ℕ) (path : List ℕ) → length path < n → (f : Finding) → finding_at path a ≡ Some f → IsSomeAnd (finding_at path b) (IsFoundLike f)
-below roots tree a b x y m n zero path l f at = absurd (omega (arith, l))
-below roots tree a b x y m n (suc k) path l f at =
-    same_here roots tree a b x y m n path f at (port_moved roots a b path (λ p q. below roots tree a b x y m n k p (omega (arith, l, q))))
+listed_alike roots tree a b x y m n zero path l f at = absurd (omega (arith, l))
+listed_alike roots tree a b x y m n (suc k) path l f at =
+    same_here roots tree a b x y m n path f at (port_moved roots a b path (λ p q. listed_alike roots tree a b x y m n k p (omega (arith, l, q))))
 
-pub one_listing : (roots : ℕ) (tree : Tree) (a b : Entries) → Lists roots tree a → Lists roots tree b → NoneWaits a → NoneWaits b → ListsLike a b
-one_listing roots tree a b x y m n path f at = below roots tree a b x y m n (length path + 1) path (omega arith) f at
+pub one_listing : (roots : ℕ) (tree : SpecTree) (a b : Entries) → Lists roots tree a → Lists roots tree b → NoneWaits a → NoneWaits b → ListsLike a b
+one_listing roots tree a b x y m n path f at = listed_alike roots tree a b x y m n (length path + 1) path (omega arith) f at

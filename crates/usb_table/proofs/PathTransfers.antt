@@ -2,7 +2,7 @@
 use Rattle.std.proofs.Common.{◌≡◌, ◌≢◌, ◌∙◌, refl, sym, ap, subst, true, false, ℕ, ◌==◌, eq-eqb, List, Option, None, Some}
 use Rattle.std.specs.Prelude.{Result, Ok, Err, is_ok, option_map}
 use Rattle.usb_device.specs.Rows.{State}
-use Rattle.usb_device.specs.Tree.{reach, Spot, path_to, reach_on, state_on}
+use Rattle.usb_device.specs.Tree.{reach, Location, path_to, reach_on, state_on}
 use Rattle.usb_device.specs.View.{state_there}
 use Rattle.usb_world.specs.declared.types.BusFault.{BusFault}
 use Rattle.usb_world.specs.Devices.{Relation, Was, EachWas}
@@ -18,31 +18,31 @@ use Rattle.usb_table.specs.declared.fault.EndpointFault.{EndpointFault}
 use Rattle.usb_table.specs.declared.fault.EndpointFault.TheVariants.{Pipe}
 use Rattle.usb_table.specs.Deliveries.{ChangesAt}
 use Rattle.usb_table.specs.Findings.{accepted_device_at}
-use Rattle.usb_table.specs.Levels.{AreLevel, IsHeld, LevelAt}
+use Rattle.usb_table.specs.Levels.{PipesInSync, IsHeld, InSyncAt}
 use Rattle.usb_table.specs.Listing.{entry_address}
 use Rattle.usb_table.specs.KnownPorts.{is_below_hub}
 use Rattle.usb_table.specs.Pipes.{ArePipesIf}
 use Rattle.usb_table.specs.Table.{Table, ArePipesAt, pipes_at}
 use Rattle.usb_table.specs.Transfers.{endpoint_answer}
-use Rattle.usb_table.proofs.Levels.{address_found, by_decision, held_address, one_path}
+use Rattle.usb_table.proofs.Levels.{address_found, by_decision, held_address, entry_address-one_path}
 
 -- what is so of the device that is reached at a path
-abbrev pub Reached : List ℕ → World → (State → Type 0) → Type 0
-Reached path w So = (s : State) → reach w.roots path ≡ true → state_there w.roots path ≡ Some s → So s
+abbrev pub PathReaches : List ℕ → World → (State → Type 0) → Type 0
+PathReaches path w So = (s : State) → reach w.roots path ≡ true → state_there w.roots path ≡ Some s → So s
 
 -- it is as far as the pipes at the path
-module _ (path : List ℕ) (table : Table) (w : World) (level : LevelAt path table w) where
+module _ (path : List ℕ) (table : Table) (w : World) (level : InSyncAt path table w) where
   levels_by : (found : Option Accepted) → accepted_device_at path table.entries ≡ found
       → ArePipesIf found (is_below_hub path) (pipes_at path table)
-      → Reached path w (AreLevel (pipes_at path table))
+      → PathReaches path w (PipesInSync (pipes_at path table))
   levels_by None e none s on there = rw none tt
   levels_by (Some device) e are s on there = level.level device s e on there
 
-  pub levels_there : ArePipesAt path table → Reached path w (AreLevel (pipes_at path table))
+  pub levels_there : ArePipesAt path table → PathReaches path w (PipesInSync (pipes_at path table))
   levels_there = levels_by (accepted_device_at path table.entries) refl
 
 -- nothing was tried
-pub none_changes : (path : List ℕ) (So : State → State → Type 0) (old new : World) → new ≡ old → Reached path old (λ s. So s s) → EachWas (ChangesAt path So) old new
+pub none_changes : (path : List ℕ) (So : State → State → Type 0) (old new : World) → new ≡ old → PathReaches path old (λ s. So s s) → EachWas (ChangesAt path So) old new
 none_changes path So old new same so = subst (EachWas (ChangesAt path So) old) (sym same) each
   where
     each : EachWas (ChangesAt path So) old old
@@ -55,13 +55,13 @@ none_changes path So old new same so = subst (EachWas (ChangesAt path So) old) (
 
 module _ (path : List ℕ) (table : Table) (old : World) (held : IsHeld table old) (device : Accepted) (found : accepted_device_at path table.entries ≡ Some device) (a : ℕ) (is : a ≡ device.address) where
   -- who has the address of the device that is known at the path stands there
-  stands_there : (j : Spot) (s : State) → reach_on old.roots j ≡ true → state_on old.roots j ≡ Some s → (address_of s == a) ≡ true → path ≡ path_to j
+  stands_there : (j : Location) (s : State) → reach_on old.roots j ≡ true → state_on old.roots j ≡ Some s → (address_of s == a) ≡ true → path ≡ path_to j
   stands_there j s on there at =
       let own : entry_address (path_to j) table.entries ≡ Some (address_of s) = sym (held.own (path_to j) on) ∙ ap (option_map address_of) there in
-      sym (one_path table old (path_to j) path device.address held (own ∙ ap Some (equal_same (address_of s) a at ∙ is)) (address_found path table.entries device found))
+      sym (entry_address-one_path table old (path_to j) path device.address held (own ∙ ap Some (equal_same (address_of s) a at ∙ is)) (address_found path table.entries device found))
 
-  pub changes_there : (L : Relation) (So : State → State → Type 0) (new : World) → ((j : Spot) (s v : State) → L j s v → (address_of s == a) ≡ false → v ≡ s)
-      → Reached path old (λ s. (j : Spot) (v : State) → L j s v → (address_of s == a) ≡ true → So s v) → EachWas L old new → EachWas (ChangesAt path So) old new
+  pub changes_there : (L : Relation) (So : State → State → Type 0) (new : World) → ((j : Location) (s v : State) → L j s v → (address_of s == a) ≡ false → v ≡ s)
+      → PathReaches path old (λ s. (j : Location) (v : State) → L j s v → (address_of s == a) ≡ true → So s v) → EachWas L old new → EachWas (ChangesAt path So) old new
   changes_there L So new others so each j v on there = record { before = w.before; on = w.on; stands = w.stands; so = record { itself = itself; others = apart } }
     where
       w : Was L old j v

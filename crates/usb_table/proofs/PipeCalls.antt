@@ -14,7 +14,7 @@ use Rattle.usb_table.specs.declared.pipes.Pipes.{Pipes}
 use Rattle.usb_table.specs.declared.pipes.Pipes.TheVariants.{Absent}
 use Rattle.usb_table.specs.Findings.{accepted_device_of}
 use Rattle.usb_table.specs.declared.entry.Entry.{Entry}
-use Rattle.usb_table.specs.Keys.{IsPiped, Standings, PathKeys, AddressKeys, key_of_path, under, entries_of, findings, pipings, table_of, AreIndexes, ArePiped}
+use Rattle.usb_table.specs.Keys.{IsPiped, TableSlots, PathKeys, AddressKeys, key_of_path, under, entries_of, findings, pipings, table_of, AreIndexes, ArePiped}
 use Rattle.usb_table.specs.KnownPorts.{is_below_hub}
 use Rattle.usb_table.specs.Listing.{finding_at}
 use Rattle.usb_table.specs.Deliveries.{pipe_in, pipe_out}
@@ -27,18 +27,18 @@ use Rattle.usb_table.proofs.Paths.{path_itself}
 
 -- What the pipes at a path are
 
-pipes_by : (standings : Standings) (path : List ℕ) (paths : PathKeys) (key : Option ℕ) → key_of_path paths path ≡ key → pipes_at path (table_of standings paths) ≡ unwrap_or (option_map (under Absent (pipings standings)) key) Absent
+pipes_by : (standings : TableSlots) (path : List ℕ) (paths : PathKeys) (key : Option ℕ) → key_of_path paths path ≡ key → pipes_at path (table_of standings paths) ≡ unwrap_or (option_map (under Absent (pipings standings)) key) Absent
 pipes_by standings path paths key at = ap (λ o. unwrap_or o Absent) (values_by_path-lookup Absent (pipings standings) path paths ∙ ap (option_map (under Absent (pipings standings))) at)
 
-pub pipes_found : (standings : Standings) (path : List ℕ) (paths : PathKeys) (key : ℕ) (s : Entry) → key_of_path paths path ≡ Some key → standings key ≡ Some s → pipes_at path (table_of standings paths) ≡ s.pipes
+pub pipes_found : (standings : TableSlots) (path : List ℕ) (paths : PathKeys) (key : ℕ) (s : Entry) → key_of_path paths path ≡ Some key → standings key ≡ Some s → pipes_at path (table_of standings paths) ≡ s.pipes
 pipes_found standings path paths key s at stands = pipes_by standings path paths (Some key) at ∙ ap (λ o. unwrap_or (option_map (λ (t : Entry). t.pipes) o) Absent) stands
 
-pub pipes_none : (standings : Standings) (path : List ℕ) (paths : PathKeys) → key_of_path paths path ≡ None → pipes_at path (table_of standings paths) ≡ Absent
+pub pipes_none : (standings : TableSlots) (path : List ℕ) (paths : PathKeys) → key_of_path paths path ≡ None → pipes_at path (table_of standings paths) ≡ Absent
 pipes_none standings path paths none = pipes_by standings path paths None none
 
 -- They are those to what was found there
 
-module _ (standings : Standings) (paths : PathKeys) (addresses : AddressKeys) (are : AreIndexes (findings standings) paths addresses) (piped : ArePiped standings paths) (path : List ℕ) where
+module _ (standings : TableSlots) (paths : PathKeys) (addresses : AddressKeys) (are : AreIndexes (findings standings) paths addresses) (piped : ArePiped standings paths) (path : List ℕ) where
   fits_by : (finding : Finding) (key : ℕ) (o : Option Entry) → key_of_path paths path ≡ Some key → standings key ≡ o → unwrap_or (option_map (λ (s : Entry). s.finding) o) (Refused Silent) ≡ finding
       → option_map (λ (s : Entry). s.finding) o ≢ None → ArePipesOf finding (is_below_hub path) (pipes_at path (table_of standings paths))
   fits_by finding key None at stands is some = absurd (some refl)
@@ -67,14 +67,14 @@ module _ (standings : Standings) (paths : PathKeys) (addresses : AddressKeys) (a
 -- A call leaves other pipes at the path
 
 -- what is so of the table after it, and of the pipes
-pub record Through (R : Pipes → Pipes → Type 0) (path : List ℕ) (standings after : Standings)
+pub record CallThrough (R : Pipes → Pipes → Type 0) (path : List ℕ) (standings after : TableSlots)
     (paths : PathKeys) (addresses : AddressKeys) : Type 0 where
   pub indexes : AreIndexes (findings after) paths addresses
   pub piped : ArePiped after paths
   pub goes : GoesThrough path (table_of standings paths) (table_of after paths)
   pub did : R (pipes_at path (table_of standings paths)) (pipes_at path (table_of after paths))
 
-module _ (R : Pipes → Pipes → Type 0) (path : List ℕ) (standings after : Standings)
+module _ (R : Pipes → Pipes → Type 0) (path : List ℕ) (standings after : TableSlots)
     (paths : PathKeys) (addresses : AddressKeys) (key : ℕ) (s : Entry) (left : Pipes)
     (are : AreIndexes (findings standings) paths addresses × ArePiped standings paths)
     (at : key_of_path paths path ≡ Some key) (held : standings key ≡ Some s)
@@ -112,7 +112,7 @@ module _ (R : Pipes → Pipes → Type 0) (path : List ℕ) (standings after : S
       ∙ ap (λ o. unwrap_or (option_map (λ (x : Entry). x.pipes) o) Absent) (others k (other_key other k apart h))
       ∙ sym (pipes_by standings other paths (Some k) h)
 
-  through : Through R path standings after paths addresses
+  through : CallThrough R path standings after paths addresses
   through =
       let found : findings after ≡ findings standings = fun_ext same_finding in
       record {
@@ -136,7 +136,7 @@ pub through_slot : (R : Pipes → Pipes → Type 0) (path : List ℕ) (slab : Sl
     → AreIndexes (findings (get slab)) paths addresses × ArePiped (get slab) paths
     → key_of_path paths path ≡ Some key → get slab key ≡ Some s
     → pipes_made left ≡ pipes_made s.pipes → R s.pipes left
-    → Through R path (get slab) (get (with_value slab key (record s { pipes = left }))) paths
+    → CallThrough R path (get slab) (get (with_value slab key (record s { pipes = left }))) paths
     addresses
 through_slot R path slab paths addresses key s left are at held made did =
     let updates = Updates-with_value slab key (record s { pipes = left }) (ap is_some held) in
@@ -144,11 +144,11 @@ through_slot R path slab paths addresses key s left are at held made did =
     updates.others made did
 
 -- nothing stands there, and nothing changes
-pub through_none : (R : Pipes → Pipes → Type 0) (path : List ℕ) (standings : Standings)
+pub through_none : (R : Pipes → Pipes → Type 0) (path : List ℕ) (standings : TableSlots)
     (paths : PathKeys) (addresses : AddressKeys)
     → AreIndexes (findings standings) paths addresses × ArePiped standings paths
     → key_of_path paths path ≡ None → R Absent Absent
-    → Through R path standings standings paths addresses
+    → CallThrough R path standings standings paths addresses
 through_none R path standings paths addresses are none did = record {
   indexes = are.0;
   piped = are.1;

@@ -7,11 +7,11 @@ use Rattle.usb_world.specs.World.{World, roots_of}
 use Rattle.usb_world.proofs.Interface.{devices_left, new_long}
 use Rattle.usb_enum.proofs.Interface.{course_later}
 use Rattle.usb_table.specs.Entries.{Entries}
-use Rattle.usb_table.specs.Listing.{Tree, tree_after, tree_in, Lists, Matches}
+use Rattle.usb_table.specs.Listing.{SpecTree, tree_after, tree_in, Lists, Matches}
 
 -- trees that are the same path by path have the same listings
-lists_moved : (m n : ℕ) (a b : Tree) (entries : Entries) → m ≡ n → ((path : List ℕ) → a path ≡ b path) → Lists m a entries → Lists n b entries
-lists_moved m n a b entries e same x = subst (λ k. Lists k b entries) e (subst (λ (t : Tree). Lists m t entries) (λ i path. same path i) x)
+lists_moved : (m n : ℕ) (a b : SpecTree) (entries : Entries) → m ≡ n → ((path : List ℕ) → a path ≡ b path) → Lists m a entries → Lists n b entries
+lists_moved m n a b entries e same x = subst (λ k. Lists k b entries) e (subst (λ (t : SpecTree). Lists m t entries) (λ i path. same path i) x)
 
 pub lists_of_plan : (plan : PlanData) → IsPlan plan → AtPorts plan.events → (w : World) → Course AnyStep (opening plan) w → (entries : Entries) → Matches w entries
     → Lists plan.roots (tree_after plan w.taken) entries

@@ -15,9 +15,10 @@ use Rattle.std.specs.declared.cmp.Ordering.TheVariants.{Less, Equal, Greater}
 use Rattle.std.proofs.lemmas.Bool.{or_cases, or_from, and_from, eq-eqb, cases_Bool, cases_order}
 use Rattle.std.proofs.lemmas.Map.Keys.{sorted_head, sorted_tail}
 use Rattle.usb_port.specs.Order.{path_cmp, is_below}
-use Rattle.usb_port.proofs.Interface.{below}
+use Rattle.usb_port.proofs.Interface.{is_below-extension}
 use Rattle.usb_table.specs.Entries.{is_at_or_below}
 use Rattle.usb_table.specs.Keys.{PathKeys}
+use Rattle.usb_world.proofs.Interface.{or_left, or_right}
 
 -- ---- paths
 
@@ -29,7 +30,7 @@ extends_if : (path above : List ℕ) → is_at_or_below path above ≡ true → 
 extends_if path above h =
     elim (or_cases (pointwise nat_eq path above) (is_below path above) h) [
       | inl same ↦ ([], same_text path above (sym same) ∙ sym (append-nil above))
-      | inr further ↦ let on = (below path above).0 further in (on.0, on.1)
+      | inr further ↦ let on = (is_below-extension path above).0 further in (on.0, on.1)
     ]
 
 -- a path comes no later than what goes on from it
@@ -39,16 +40,16 @@ from_front [] (r ∷ rest) = refl
 from_front (n ∷ path) rest = rw (sym (nat_cmp_is n n Equal refl)) (from_front path rest)
 
 -- what comes between a path and one that goes on from it goes on from it too
-between : (path other rest : List ℕ) → is_le (path_cmp path other) ≡ true
+extends_between : (path other rest : List ℕ) → is_le (path_cmp path other) ≡ true
     → path_cmp other (path ++ rest) ≡ Less → Extends other path
-between [] other rest from less = (other, refl)
-between (x ∷ path) [] rest from less = absurd cc
-between (x ∷ path) (y ∷ other) rest from less =
+extends_between [] other rest from less = (other, refl)
+extends_between (x ∷ path) [] rest from less = absurd cc
+extends_between (x ∷ path) (y ∷ other) rest from less =
     elim (cases_order x y) [
       | inl same ↦
           let tied : nat_cmp x y ≡ Equal = sym (nat_cmp_is x y Equal same) in
           let back : nat_cmp y x ≡ Equal = sym (nat_cmp_is y x Equal (sym same)) in
-          let more = between path other rest (rw tied at from) (rw back at less) in
+          let more = extends_between path other rest (rw tied at from) (rw back at less) in
           (more.0, ap (λ (n : ℕ). n ∷ other) (sym same) ∙ ap (λ (l : List ℕ). x ∷ l) more.1)
       | inr apart ↦ elim apart [
         | inl lower ↦
@@ -62,18 +63,10 @@ between (x ∷ path) (y ∷ other) rest from less =
       ]
     ]
 
-itself : (path : List ℕ) → pointwise nat_eq path path ≡ true
-itself [] = refl
-itself (n ∷ path) =
-    and_from (nat_eq n n) (pointwise nat_eq path path) (eq-eqb n n refl) (itself path)
-
-or_left : (a b : Bool) → a ≡ true → (a || b) ≡ true
-or_left true b h = refl
-or_left false b h = absurd cc
-
-or_right : (a b : Bool) → b ≡ true → (a || b) ≡ true
-or_right true b h = refl
-or_right false b h = h
+pointwise-refl : (path : List ℕ) → pointwise nat_eq path path ≡ true
+pointwise-refl [] = refl
+pointwise-refl (n ∷ path) =
+    and_from (nat_eq n n) (pointwise nat_eq path path) (eq-eqb n n refl) (pointwise-refl path)
 
 below_is_from : (path above : List ℕ) → is_at_or_below path above ≡ true
     → is_le (path_cmp above path) ≡ true
@@ -93,10 +86,10 @@ not_before path above early =
 extends_is : (path above : List ℕ) → Extends path above → is_at_or_below path above ≡ true
 extends_is path above ([], whole) =
     rw (whole ∙ append-nil above)
-    (or_left (pointwise nat_eq above above) (is_below above above) (itself above))
+    (or_left (pointwise nat_eq above above) (is_below above above) (pointwise-refl above))
 extends_is path above (n ∷ rest, whole) =
     or_right (pointwise nat_eq path above) (is_below path above)
-    ((below path above).1 (n ∷ rest, whole, omega arith))
+    ((is_below-extension path above).1 (n ∷ rest, whole, omega arith))
 
 -- nothing behind a path that is not at or below another is there either
 later_one : (above first path : List ℕ) → is_le (path_cmp above first) ≡ true
@@ -106,22 +99,22 @@ later_one above first path from away less =
     elim (cases_Bool (is_at_or_below path above)) [
       | inl at ↦
           let on = extends_if path above at in
-          let at_first = extends_is first above (between above first on.0 from (rw on.1 at less)) in
+          let at_first = extends_is first above (extends_between above first on.0 from (rw on.1 at less)) in
           absurd cc
       | inr not_at ↦ not_at
     ]
 
 -- ---- entries
 
-abbrev pub has_below : List ℕ → PathKeys → Bool
-has_below above paths = list_any (λ e. is_at_or_below e.0 above) paths
+abbrev pub has_path_below : List ℕ → PathKeys → Bool
+has_path_below above paths = list_any (λ e. is_at_or_below e.0 above) paths
 
 later_ones : (above first : List ℕ) (paths : PathKeys) → is_le (path_cmp above first) ≡ true
     → is_at_or_below first above ≡ false
-    → AllByRecursion (λ k. path_cmp first k ≡ Less) (keys_of paths) → has_below above paths ≡ false
+    → AllByRecursion (λ k. path_cmp first k ≡ Less) (keys_of paths) → has_path_below above paths ≡ false
 later_ones above first [] from away all = refl
 later_ones above first (e ∷ paths) from away all =
-    or_from (is_at_or_below e.0 above) (has_below above paths)
+    or_from (is_at_or_below e.0 above) (has_path_below above paths)
     (later_one above first e.0 from away all.0) (later_ones above first paths from away all.1)
 
 abbrev pub from_path : List ℕ → PathKeys → PathKeys
@@ -132,21 +125,21 @@ FirstIsAway above rest = IfSome (slice_get rest 0) (λ e. is_at_or_below e.0 abo
 
 away_step : (above : List ℕ) (e : List ℕ × ℕ) (paths : PathKeys)
     → IsStrictlySortedBy path_cmp (keys_of (e ∷ paths))
-    → (FirstIsAway above (from_path above paths) → has_below above paths ≡ false)
+    → (FirstIsAway above (from_path above paths) → has_path_below above paths ≡ false)
     → (b : Bool) → is_le (path_cmp above e.0) ≡ b
     → FirstIsAway above (cond (b && not false) (e ∷ from_path above paths) (from_path above paths))
-    → has_below above (e ∷ paths) ≡ false
+    → has_path_below above (e ∷ paths) ≡ false
 away_step above e paths rises more true from away =
-    or_from (is_at_or_below e.0 above) (has_below above paths) away
+    or_from (is_at_or_below e.0 above) (has_path_below above paths) away
     (later_ones above e.0 paths from away (sorted_head path_cmp e.0 (keys_of paths) rises))
 away_step above e paths rises more false from away =
-    or_from (is_at_or_below e.0 above) (has_below above paths) (not_before e.0 above from)
+    or_from (is_at_or_below e.0 above) (has_path_below above paths) (not_before e.0 above from)
     (more away)
 
 -- where the first entry from a path on is not at or below it, none is
 pub away_if_first : (above : List ℕ) (paths : PathKeys)
     → IsStrictlySortedBy path_cmp (keys_of paths) → FirstIsAway above (from_path above paths)
-    → has_below above paths ≡ false
+    → has_path_below above paths ≡ false
 away_if_first above [] rises away = refl
 away_if_first above (e ∷ paths) rises away =
     away_step above e paths rises

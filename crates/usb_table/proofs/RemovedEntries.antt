@@ -12,9 +12,9 @@ use Rattle.usb_enum.specs.declared.finding.Finding.TheVariants.{Refused}
 use Rattle.usb_table.specs.declared.pipes.Pipes.TheVariants.{Absent}
 use Rattle.usb_table.specs.Findings.{address_found}
 use Rattle.usb_table.specs.declared.entry.Entry.{Entry}
-use Rattle.usb_table.specs.Keys.{Standings, Slots, PathKeys, AddressKeys, key_of_path, key_of_address, findings, pipings, values_by_path, table_of, address_in, AreIndexes, ArePiped, UpdatesAddress}
+use Rattle.usb_table.specs.Keys.{TableSlots, Slots, PathKeys, AddressKeys, key_of_path, key_of_address, findings, pipings, values_by_path, table_of, address_in, AreIndexes, ArePiped, UpdatesAddress}
 use Rattle.usb_table.specs.Table.{removed}
-use Rattle.usb_table.proofs.Keys.{number_tied, number_itself, same_or_not, values_by_path-remove, agree, found_in, same_table}
+use Rattle.usb_table.proofs.Keys.{number_tied, number_itself, same_or_not, values_by_path-remove, agree, findings-standing, same_table}
 use Rattle.usb_table.proofs.Paths.{path_tied, path_itself}
 
 module _ (old new : Slots) (paths left : PathKeys) (addresses rest : AddressKeys) (first : List ℕ) (key : ℕ) (finding : Finding)
@@ -115,12 +115,12 @@ module _ (paths left : PathKeys) (first : List ℕ) (key : ℕ) (left_at : (q : 
       ∙ ap (values_by_path none old) is
       ∙ values_by_path-remove none old (is_at (path_cmp first)) paths
 
-  pub go_piped : (old new : Standings) → ArePiped old paths → ((k : ℕ) → k ≢ key → new k ≡ old k) → ArePiped new left
+  pub go_piped : (old new : TableSlots) → ArePiped old paths → ((k : ℕ) → k ≢ key → new k ≡ old k) → ArePiped new left
   go_piped old new piped others q k t h stands = let was = left_at q k h in piped q k t was.0 (sym (others k was.1) ∙ stands)
 
 -- An entry goes, with its pipes
 
-module _ (old new : Standings) (paths left : PathKeys) (addresses rest : AddressKeys) (first : List ℕ) (key : ℕ) (s : Entry)
+module _ (old new : TableSlots) (paths left : PathKeys) (addresses rest : AddressKeys) (first : List ℕ) (key : ℕ) (s : Entry)
     (are : AreIndexes (findings old) paths addresses) (piped : ArePiped old paths) (held : old key ≡ Some s)
     (gone : new key ≡ None) (others : (k : ℕ) → k ≢ key → new k ≡ old k)
     (was : key_of_path paths first ≡ Some key)
@@ -133,10 +133,10 @@ module _ (old new : Standings) (paths left : PathKeys) (addresses rest : Address
   finding_others k ne = ap (option_map (λ (t : Entry). t.finding)) (others k ne)
 
   key_left : (q : List ℕ) (k : ℕ) → key_of_path left q ≡ Some k → (key_of_path paths q ≡ Some k) × (k ≢ key)
-  key_left = left_at (findings old) (findings new) paths left addresses rest first key s.finding are (found_in old key s held) finding_gone finding_others was path_keys address_keys
+  key_left = left_at (findings old) (findings new) paths left addresses rest first key s.finding are (findings-standing old key s held) finding_gone finding_others was path_keys address_keys
 
   pub gone_indexes : AreIndexes (findings new) left rest
-  gone_indexes = go (findings old) (findings new) paths left addresses rest first key s.finding are (found_in old key s held) finding_gone finding_others was path_keys address_keys
+  gone_indexes = go (findings old) (findings new) paths left addresses rest first key s.finding are (findings-standing old key s held) finding_gone finding_others was path_keys address_keys
 
   pub gone_piped : ArePiped new left
   gone_piped = go_piped paths left first key key_left old new piped others

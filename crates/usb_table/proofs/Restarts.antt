@@ -4,7 +4,7 @@ use Rattle.std.specs.Prelude.{is_ok, is_some, if◌then◌else◌}
 use Rattle.usb_device.specs.declared.bulk.EndpointState.{EndpointState as End}
 use Rattle.usb_device.specs.Bulk.{rested}
 use Rattle.usb_device.specs.Rows.{State}
-use Rattle.usb_device.specs.Tree.{Spot}
+use Rattle.usb_device.specs.Tree.{Location}
 use Rattle.usb_world.specs.declared.types.BusFault.{BusFault}
 use Rattle.usb_world.specs.Devices.{EachWas}
 use Rattle.usb_world.specs.Paths.{address_of}
@@ -26,14 +26,14 @@ use Rattle.usb_table.specs.declared.pipes.Pipes.TheVariants.{Function}
 use Rattle.usb_table.specs.Deliveries.{HaltCleared, HaltClearedBy, HaltsCleared, TransfersAt, Restarted, pipe_out, pipe_in}
 use Rattle.usb_table.specs.Findings.{out_endpoint, in_endpoint, accepted_device_at}
 use Rattle.usb_table.specs.KnownPorts.{is_below_hub}
-use Rattle.usb_table.specs.Levels.{AreLevel, IsHeld, LevelAt}
+use Rattle.usb_table.specs.Levels.{PipesInSync, IsHeld, InSyncAt}
 use Rattle.usb_table.specs.Pipes.{IsBulkPipe, IsPipe}
 use Rattle.usb_table.specs.Table.{Table, pipes_at, ArePipesAt}
 use Rattle.usb_table.specs.Transfers.{ClearedBy, ClearedAfter, PipesCleared, both_sides, endpoint_answer}
-use Rattle.usb_table.proofs.FittingPipes.{Moves, clear_out_moves, clear_in_moves}
+use Rattle.usb_table.proofs.FittingPipes.{PipesMove, clear_out_moves, clear_in_moves}
 use Rattle.usb_table.proofs.KeptPipes.{ready_or_not}
 use Rattle.usb_table.proofs.MovedPipes.{EachMoves, clear_whole, known_left}
-use Rattle.usb_table.proofs.PathTransfers.{Reached, changes_there, done_through, levels_there, none_changes, not_bus}
+use Rattle.usb_table.proofs.PathTransfers.{PathReaches, changes_there, done_through, levels_there, none_changes, not_bus}
 use Rattle.usb_table.proofs.ThroughPipes.{through_both}
 use Rattle.usb_table.proofs.DevicesKept.{clears_single}
 
@@ -80,26 +80,26 @@ cleared_single (Some pipe) (Some left) old answer new x single =
 
 -- One device at the address, over the clear of one pipe or of both
 
-abbrev Ends : Type 1
-Ends = End → End → Type 0
+abbrev EndRelation : Type 1
+EndRelation = End → End → Type 0
 
-record ClearsIt (Out Into : Ends) (left : BulkPipes) (s v : State) : Type 0 where
+record ClearsIt (Out Into : EndRelation) (left : BulkPipes) (s v : State) : Type 0 where
   sink : v.sink ≡ s.sink
   place : v.place ≡ s.place
   out : Out s.bulk_out v.bulk_out
   into : Into s.bulk_in v.bulk_in
-  level : AreLevel (Function left) v
+  level : PipesInSync (Function left) v
 
 -- where the call ends so
-record ClearStep (ends : Type 0) (a : ℕ) (Out Into : Ends) (pipes left : BulkPipes) (j : Spot)
+record ClearStep (ends : Type 0) (a : ℕ) (Out Into : EndRelation) (pipes left : BulkPipes) (j : Location)
     (s v : State) : Type 0 where
   others : (address_of s == a) ≡ false → v ≡ s
   same : address_of v ≡ address_of s
-  itself : ends → (address_of s == a) ≡ true → AreLevel (Function pipes) s
+  itself : ends → (address_of s == a) ≡ true → PipesInSync (Function pipes) s
       → ClearsIt Out Into left s v
 
-abbrev Stays : Ends
-Stays before after = after ≡ before
+abbrev EndStays : EndRelation
+EndStays before after = after ≡ before
 
 -- a call is done only if the answer is one of success; where it ends so, that is not the bus's own
 record FitsAnswer (ends : Type 0) (done : Bool) (answer : Result (Unit {0}) PipeFault)
@@ -108,12 +108,12 @@ record FitsAnswer (ends : Type 0) (done : Bool) (answer : Result (Unit {0}) Pipe
   less : done ≡ true → is_ok answer ≡ true
 
 module _ (ends : Type 0) where
-  abbrev ClearSteps : ℕ → Ends → Ends → BulkPipes → BulkPipes → World → World → Type 0
+  abbrev ClearSteps : ℕ → EndRelation → EndRelation → BulkPipes → BulkPipes → World → World → Type 0
   ClearSteps a Out Into pipes left = EachWas (ClearStep ends a Out Into pipes left)
 
-  step_none : (a : ℕ) (Out Into : Ends) (pipes : BulkPipes) → ((end : End) → Out end end)
+  clear_step_none : (a : ℕ) (Out Into : EndRelation) (pipes : BulkPipes) → ((end : End) → Out end end)
       → ((end : End) → Into end end) → (w : World) → ClearSteps a Out Into pipes pipes w w
-  step_none a Out Into pipes out into w =
+  clear_step_none a Out Into pipes out into w =
       each_none (ClearStep ends a Out Into pipes pipes)
       (λ j s. record {
         others = λ h. refl;
@@ -127,11 +127,11 @@ module _ (ends : Type 0) where
         };
       }) w
 
-  steps_then : (a : ℕ) (Out Into : Ends) (pipes mid left : BulkPipes) (u w v : World)
-      → ClearSteps a Out Stays pipes mid u w → ClearSteps a Stays Into mid left w v
+  steps_then : (a : ℕ) (Out Into : EndRelation) (pipes mid left : BulkPipes) (u w v : World)
+      → ClearSteps a Out EndStays pipes mid u w → ClearSteps a EndStays Into mid left w v
       → ClearSteps a Out Into pipes left u v
   steps_then a Out Into pipes mid left =
-      each_joined (ClearStep ends a Out Stays pipes mid) (ClearStep ends a Stays Into mid left)
+      each_joined (ClearStep ends a Out EndStays pipes mid) (ClearStep ends a EndStays Into mid left)
       (ClearStep ends a Out Into pipes left)
       (λ j s t v x y. record {
         others = λ h. y.others (ap (λ n. n == a) x.same ∙ h) ∙ x.others h;
@@ -151,13 +151,13 @@ module _ (ends : Type 0) where
   module _ (done : Bool) (device : Accepted) (other : Option Bulk) (old : World)
       (answer : Result (Unit {0}) PipeFault) (new : World) (so : FitsAnswer ends done answer)
       (single : new.shared ≡ false) where
-    abbrev OutSteps : ℕ → Ends → Option Bulk → Option Bulk → Type 0
+    abbrev OutSteps : ℕ → EndRelation → Option Bulk → Option Bulk → Type 0
     OutSteps a Out pipe left =
-        ClearSteps a Out Stays (both_sides false pipe other) (both_sides false left other) old new
+        ClearSteps a Out EndStays (both_sides false pipe other) (both_sides false left other) old new
 
-    abbrev InSteps : ℕ → Ends → Option Bulk → Option Bulk → Type 0
+    abbrev InSteps : ℕ → EndRelation → Option Bulk → Option Bulk → Type 0
     InSteps a Into pipe left =
-        ClearSteps a Stays Into (both_sides true pipe other) (both_sides true left other) old new
+        ClearSteps a EndStays Into (both_sides true pipe other) (both_sides true left other) old new
 
     -- Through one pipe of a device that was found
 
@@ -219,7 +219,7 @@ module _ (ends : Type 0) where
         → ClearedBy out old answer left new
         → OutSteps device.address (HaltClearedBy done out left) out left
     out_by endpoint None left is x =
-        rw (x.1, x.2) (step_none device.address (HaltClearedBy done None None) Stays
+        rw (x.1, x.2) (clear_step_none device.address (HaltClearedBy done None None) EndStays
         (both_sides false None other) (λ end. refl) (λ end. refl) old)
     out_by endpoint (Some pipe) None is x = absurd x
     out_by None (Some pipe) (Some left) is x = absurd is
@@ -229,7 +229,7 @@ module _ (ends : Type 0) where
         → ClearedBy into old answer left new
         → InSteps device.address (HaltClearedBy done into left) into left
     in_by endpoint None left is x =
-        rw (x.1, x.2) (step_none device.address Stays (HaltClearedBy done None None)
+        rw (x.1, x.2) (clear_step_none device.address EndStays (HaltClearedBy done None None)
         (both_sides true None other) (λ end. refl) (λ end. refl) old)
     in_by endpoint (Some pipe) None is x = absurd x
     in_by None (Some pipe) (Some left) is x = absurd is
@@ -275,7 +275,7 @@ module _ (ends : Type 0) where
         (record pipes { out = left.out }) old new new
         (out_by done device pipes.into old (Err fault) new (pipe_answers (Err fault) y.0) single
         (out_endpoint device) pipes.out left.out out (rw y.2 x))
-        (step_none device.address Stays (HaltClearedBy done pipes.into pipes.into)
+        (clear_step_none device.address EndStays (HaltClearedBy done pipes.into pipes.into)
         (record pipes { out = left.out }) (λ end. refl) (none_ends done pipes.into not) new))
 
     pub in_turn_moves : (first : Result (Unit {0}) PipeFault)
@@ -283,7 +283,7 @@ module _ (ends : Type 0) where
         → ClearedAfter first pipes.into mid result left.into new
         → EachMoves device.address ends (Function pipes) (Function left) old new
     in_turn_moves first x y single =
-        each_wider _ (Moves device.address ends (Function pipes) (Function left))
+        each_wider _ (PipesMove device.address ends (Function pipes) (Function left))
         (λ j s v c. record {
           others = c.others;
           same = c.same;
@@ -298,7 +298,7 @@ module _ (path : List ℕ) (old : Table) (before after : World) where
       TransfersAt path done (HaltsCleared done pipes left) old before after
 
   not_cleared : (result : Result (Unit {0}) EndpointFault) (pipes : Pipes) (fault : EndpointFault)
-      → result ≡ Err fault → after ≡ before → Reached path before (AreLevel pipes)
+      → result ≡ Err fault → after ≡ before → PathReaches path before (PipesInSync pipes)
       → Cleared (is_ok result) pipes pipes
   not_cleared result pipes fault e same level =
       subst (λ (b : Bool). Cleared b pipes pipes) (sym (ap is_ok e))
@@ -316,12 +316,12 @@ module _ (path : List ℕ) (old : Table) (before after : World) where
 
   pub cleared_restarts : (new : Table) (result : Result (Unit {0}) EndpointFault)
       → ((why : BusFault) → result ≢ Err (Pipe (pipe_fault.Bus why))) → IsHeld old before
-      → LevelAt path old before → after.shared ≡ false → ArePipesAt path old
+      → InSyncAt path old before → after.shared ≡ false → ArePipesAt path old
       → PipesCleared (pipes_at path old) before result (pipes_at path new) after
       → Restarted path (is_ok result) old before new after
   cleared_restarts new result other held level single are x =
       through_both before result after (accepted_device_at path old.entries) (is_below_hub path)
-      (λ p l. Reached path before (AreLevel p) → Cleared (is_ok result) p l)
+      (λ p l. PathReaches path before (PipesInSync p) → Cleared (is_ok result) p l)
       (λ pipes fault told. not_cleared result pipes fault)
       (λ device pipes left found out into y l. record {
         each = changes_there path old before held device found device.address refl _

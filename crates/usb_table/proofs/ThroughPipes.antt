@@ -15,7 +15,7 @@ use Rattle.usb_table.specs.declared.pipes.Pipes.TheVariants.{Hub, Function, Abse
 use Rattle.usb_table.specs.Deliveries.{pipe_in, pipe_out}
 use Rattle.usb_table.specs.Findings.{out_endpoint, in_endpoint}
 use Rattle.usb_table.specs.Pipes.{IsBulkPipe, IsPipe, ArePipesIf, ArePipesOf, ArePipesTo}
-use Rattle.usb_table.specs.Transfers.{ClearedIf, ClearedInOrder, EndpointTold, NotTried, PipeDid, PipesCleared, PipesThrough, ThroughIf, both_sides, one_side}
+use Rattle.usb_table.specs.Transfers.{ClearedIf, ClearedInOrder, EndpointFaultAllowed, NotTried, PipeDid, PipesCleared, PipesThrough, ThroughIf, both_sides, one_side}
 
 -- The pipe of one way
 
@@ -90,13 +90,13 @@ if_found P R (Some device) below_hub absent there pipes left are x =
 module _ {A : Type 0} (is_in : Bool) (So : PipeDid A) (old : World)
     (result : Result A EndpointFault) (new : World) (found : Option Accepted) (below_hub : Bool) (R : Pipes → Pipes → Type 0)
     (idle : (pipes : Pipes) (fault : EndpointFault) → pipe_by is_in pipes ≡ None
-    → ((w : World) → EndpointTold fault w) → result ≡ Err fault → new ≡ old → R pipes pipes)
+    → ((w : World) → EndpointFaultAllowed fault w) → result ≡ Err fault → new ≡ old → R pipes pipes)
     (went : (device : Accepted) (endpoint : ℕ × ℕ) (pipe left : Bulk) (other : Option Bulk)
     → found ≡ Some device → IsBulkPipe device is_in endpoint pipe → So pipe old result left new
     → R (Function (both_sides is_in (Some pipe) other))
     (Function (both_sides is_in (Some left) other))) where
   way_idle : (pipes left : Pipes) (fault : EndpointFault) → pipe_by is_in pipes ≡ None
-      → ((w : World) → EndpointTold fault w) → NotTried fault pipes old result left new
+      → ((w : World) → EndpointFaultAllowed fault w) → NotTried fault pipes old result left new
       → R pipes left
   way_idle pipes left fault none told x =
       subst (R pipes) (sym x.1) (idle pipes fault none told x.0 x.2)
@@ -137,13 +137,13 @@ module _ {A : Type 0} (is_in : Bool) (So : PipeDid A) (old : World)
 
 module _ (old : World) (result : Result (Unit {0}) EndpointFault) (new : World)
     (found : Option Accepted) (below_hub : Bool) (R : Pipes → Pipes → Type 0)
-    (idle : (pipes : Pipes) (fault : EndpointFault) → ((w : World) → EndpointTold fault w)
+    (idle : (pipes : Pipes) (fault : EndpointFault) → ((w : World) → EndpointFaultAllowed fault w)
     → result ≡ Err fault → new ≡ old → R pipes pipes)
     (went : (device : Accepted) (pipes left : BulkPipes) → found ≡ Some device
     → IsPipe device false (out_endpoint device) pipes.out
     → IsPipe device true (in_endpoint device) pipes.into
     → ClearedInOrder pipes old result left new → R (Function pipes) (Function left)) where
-  both_idle : (pipes left : Pipes) (fault : EndpointFault) → ((w : World) → EndpointTold fault w)
+  both_idle : (pipes left : Pipes) (fault : EndpointFault) → ((w : World) → EndpointFaultAllowed fault w)
       → NotTried fault pipes old result left new → R pipes left
   both_idle pipes left fault told x = subst (R pipes) (sym x.1) (idle pipes fault told x.0 x.2)
 

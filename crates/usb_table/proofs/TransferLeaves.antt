@@ -5,7 +5,7 @@ use Rattle.std.specs.Global.{Vec}
 use Rattle.std.specs.Int.{div_ceil}
 use Rattle.std.specs.Prelude.{IfErr}
 use Rattle.usb_world.specs.declared.types.BusFault.{BusFault}
-use Rattle.usb_world.specs.World.{World, Failed, Spends}
+use Rattle.usb_world.specs.World.{World, Failed, AttemptsWithin}
 use Rattle.usb_world.proofs.Interface.{course_joined, each_joined, spends_none, spends_wider}
 use Rattle.usb_bus.specs.Traces.{Traced}
 use Rattle.usb_transaction.specs.Transactions.{transaction_bound}
@@ -25,7 +25,7 @@ use Rattle.usb_table.specs.KnownPorts.{is_below_hub}
 use Rattle.usb_table.specs.Levels.{TableClears, TableReceives, TableSends, Transferred}
 use Rattle.usb_table.specs.Pipes.{IsBulkPipe, ArePipesIf}
 use Rattle.usb_table.specs.Table.{Table, GoesThrough, pipes_at}
-use Rattle.usb_table.specs.Transfers.{ClearedAfter, ClearedBy, EndpointTold, OnlyTransfers, PipeTold, PipeDid, PipesCleared, PipesReceived, PipesSent, PipesThrough, ReceivedThrough, SameSettings, SentThrough, both_sides, endpoint_answer}
+use Rattle.usb_table.specs.Transfers.{ClearedAfter, ClearedBy, EndpointFaultAllowed, OnlyTransfers, PipeFaultAllowed, PipeDid, PipesCleared, PipesReceived, PipesSent, PipesThrough, ReceivedThrough, SameSettings, SentThrough, both_sides, endpoint_answer}
 use Rattle.usb_table.proofs.DevicesKept.{PipeKeeps, clear_keeps, receive_keeps, same_spares, send_keeps}
 use Rattle.usb_table.proofs.KeptPipes.{ready_or_not}
 use Rattle.usb_table.proofs.Levels.{moved_levels, still_levels}
@@ -35,25 +35,25 @@ use Rattle.usb_table.proofs.ThroughPipes.{through_both, through_pipes}
 
 -- so few attempts were made, the fault is told, and what moved, of all devices and of the pipes to
 -- the one that was found
-record Leaves {A : Type 0} (n : ℕ) (found : Option Accepted) (pipes : Pipes) (old : World)
+record LeavesTransfer {A : Type 0} (n : ℕ) (found : Option Accepted) (pipes : Pipes) (old : World)
     (result : Result A EndpointFault) (left : Pipes) (new : World) : Type 0 where
-  spends : Spends n old new
-  told : IfErr result (λ fault. EndpointTold fault new)
+  spends : AttemptsWithin n old new
+  told : IfErr result (λ fault. EndpointFaultAllowed fault new)
   worlds : OnlyTransfers old new
   moves : ((left ≡ pipes) × (new ≡ old))
       ⊎ ((device : Accepted) × (found ≡ Some device)
       × EachMoves device.address (new.fault ≡ None) pipes left old new)
 
-same_spends : (n : ℕ) (old new : World) → new ≡ old → Spends n old new
+same_spends : (n : ℕ) (old new : World) → new ≡ old → AttemptsWithin n old new
 same_spends n old new e =
-    subst (Spends n old) (sym e) (spends_wider 0 n old old (spends_none old) (omega arith))
+    subst (AttemptsWithin n old) (sym e) (spends_wider 0 n old old (spends_none old) (omega arith))
 
 -- nothing was tried
-idle_leaves : {A : Type 0} (n : ℕ) (found : Option Accepted) (pipes : Pipes) (old : World)
+idle_transfer_leaves : {A : Type 0} (n : ℕ) (found : Option Accepted) (pipes : Pipes) (old : World)
     (result : Result A EndpointFault) (new : World) (fault : EndpointFault)
-    → ((w : World) → EndpointTold fault w) → result ≡ Err fault → new ≡ old
-    → Leaves n found pipes old result pipes new
-idle_leaves n found pipes old result new fault told e same = record {
+    → ((w : World) → EndpointFaultAllowed fault w) → result ≡ Err fault → new ≡ old
+    → LeavesTransfer n found pipes old result pipes new
+idle_transfer_leaves n found pipes old result new fault told e same = record {
   spends = same_spends n old new same;
   told = rw e (told new);
   worlds = same_spares old new same;
@@ -63,7 +63,7 @@ idle_leaves n found pipes old result new fault told e same = record {
 -- The fault that is told
 
 pipe_told : (why : PipeFault) (w : World)
-    → ((fault : BusFault) → why ≡ pipe_fault.Bus fault → Failed fault w) → PipeTold why w
+    → ((fault : BusFault) → why ≡ pipe_fault.Bus fault → Failed fault w) → PipeFaultAllowed why w
 pipe_told pipe_fault.Stalled w told = tt
 pipe_told pipe_fault.Busy w told = tt
 pipe_told pipe_fault.NoAnswer w told = tt
@@ -73,7 +73,7 @@ pipe_told pipe_fault.Memory w told = tt
 
 told_through : {A : Type 0} (old : World) (answer : Result A PipeFault)
     (result : Result A EndpointFault) (w : World) → result ≡ endpoint_answer answer
-    → PipeKeeps old answer w → IfErr result (λ fault. EndpointTold fault w)
+    → PipeKeeps old answer w → IfErr result (λ fault. EndpointFaultAllowed fault w)
 told_through old (Ok x) result w e kept = rw e tt
 told_through old (Err why) result w e kept =
     rw e (pipe_told why w (λ fault f. kept.told fault (ap Err f)))
@@ -86,16 +86,16 @@ module _ {A : Type 0} (is_in : Bool) (n : ℕ) (So : PipeDid A) (old : World)
   WayLeaves =
       (device : Accepted) (endpoint : ℕ × ℕ) (pipe left : Bulk) (other : Option Bulk)
       → found ≡ Some device → IsBulkPipe device is_in endpoint pipe → So pipe old result left new
-      → Leaves n found (Function (both_sides is_in (Some pipe) other)) old result
+      → LeavesTransfer n found (Function (both_sides is_in (Some pipe) other)) old result
       (Function (both_sides is_in (Some left) other)) new
 
   way_leaves : WayLeaves → (below_hub : Bool) (pipes left : Pipes)
       → ArePipesIf found below_hub pipes → PipesThrough is_in So pipes old result left new
-      → Leaves n found pipes old result left new
+      → LeavesTransfer n found pipes old result left new
   way_leaves each below_hub =
       through_pipes is_in So old result new found below_hub
-      (λ p l. Leaves n found p old result l new)
-      (λ pipes fault none told. idle_leaves n found pipes old result new fault told) each
+      (λ p l. LeavesTransfer n found p old result l new)
+      (λ pipes fault none told. idle_transfer_leaves n found pipes old result new fault told) each
 
 -- Bytes that are sent: at most one packet for each byte
 
@@ -173,7 +173,7 @@ done_or_same (Some pipe) (Some left) old done new x = elim (ready_or_not pipe.co
 
 -- what is so of the worlds, and of the fault
 abbrev LeftAndTold : World → Result (Unit {0}) EndpointFault → World → Type 0
-LeftAndTold old result new = OnlyTransfers old new × IfErr result (λ fault. EndpointTold fault new)
+LeftAndTold old result new = OnlyTransfers old new × IfErr result (λ fault. EndpointFaultAllowed fault new)
 
 cleared_in_order : (first : Result (Unit {0}) PipeFault) (out out_left into into_left : Option Bulk)
     (old mid : World) (result : Result (Unit {0}) EndpointFault) (new : World)
@@ -195,7 +195,7 @@ cleared_in_order (Err fault) out out_left into into_left old mid result new x y 
 
 -- while the bus is at work, none of its faults is told
 no_bus_told : (result : Result (Unit {0}) EndpointFault) (w : World)
-    → IfErr result (λ fault. EndpointTold fault w) → w.fault ≡ None
+    → IfErr result (λ fault. EndpointFaultAllowed fault w) → w.fault ≡ None
     → (why : BusFault) → result ≢ Err (Pipe (pipe_fault.Bus why))
 no_bus_told result w told sound why e =
     let failed : Failed why w = rw e at told in
@@ -203,13 +203,13 @@ no_bus_told result w told sound why e =
     absurd (cc (is, sound))
 
 clears_leave : (old : World) (result : Result (Unit {0}) EndpointFault) (new : World)
-    (found : Option Accepted) → Spends (2 * write_bound) old new → (below_hub : Bool)
+    (found : Option Accepted) → AttemptsWithin (2 * write_bound) old new → (below_hub : Bool)
     (pipes left : Pipes) → ArePipesIf found below_hub pipes → PipesCleared pipes old result left new
-    → Leaves (2 * write_bound) found pipes old result left new
+    → LeavesTransfer (2 * write_bound) found pipes old result left new
 clears_leave old result new found few below_hub =
     through_both old result new found below_hub
-    (λ p l. Leaves (2 * write_bound) found p old result l new)
-    (λ pipes fault told. idle_leaves (2 * write_bound) found pipes old result new fault told)
+    (λ p l. LeavesTransfer (2 * write_bound) found p old result l new)
+    (λ pipes fault told. idle_transfer_leaves (2 * write_bound) found pipes old result new fault told)
     (λ device pipes left e out into x.
     let so =
     cleared_in_order x.first pipes.out left.out pipes.into left.into old x.mid result new x.out
@@ -226,7 +226,7 @@ module _ (path : List ℕ) (old new : Table) (before after : World) (text now : 
   transferred : {A : Type 0} {So : Pipes → World → Result A EndpointFault → Pipes → World → Type 0}
       (n : ℕ) (result : Result A EndpointFault)
       → So (pipes_at path old) before result (pipes_at path new) after
-      → Leaves n (accepted_device_at path old.entries) (pipes_at path old) before result
+      → LeavesTransfer n (accepted_device_at path old.entries) (pipes_at path old) before result
       (pipes_at path new) after
       → Transferred n So path old before text result new after now
   transferred n result did x = record {
@@ -258,7 +258,7 @@ module _ (path : List ℕ) (old new : Table) (before after : World) (text now : 
       (receives_leave packets before result after _) (is_below_hub path) _ _ goes.fits x)
 
   pub table_clears : (result : Result (Unit {0}) EndpointFault)
-      → Spends (2 * write_bound) before after
+      → AttemptsWithin (2 * write_bound) before after
       → PipesCleared (pipes_at path old) before result (pipes_at path new) after
       → TableClears path old before text result new after now
   table_clears result few x =

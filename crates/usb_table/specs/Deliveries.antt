@@ -5,16 +5,16 @@ use Rattle.usb_device.specs.declared.bulk.EndpointState.{EndpointState}
 use Rattle.usb_device.specs.Bulk.{rested}
 use Rattle.usb_device.specs.Progress.{OnlySink, OnlySource}
 use Rattle.usb_device.specs.Rows.{State}
-use Rattle.usb_device.specs.Tree.{reach, Spot, path_to}
+use Rattle.usb_device.specs.Tree.{reach, Location, path_to}
 use Rattle.usb_world.specs.Devices.{EachWas}
 use Rattle.usb_world.specs.World.{World}
 use Rattle.usb_pipe.specs.declared.condition.Condition.TheVariants.{Ready}
 use Rattle.usb_pipe.specs.Bulk.{Bulk, cleared}
-use Rattle.usb_pipe.specs.Leaves.{FitsSource, FrontTaken}
+use Rattle.usb_pipe.specs.Leaves.{InPipeInSync, FrontTaken}
 use Rattle.usb_table.specs.declared.pipes.Pipes.{Pipes}
 use Rattle.usb_table.specs.declared.pipes.Pipes.TheVariants.{Hub, Function, Absent}
 use Rattle.usb_table.specs.Findings.{accepted_device_at}
-use Rattle.usb_table.specs.Levels.{FitsIn, AreLevel}
+use Rattle.usb_table.specs.Levels.{FitsIn, PipesInSync}
 use Rattle.usb_table.specs.Table.{Table, pipes_at}
 
 -- the bulk pipes to what stands at a path
@@ -44,8 +44,8 @@ pub record TookBytes (done : Bool) (bytes : List ℕ) (s v : State) : Type 0 whe
 -- nothing else of the device changed
 pub record GaveBytes (bytes : List ℕ) (pipe left : Bulk) (s v : State) : Type 0 where
   pub had : FitsIn (Some pipe) s
-  pub next : (got : ℕ) → FitsSource pipe got s → bytes ≡ take (length bytes) (drop got s.spec.source)
-  pub has : (got : ℕ) → FitsSource pipe got s → FitsSource left (got + length bytes) v
+  pub next : (got : ℕ) → InPipeInSync pipe got s → bytes ≡ take (length bytes) (drop got s.spec.source)
+  pub has : (got : ℕ) → InPipeInSync pipe got s → InPipeInSync left (got + length bytes) v
   pub rest : OnlySource s v
 
 -- the bytes that came with an answer
@@ -78,12 +78,12 @@ pub record HaltsCleared (done : Bool) (pipes left : Pipes) (s v : State) : Type 
   pub place : v.place ≡ s.place
   pub out : HaltClearedBy done (pipe_out pipes) (pipe_out left) s.bulk_out v.bulk_out
   pub into : HaltClearedBy done (pipe_in pipes) (pipe_in left) s.bulk_in v.bulk_in
-  pub level : AreLevel left v
+  pub level : PipesInSync left v
 
 -- All devices
 
 -- so it is of the one at the path, and any other is as it was
-pub record ChangesAt (path : List ℕ) (So : State → State → Type 0) (x : Spot) (s v : State) : Type 0 where
+pub record ChangesAt (path : List ℕ) (So : State → State → Type 0) (x : Location) (s v : State) : Type 0 where
   pub itself : path ≡ path_to x → So s v
   pub others : path ≢ path_to x → v ≡ s
 

@@ -19,17 +19,17 @@ use Rattle.usb_table.specs.Pipes.{ArePipesOf}
 use Rattle.usb_table.specs.Table.{Table}
 
 -- what stands under each key
-abbrev pub Standings : Type 0
-Standings = ℕ → Option Entry
+abbrev pub TableSlots : Type 0
+TableSlots = ℕ → Option Entry
 
 -- what is found under each key
 abbrev pub Slots : Type 0
 Slots = ℕ → Option Finding
 
-abbrev pub findings : Standings → Slots
+abbrev pub findings : TableSlots → Slots
 findings standings key = option_map (λ s. s.finding) (standings key)
 
-abbrev pub pipings : Standings → ℕ → Option Pipes
+abbrev pub pipings : TableSlots → ℕ → Option Pipes
 pipings standings key = option_map (λ s. s.pipes) (standings key)
 
 -- the keys by rising path, and by rising address
@@ -59,7 +59,7 @@ finding_under found key = under (Refused Silent) found key
 abbrev pub entries_of : Slots → PathKeys → Entries
 entries_of found paths = values_by_path (Refused Silent) found paths
 
-abbrev pub table_of : Standings → PathKeys → Table
+abbrev pub table_of : TableSlots → PathKeys → Table
 table_of standings paths = record { entries = entries_of (findings standings) paths; pipes = values_by_path Absent (pipings standings) paths }
 
 abbrev pub address_in : Option Finding → Option ℕ
@@ -79,7 +79,7 @@ IsPiped path entry =
     IsSoundFinding entry.finding × ArePipesOf entry.finding (is_below_hub path) entry.pipes
 
 -- under each path's key stands one
-abbrev pub ArePiped : Standings → PathKeys → Type 0
+abbrev pub ArePiped : TableSlots → PathKeys → Type 0
 ArePiped standings paths =
     (path : List ℕ) (key : ℕ) (s : Entry) → key_of_path paths path ≡ Some key
     → standings key ≡ Some s → IsPiped path s

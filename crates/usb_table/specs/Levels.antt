@@ -8,21 +8,21 @@ use Rattle.usb_port.specs.PortState.{PortState}
 use Rattle.usb_device.specs.Bulk.{tells_changes, change_bits}
 use Rattle.usb_device.specs.Progress.{PollAt, NeverTold}
 use Rattle.usb_device.specs.Rows.{State}
-use Rattle.usb_device.specs.Tree.{Ports, full, row_of, place, reach, Spot, path_to, reach_on, state_on}
+use Rattle.usb_device.specs.Tree.{Ports, full, row_of, place, reach, Location, path_to, reach_on, state_on}
 use Rattle.usb_device.specs.View.{state_there}
 use Rattle.usb_world.specs.Devices.{EachWas}
-use Rattle.usb_world.specs.Steps.{ready}
+use Rattle.usb_world.specs.Steps.{at_attempt}
 use Rattle.usb_world.specs.World.{World}
-use Rattle.usb_bus.specs.Traces.{WentOn}
+use Rattle.usb_bus.specs.Traces.{StepRun}
 use Rattle.usb_transaction.specs.Failures.{NoThreeDamaged, Listens}
 use Rattle.usb_transaction.specs.Transactions.{transaction_bound}
 use Rattle.usb_pipe.specs.Bulk.{Bulk}
 use Rattle.usb_pipe.specs.Control.{write_bound}
 use Rattle.usb_pipe.specs.Interrupt.{Interrupt}
-use Rattle.usb_pipe.specs.Leaves.{FitsSink, FitsSource, PollTells}
+use Rattle.usb_pipe.specs.Leaves.{OutPipeInSync, InPipeInSync, PollTells}
 use Rattle.usb_pipe.specs.declared.fault.PipeFault.{PipeFault}
-use Rattle.usb_address.specs.Ownership.{Owned}
-use Rattle.usb_hub.specs.Requests.{AllRest}
+use Rattle.usb_address.specs.Ownership.{MapHolds}
+use Rattle.usb_hub.specs.Requests.{TouchesNoPort}
 use Rattle.usb_hub.specs.CallFailures.{NoHubFailed}
 use Rattle.usb_enum.specs.declared.finding.Accepted.{Accepted}
 use Rattle.usb_enum.specs.Device.{target_of}
@@ -33,12 +33,12 @@ use Rattle.usb_table.specs.KnownPorts.{is_below_hub}
 use Rattle.usb_table.specs.Listing.{entry_address}
 use Rattle.usb_table.specs.Table.{Table, pipes_at}
 use Rattle.usb_table.specs.declared.fault.EndpointFault.{EndpointFault}
-use Rattle.usb_table.specs.Transfers.{EndpointTold, OnlyTransfers, PipesCleared, PipesPolled, PipesReceived, PipesSent, PollTook}
+use Rattle.usb_table.specs.Transfers.{EndpointFaultAllowed, OnlyTransfers, PipesCleared, PipesPolled, PipesReceived, PipesSent, PollTook}
 
 -- The pipes to one device
 
 -- a hub's status pipe, of which no poll failed: the endpoint tells of changes, awaits the pipe's toggle, and is not halted
-pub record FitsStatus (pipe : Interrupt) (s : State) : Type 0 where
+pub record StatusPipeInSync (pipe : Interrupt) (s : State) : Type 0 where
   pub tells : tells_changes s.spec s.registers ≡ true
   pub level : PollAt NeverTold pipe.toggle s
   pub runs : s.changes.halted ≡ false
@@ -46,55 +46,55 @@ pub record FitsStatus (pipe : Interrupt) (s : State) : Type 0 where
 -- a bulk OUT pipe, if there is one
 abbrev pub FitsOut : Option Bulk → State → Type 0
 FitsOut None s = ⊤
-FitsOut (Some pipe) s = FitsSink pipe s
+FitsOut (Some pipe) s = OutPipeInSync pipe s
 
 -- a bulk IN pipe, if there is one, that has got some number of bytes
 abbrev pub FitsIn : Option Bulk → State → Type 0
 FitsIn None s = ⊤
-FitsIn (Some pipe) s = (got : ℕ) × FitsSource pipe got s
+FitsIn (Some pipe) s = (got : ℕ) × InPipeInSync pipe got s
 
-abbrev pub AreLevel : Pipes → State → Type 0
-AreLevel (Hub pipe) s = FitsStatus pipe s
-AreLevel (Function pipes) s = FitsOut pipes.out s × FitsIn pipes.into s
-AreLevel Absent s = ⊤
+abbrev pub PipesInSync : Pipes → State → Type 0
+PipesInSync (Hub pipe) s = StatusPipeInSync pipe s
+PipesInSync (Function pipes) s = FitsOut pipes.out s × FitsIn pipes.into s
+PipesInSync Absent s = ⊤
 
 -- The pipes of a table
 
 -- those to the accepted device at a path, where that is reachable
-pub record LevelAt (path : List ℕ) (table : Table) (w : World) : Type 0 where
-  pub level : (device : Accepted) (s : State) → accepted_device_at path table.entries ≡ Some device → reach w.roots path ≡ true → state_there w.roots path ≡ Some s → AreLevel (pipes_at path table) s
+pub record InSyncAt (path : List ℕ) (table : Table) (w : World) : Type 0 where
+  pub level : (device : Accepted) (s : State) → accepted_device_at path table.entries ≡ Some device → reach w.roots path ≡ true → state_there w.roots path ≡ Some s → PipesInSync (pipes_at path table) s
 
 -- all pipes
-abbrev pub AllLevel : Table → World → Type 0
-AllLevel table w = (path : List ℕ) → LevelAt path table w
+abbrev pub AllInSync : Table → World → Type 0
+AllInSync table w = (path : List ℕ) → InSyncAt path table w
 
 -- each reachable device holds the address that the table has for its path
 abbrev pub IsHeld : Table → World → Type 0
-IsHeld table w = Owned (λ path. entry_address path table.entries) w
+IsHeld table w = MapHolds (λ path. entry_address path table.entries) w
 
 -- What a call through the pipes at a path leaves: those to other devices stay level in any case, and those at the path where it ends so
-pub record KeepsLevel (path : List ℕ) (ends : Type 0) (old : Table) (before : World) (new : Table) (after : World) : Type 0 where
+pub record KeepsInSync (path : List ℕ) (ends : Type 0) (old : Table) (before : World) (new : Table) (after : World) : Type 0 where
   pub worlds : OnlyTransfers before after
-  pub others : IsHeld old before → (x : List ℕ) → is_at (path_cmp path) x ≡ false → LevelAt x old before → LevelAt x new after
-  pub itself : IsHeld old before → ends → LevelAt path old before → LevelAt path new after
+  pub others : IsHeld old before → (x : List ℕ) → is_at (path_cmp path) x ≡ false → InSyncAt x old before → InSyncAt x new after
+  pub itself : IsHeld old before → ends → InSyncAt path old before → InSyncAt path new after
 
 -- as long as the bus is at work
 abbrev pub KeepsMoved : List ℕ → Table → World → Table → World → Type 0
-KeepsMoved path old before new after = KeepsLevel path (after.fault ≡ None) old before new after
+KeepsMoved path old before new after = KeepsInSync path (after.fault ≡ None) old before new after
 
 -- A poll of the hub at a path
 
 -- the ports of the device at the path told these bits when an attempt was made, before and since which nothing was asked of any port
 pub record BitsOf (path : List ℕ) (old new : World) (bits : ℕ) : Type 0 where
   pub mid : World
-  pub rests : AllRest old mid
+  pub rests : TouchesNoPort old mid
   pub port : PortState
   pub state : State
   pub ports : Ports
-  pub stood : place (ready mid).roots path ≡ Some (full port state ports)
+  pub stood : place (at_attempt mid).roots path ≡ Some (full port state ports)
   pub told : bits ≡ change_bits (row_of ports)
-  pub since : AllRest mid new
-  pub came : (ready mid).taken ≤ new.taken  -- the events that were due then have come
+  pub since : TouchesNoPort mid new
+  pub came : (at_attempt mid).taken ≤ new.taken  -- the events that were due then have come
 
 -- the hub is reached in the end, and its ports told what came
 pub record HubTold (path : List ℕ) (old : World) (result : Result (Option (ArrayVec ℕ)) PipeFault) (new : World) : Type 0 where
@@ -102,8 +102,8 @@ pub record HubTold (path : List ℕ) (old : World) (result : Result (Option (Arr
   pub tells : PollTells (BitsOf path old new) result
 
 -- a device at the path is reached, and hears what is sent to it
-pub record Heard (path : List ℕ) (device : Accepted) (w : World) : Type 0 where
-  pub spot : Spot
+pub record IsListening (path : List ℕ) (device : Accepted) (w : World) : Type 0 where
+  pub spot : Location
   pub state : State
   pub is : path ≡ path_to spot
   pub on : reach_on w.roots spot ≡ true
@@ -112,16 +112,16 @@ pub record Heard (path : List ℕ) (device : Accepted) (w : World) : Type 0 wher
 
 -- nothing of a device changed but where its control transfer and its status endpoint stand: its description, its registers, and its bulk endpoints with
 -- what they took and gave are as they were
-abbrev pub SparesBulk : Spot → State → State → Type 0
+abbrev pub SparesBulk : Location → State → State → Type 0
 SparesBulk x s v = v ≡ record s { memory = v.memory; naks = v.naks; stage = v.stage; changes = v.changes; held = v.held }
 
 -- A poll that is done leaves the hub's pipe level, and tells of its ports. Where no three attempts running are damaged, a hub that is reached in the
 -- end is polled. Bulk endpoints are as they were.
 pub record KeepsPolled (path : List ℕ) (old : Table) (before : World) (result : Result (Option (ArrayVec ℕ)) PipeFault) (new : Table) (after : World) : Type 0 where
-  pub levels : KeepsLevel path (IsOk result) old before new after
-  pub told : IsHeld old before → LevelAt path old before → (device : Accepted) → accepted_device_at path old.entries ≡ Some device → is_some device.hub ≡ true → IsOk result → HubTold path before result after
-  pub why : IsHeld old before → LevelAt path old before → NoThreeDamaged before → (device : Accepted) → accepted_device_at path old.entries ≡ Some device → is_some device.hub ≡ true → Heard path device after → NoHubFailed result
-  pub spares : IsHeld old before → LevelAt path old before → EachWas SparesBulk before after
+  pub levels : KeepsInSync path (IsOk result) old before new after
+  pub told : IsHeld old before → InSyncAt path old before → (device : Accepted) → accepted_device_at path old.entries ≡ Some device → is_some device.hub ≡ true → IsOk result → HubTold path before result after
+  pub why : IsHeld old before → InSyncAt path old before → NoThreeDamaged before → (device : Accepted) → accepted_device_at path old.entries ≡ Some device → is_some device.hub ≡ true → IsListening path device after → NoHubFailed result
+  pub spares : IsHeld old before → InSyncAt path old before → EachWas SparesBulk before after
 
 -- What one call of the table is, over a bus that does what its world does
 
@@ -131,8 +131,8 @@ pub record Transferred {A : Type 0} (n : ℕ)
     (So : Pipes → World → Result A EndpointFault → Pipes → World → Type 0) (path : List ℕ)
     (old : Table) (before : World) (text : Option (List ℕ)) (result : Result A EndpointFault)
     (new : Table) (after : World) (now : Option (List ℕ)) : Type 0 where
-  pub went : WentOn n before text after now
-  pub told : IfErr result (λ fault. EndpointTold fault after)
+  pub went : StepRun n before text after now
+  pub told : IfErr result (λ fault. EndpointFaultAllowed fault after)
   pub did : So (pipes_at path old) before result (pipes_at path new) after
   pub keeps : KeepsMoved path old before new after
 
@@ -157,7 +157,7 @@ TableClears = Transferred (2 * write_bound) PipesCleared
 pub record TablePolls (path : List ℕ) (old : Table) (before : World) (text : Option (List ℕ))
     (result : Result (Option (ArrayVec ℕ)) PipeFault) (new : Table) (after : World)
     (now : Option (List ℕ)) : Type 0 where
-  pub went : WentOn transaction_bound before text after now
+  pub went : StepRun transaction_bound before text after now
   pub took : PollTook before result after
   pub polled : PipesPolled (pipes_at path old) before result (pipes_at path new) after
   pub keeps : KeepsPolled path old before result new after

@@ -26,15 +26,15 @@ use Rattle.usb_table.specs.Keys.{address_in}
 
 -- What is plugged: the description of the device at each path
 
-abbrev pub Tree : Type 0
-Tree = List ℕ → Option Spec
+abbrev pub SpecTree : Type 0
+SpecTree = List ℕ → Option Spec
 
 -- what a plan's first events leave plugged
-abbrev pub tree_after : PlanData → ℕ → Tree
+abbrev pub tree_after : PlanData → ℕ → SpecTree
 tree_after plan taken path = device_indexed plan.devices (index_at (plugged_by [] (take taken plan.events)) path)
 
 -- what is plugged in a world
-abbrev pub tree_in : World → Tree
+abbrev pub tree_in : World → SpecTree
 tree_in w path = option_map spec_of (state_there w.roots path)
 
 -- What is listed
@@ -71,12 +71,12 @@ abbrev pub tier_of : List ℕ → ℕ
 tier_of path = length path + 1
 
 -- what a port of the root gives, or one of the hub at a path
-abbrev pub supply_below : Tree → Option (List ℕ) → ℕ
+abbrev pub supply_below : SpecTree → Option (List ℕ) → ℕ
 supply_below tree None = supply_of true false
 supply_below tree (Some hub) = supply_of false (unwrap_or (option_map (λ (spec : Spec). spec.self_powered) (tree hub)) false)
 
 -- what the port at a path gives, in mA (7.2.1)
-abbrev pub supply_at : Tree → List ℕ → ℕ
+abbrev pub supply_at : SpecTree → List ℕ → ℕ
 supply_at tree path = supply_below tree (parent_of path)
 
 -- What is right in a listing
@@ -87,7 +87,7 @@ ListsEach entries = (address : ℕ) → IsAddress address → (path : List ℕ) 
 
 -- The listing is what is plugged. At each port of the root and of each listed hub the device that is plugged there is listed with its own
 -- descriptors and the first configuration within its port's power, or refused with its cause. Nothing else is listed. No two devices have one address.
-pub record Lists (roots : ℕ) (tree : Tree) (entries : Entries) : Type 0 where
+pub record Lists (roots : ℕ) (tree : SpecTree) (entries : Entries) : Type 0 where
   pub rises : Rises entries
   pub there : (path : List ℕ) (spec : Spec) → IsListedPort roots entries path → tree path ≡ Some spec
       → IsSomeAnd (finding_at path entries) (IsRight (ListsEach entries) spec (tier_of path) (supply_at tree path))

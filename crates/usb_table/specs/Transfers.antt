@@ -1,5 +1,5 @@
 -- What transfers to the devices of the table leave.
-use Rattle.usb_device.specs.Tree.{Spot}
+use Rattle.usb_device.specs.Tree.{Location}
 use Rattle.std.specs.Prelude.{◌≡◌, ⊤, ℕ, ◌*◌, List, length, Bool, true, false, not, ◌||◌, Option, Some, None, is_some, Result, Ok, Err, IfSome, MatchResult}
 use Rattle.std.specs.Global.{Vec}
 use Rattle.std.specs.Int.{div_ceil}
@@ -7,8 +7,8 @@ use Rattle.arrayvec.specs.ArrayVec.{ArrayVec}
 use Rattle.usb_device.specs.Rows.{State}
 use Rattle.usb_world.specs.Devices.{EachWas}
 use Rattle.usb_world.specs.AttemptPackets.{IsSettled}
-use Rattle.usb_world.specs.World.{World, Spends, Failed}
-use Rattle.usb_transaction.specs.Transactions.{Worked, transaction_bound}
+use Rattle.usb_world.specs.World.{World, AttemptsWithin, Failed}
+use Rattle.usb_transaction.specs.Transactions.{AttemptsMade, transaction_bound}
 use Rattle.usb_pipe.specs.Control.{FaultAfter, write_bound}
 use Rattle.usb_pipe.specs.Bulk.{Bulk, Sends, Receives, Clears}
 use Rattle.usb_pipe.specs.Interrupt.{Interrupt, Polls}
@@ -16,7 +16,7 @@ use Rattle.usb_pipe.specs.declared.fault.PipeFault.{PipeFault}
 use Rattle.usb_pipe.specs.declared.fault.PipeFault.TheVariants as pipe
 use Rattle.usb_address.specs.Ownership.{KeepsAddresses}
 use Rattle.usb_backlog.specs.Marks.{KeepsAll}
-use Rattle.usb_hub.specs.Requests.{AllRest}
+use Rattle.usb_hub.specs.Requests.{TouchesNoPort}
 use Rattle.usb_table.specs.declared.fault.EndpointFault.{EndpointFault}
 use Rattle.usb_table.specs.declared.fault.EndpointFault.TheVariants.{NoDevice, NoEndpoint, Pipe}
 use Rattle.usb_table.specs.declared.pipes.BulkPipes.{BulkPipes}
@@ -33,39 +33,39 @@ abbrev pub NotTried : {A P : Type 0} → EndpointFault → P → World → Resul
 NotTried fault pipe old result left new = (result ≡ Err fault) × (left ≡ pipe) × (new ≡ old)
 
 -- the bus tells its fault
-abbrev pub PipeTold : PipeFault → World → Type 0
-PipeTold pipe.Stalled w = ⊤
-PipeTold pipe.Busy w = ⊤
-PipeTold pipe.NoAnswer w = ⊤
-PipeTold pipe.Broken w = ⊤
-PipeTold (pipe.Bus fault) w = Failed fault w
-PipeTold pipe.Memory w = ⊤
+abbrev pub PipeFaultAllowed : PipeFault → World → Type 0
+PipeFaultAllowed pipe.Stalled w = ⊤
+PipeFaultAllowed pipe.Busy w = ⊤
+PipeFaultAllowed pipe.NoAnswer w = ⊤
+PipeFaultAllowed pipe.Broken w = ⊤
+PipeFaultAllowed (pipe.Bus fault) w = Failed fault w
+PipeFaultAllowed pipe.Memory w = ⊤
 
-abbrev pub EndpointTold : EndpointFault → World → Type 0
-EndpointTold NoDevice w = ⊤
-EndpointTold NoEndpoint w = ⊤
-EndpointTold (Pipe fault) w = PipeTold fault w
+abbrev pub EndpointFaultAllowed : EndpointFault → World → Type 0
+EndpointFaultAllowed NoDevice w = ⊤
+EndpointFaultAllowed NoEndpoint w = ⊤
+EndpointFaultAllowed (Pipe fault) w = PipeFaultAllowed fault w
 
 -- a packet that came took an attempt, and so did each fault but the bus's own
 abbrev pub PollTook : World → Result (Option (ArrayVec ℕ)) PipeFault → World → Type 0
-PollTook old result new = MatchResult result (λ got. IfSome got (λ packet. Worked 1 old new)) (λ fault. FaultAfter 0 old fault new)
+PollTook old result new = MatchResult result (λ got. IfSome got (λ packet. AttemptsMade 1 old new)) (λ fault. FaultAfter 0 old fault new)
 
 -- Through one pipe
 
 pub record SentThrough (pipe : Bulk) (bytes : List ℕ) (old : World) (result : Result (Unit {0}) EndpointFault) (left : Bulk) (new : World) : Type 0 where
   pub answer : Result (Unit {0}) PipeFault
   pub told : result ≡ endpoint_answer answer
-  pub count : Spends (transaction_bound * div_ceil (length bytes) pipe.max) old new
+  pub count : AttemptsWithin (transaction_bound * div_ceil (length bytes) pipe.max) old new
   pub sends : Sends bytes pipe old answer left new
 
 pub record ReceivedThrough (pipe : Bulk) (packets : ℕ) (old : World) (result : Result (Vec ℕ) EndpointFault) (left : Bulk) (new : World) : Type 0 where
   pub answer : Result (Vec ℕ) PipeFault
   pub told : result ≡ endpoint_answer answer
-  pub count : Spends (transaction_bound * packets) old new
+  pub count : AttemptsWithin (transaction_bound * packets) old new
   pub receives : Receives packets pipe old answer left new
 
 pub record ClearedThrough (pipe : Bulk) (old : World) (answer : Result (Unit {0}) PipeFault) (left : Bulk) (new : World) : Type 0 where
-  pub count : Spends write_bound old new
+  pub count : AttemptsWithin write_bound old new
   pub clears : Clears pipe old answer left new
 
 -- Through the pipe of one way, if there is one
@@ -163,7 +163,7 @@ PipesCleared (Function pipes) old result left new = (rest : BulkPipes) × (left 
 PipesCleared Absent old result left new = NotTried NoDevice Absent old result left new
 
 -- a device has the description and the registers that it had
-abbrev pub SameSettings : Spot → State → State → Type 0
+abbrev pub SameSettings : Location → State → State → Type 0
 SameSettings x s v = (v.spec ≡ s.spec) × (v.registers ≡ s.registers)
 
 -- where no address was held twice, so it is of each device that is reachable, and each was reachable before
@@ -175,5 +175,5 @@ pub record KeepsSettings (old new : World) : Type 0 where
 pub record OnlyTransfers (old new : World) : Type 0 where
   pub addresses : KeepsAddresses old new
   pub devices : KeepsSettings old new
-  pub rests : new.fault ≡ None → AllRest old new
+  pub rests : new.fault ≡ None → TouchesNoPort old new
   pub backlog : new.fault ≡ None → KeepsAll old new

@@ -10,7 +10,7 @@
 //! (`GoesThrough`); they keep addresses, descriptions and registers of all devices, and ask nothing of any port
 //! (`OnlyTransfers`); where each reachable device holds the address that the table has for its path, the pipes to all
 //! other devices stay *level* with their endpoints, and so do those at the path as long as the bus is at work, or after
-//! a poll that is done (`KeepsLevel`); a poll that is done was answered by the hub at the path, and tells its ports'
+//! a poll that is done (`KeepsInSync`); a poll that is done was answered by the hub at the path, and tells its ports'
 //! bits at a moment of it; where no three attempts running are damaged, a hub whose pipe is level and that is reached
 //! in the end is polled (`KeepsPolled`).
 //!
@@ -28,7 +28,7 @@
 //! each port of the root and of each listed hub is as it is listed, or a change of connection is pending there; each
 //! accepted device that is reached is as it is listed; pipes are as far as the endpoints at their other ends; between
 //! two steps ports are sane and devices are as the rules say (`IsOrderly`): no plan is asked for. `Host::new` gives it
-//! of a plan's world in which nothing came yet, `round`, `send`, `receive` and `clear_halt` keep it (`StaysSound`), and
+//! of a plan's world in which nothing came yet, `round`, `send`, `receive` and `clear_halt` keep it (`KeepsInvariant`), and
 //! so do events (`known_stays_at_events`); where no three attempts running are damaged and no address is lost three
 //! times, they also keep that each refused device has its cause. A quiet round in which no event came leaves nothing to
 //! do (`RoundsSound`, *IsAtRest*). With `settled_matches` each listing of a run is what is plugged (usb_serve).

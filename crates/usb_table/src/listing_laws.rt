@@ -7,12 +7,12 @@ ghost use Rattle.usb_world.specs.PlanCourses.{AtPorts};
 ghost use Rattle.usb_world.specs.Steps.{AnyStep, Course, opening};
 ghost use Rattle.usb_world.specs.World.{World};
 ghost use Rattle.usb_table.specs.Entries.{Entries};
-ghost use Rattle.usb_table.specs.Listing.{Tree, tree_after, Lists, ListsLike, Matches, NoneWaits};
+ghost use Rattle.usb_table.specs.Listing.{SpecTree, tree_after, Lists, ListsLike, Matches, NoneWaits};
 
 /// Two right listings of what is plugged list the same findings at the same paths, but for the
 /// addresses, where no device waits for one.
 pub fn one_listing()
-    ensures { (roots : ℕ) (tree : Tree) (a b : Entries)
+    ensures { (roots : ℕ) (tree : SpecTree) (a b : Entries)
         → Lists roots tree a → Lists roots tree b → NoneWaits a → NoneWaits b → ListsLike a b }
 {}
 

@@ -1,7 +1,7 @@
 //! The host's pipes to a device.
 ghost use Rattle.std.specs.Prelude.{◌≡◌, false, true, is_some, IfSome, ◌*◌};
 ghost use Rattle.std.specs.Option.{option_map};
-ghost use Rattle.usb_bus.specs.Traces.{Traced, Went};
+ghost use Rattle.usb_bus.specs.Traces.{Traced, Steps};
 ghost use Rattle.usb_descriptor.specs.Choice.{IsUsable, status_endpoint_of};
 ghost use Rattle.usb_enum.specs.Device.{configuration_of};
 ghost use Rattle.usb_pipe.specs.Bulk.{bulk_made};
@@ -91,7 +91,8 @@ impl Pipes {
     /// Asks a hub's status endpoint once; `None` of anything else.
     pub fn poll<B: Bus>(&mut self, bus: &mut B) -> Result<Option<ArrayVec<u8, 64>>, PipeFault>
         ensures made { pipes_made self.new ≡ pipes_made self.old }
-        ensures went { B.modelled ≡ true → Went B.world B.trace transaction_bound bus.old bus.new }
+        ensures steps { B.modelled ≡ true
+            → Steps B.world B.trace transaction_bound bus.old bus.new }
         ensures polled { B.modelled ≡ true
             → PipesPolled self.old (B.world bus.old) result self.new (B.world bus.new) }
     {
@@ -151,7 +152,8 @@ impl Pipes {
     /// Clears the halts of a function's bulk endpoints.
     pub fn clear_halt<B: Bus>(&mut self, bus: &mut B) -> Result<(), EndpointFault>
         ensures made { pipes_made self.new ≡ pipes_made self.old }
-        ensures went { B.modelled ≡ true → Went B.world B.trace (2 * write_bound) bus.old bus.new }
+        ensures steps { B.modelled ≡ true
+            → Steps B.world B.trace (2 * write_bound) bus.old bus.new }
         ensures cleared { B.modelled ≡ true
             → PipesCleared self.old (B.world bus.old) result self.new (B.world bus.new) }
     {
@@ -166,7 +168,7 @@ impl Pipes {
 /// Clears the halt of a pipe's endpoint, if there is one.
 fn clear_through<B: Bus>(pipe: &mut Option<BulkPipe>, bus: &mut B) -> Result<(), PipeFault>
     ensures made { option_map bulk_made pipe.new ≡ option_map bulk_made pipe.old }
-    ensures went { B.modelled ≡ true → Went B.world B.trace write_bound bus.old bus.new }
+    ensures steps { B.modelled ≡ true → Steps B.world B.trace write_bound bus.old bus.new }
     ensures cleared { B.modelled ≡ true
         → ClearedBy pipe.old (B.world bus.old) result pipe.new (B.world bus.new) }
 {
@@ -180,7 +182,8 @@ impl BulkPipes {
     /// Clears the halt of both endpoints, of the one that writes first.
     pub fn clear_halt<B: Bus>(&mut self, bus: &mut B) -> Result<(), EndpointFault>
         ensures made { both_made self.new ≡ both_made self.old }
-        ensures went { B.modelled ≡ true → Went B.world B.trace (2 * write_bound) bus.old bus.new }
+        ensures steps { B.modelled ≡ true
+            → Steps B.world B.trace (2 * write_bound) bus.old bus.new }
         ensures cleared { B.modelled ≡ true
             → ClearedInTurn self.old (B.world bus.old) result self.new (B.world bus.new) }
     {

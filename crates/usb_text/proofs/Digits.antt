@@ -10,9 +10,9 @@ encode_upper-append (x ∷ xs) ys =
     ap (λ (l : List ℕ). slice_index upper_digits (x / 16) ∷ slice_index upper_digits (x % 16) ∷ l) (encode_upper-append xs ys)
 
 -- a piece more
-pub digits_more : (rest piece behind line line' whole : List ℕ) → rest ≡ piece ++ behind → line' ≡ line ++ encode_upper piece
+pub encode_upper-piece : (rest piece behind line line' whole : List ℕ) → rest ≡ piece ++ behind → line' ≡ line ++ encode_upper piece
     → line ++ encode_upper rest ≡ whole → line' ++ encode_upper behind ≡ whole
-digits_more rest piece behind line line' whole parts put e =
+encode_upper-piece rest piece behind line line' whole parts put e =
     ap (λ (l : List ℕ). l ++ encode_upper behind) put ∙ append_assoc line (encode_upper piece) (encode_upper behind)
     ∙ ap (λ (l : List ℕ). line ++ l) (sym (encode_upper-append piece behind)) ∙ ap (λ (l : List ℕ). line ++ encode_upper l) (sym parts) ∙ e
 

@@ -6,7 +6,7 @@ use Rattle.usb_device.specs.declared.answer.Answer.{Answer}
 use Rattle.usb_device.specs.declared.answer.Answer.TheVariants as answer
 use Rattle.usb_device.specs.Attempt.{Way, is_whole, heard}
 use Rattle.usb_device.specs.Rows.{State, Reply, accepted, forgotten}
-use Rattle.usb_device.specs.Tree.{row_of, Spot, reach_on, state_on}
+use Rattle.usb_device.specs.Tree.{row_of, Location, reach_on, state_on}
 use Rattle.usb_world.specs.declared.types.Attempt.{Attempt}
 use Rattle.usb_world.specs.declared.types.Outcome.{Outcome}
 use Rattle.usb_world.specs.declared.types.Outcome.TheVariants as outcome
@@ -15,7 +15,7 @@ use Rattle.usb_world.specs.AttemptPackets.{IsSettled, deep_at}
 use Rattle.usb_world.specs.Courses.{is_harmless}
 use Rattle.usb_world.specs.OneHolder.{IsMade, AttemptAnswerer, IsSetup, got, hears_attempt, token_way, payload_way, answer_way}
 use Rattle.usb_world.specs.World.{World}
-use Rattle.usb_world.specs.Steps.{ready, damage_in, outcome_in, with_attempt, attempt, after, Course, here}
+use Rattle.usb_world.specs.Steps.{at_attempt, damage_in, outcome_in, with_attempt, attempt, after, Course, here}
 use Rattle.usb_world.specs.Devices.{Was, DidIn, DidOut, EachWas}
 use Rattle.usb_world.proofs.Interface.{course_then, decided, due_back, each_in, each_out, equal_same, given_by, got_given, holder_in, in_in, is_state, made_is, made_of, made_unshared, one_answers, out_in, same_equal, setup_in, setup_sound_in, stands, state_stands, stays_reachable_in, third, each_beside}
 use Rattle.usb_transaction.specs.declared.target.Target.{Target}
@@ -27,16 +27,16 @@ use Rattle.usb_transaction.specs.Answerer.{Answerer, HadOne, IsAnswer}
 use Rattle.usb_transaction.specs.HeardOutcomes.{heard_as, polled_as, heard_when_sent, set_up_as}
 use Rattle.usb_transaction.specs.Leaves.{is_at, ControlIn, ReadStatus, SourceIn, SinkOut, ChangesIn}
 use Rattle.usb_transaction.specs.AskedDevices.{AskedLast, SetupAccepted, Answered, Took, IsUnheard}
-use Rattle.usb_transaction.specs.Trail.{Trail, start, next, waits_with, waits_in, IsNoEnd, GoesOn, Ended, Transacted, Waiting, Polled}
+use Rattle.usb_transaction.specs.AttemptLog.{AttemptLog, start, next, waits_with, waits_in, IsNoEnd, KeepsTrying, TransactionDone, Transacted, Waiting, Polled}
 use Rattle.usb_transaction.specs.Transactions.{packed, setup_attempt, in_attempt, out_attempt, SetupEnds}
 use Rattle.usb_transaction.proofs.DeviceRuns.{Deeds, EachIf, Run, had_address, in_others, more, none, out_others, over_trail}
 use Rattle.usb_transaction.proofs.LastOutcomes.{read_last, sent_last, set_up_last, sent_empty, set_up_empty}
-use Rattle.usb_transaction.proofs.SetupTransactions.{Accepts, accepting, set_up_why, setup_leaves}
+use Rattle.usb_transaction.proofs.SetupTransactions.{SetupResult, accepting, set_up_why, setup_leaves}
 use Rattle.usb_transaction.proofs.Trails.{few_waits, last_erred, trail_settled, ended_of}
 use Rattle.std.specs.Prelude.{IfOk, IfSome, OnOk}
 use Rattle.usb_packet.specs.declared.Toggle.TheVariants.{One}
-use Rattle.usb_transaction.specs.Calls.{IsUnhindered, MeansOfSetup, SetsUp, InLeaves, WhyIn, MeansOfIn, AsksIn, OutLeaves, WhyOut, MeansOfOut, SendsOut, PollsIn}
-use Rattle.usb_transaction.specs.Failures.{WhyControlIn, WhyReadStatus, WhySourceIn, WhySinkOut}
+use Rattle.usb_transaction.specs.Calls.{IsUnhindered, MeansOfSetup, SetsUp, InLeaves, InFailure, MeansOfIn, AsksIn, OutLeaves, OutFailure, MeansOfOut, SendsOut, PollsIn}
+use Rattle.usb_transaction.specs.Failures.{ControlInFailure, StatusReadFailure, SourceInFailure, SinkOutFailure}
 use Rattle.usb_transaction.proofs.BulkTransactions.{sink_leaves, sink_why, source_leaves, source_why}
 use Rattle.usb_transaction.proofs.ControlTransactions.{control_in_why, control_leaves, read_status_why, status_leaves}
 use Rattle.usb_transaction.proofs.Polls.{poll_leaves, poll_why}
@@ -47,13 +47,13 @@ use Rattle.usb_transaction.proofs.TransactionTries.{ends_of, poll_ends}
 record LastAttempt (a : Attempt) (old new : World) (last : Outcome) : Type 0 where
   outcomes : List Outcome
   mid : World
-  before : Trail a old outcomes mid
+  before : AttemptLog a old outcomes mid
   is_last : new ≡ after (attempt a) mid
   came : outcome_in a mid ≡ last
   made : IsMade a mid
   single : (after (attempt a) mid).shared ≡ false
 
-last_attempt : {a : Attempt} {old new : World} {last : Outcome} {outcomes : List Outcome} → IsSettled old.roots → Trail a old (last ∷ outcomes) new → new.shared ≡ false → LastAttempt a old new last
+last_attempt : {a : Attempt} {old new : World} {last : Outcome} {outcomes : List Outcome} → IsSettled old.roots → AttemptLog a old (last ∷ outcomes) new → new.shared ≡ false → LastAttempt a old new last
 last_attempt {a} {old} settled (next {outcomes = os} w t made) h =
     record { outcomes = os; mid = w; before = t; is_last = refl; came = refl; made = made_of a w (trail_settled t settled) made; single = h }
 
@@ -61,8 +61,8 @@ last_attempt {a} {old} settled (next {outcomes = os} w t made) h =
 answerer : {a : Attempt} {old new : World} {last : Outcome} (l : LastAttempt a old new last) → last ≢ outcome.Nothing → AttemptAnswerer a l.mid
 answerer {a} l loud = one_answers a l.mid l.made l.single (λ e. loud (sym l.came ∙ e))
 
-abbrev asked_at : {a : Attempt} {old new : World} {last : Outcome} (l : LastAttempt a old new last) → AttemptAnswerer a l.mid → AskedLast a old new
-asked_at l y = record {
+abbrev asked_last : {a : Attempt} {old new : World} {last : Outcome} (l : LastAttempt a old new last) → AttemptAnswerer a l.mid → AskedLast a old new
+asked_last l y = record {
   outcomes = l.outcomes;
   mid = l.mid;
   before = l.before;
@@ -72,49 +72,49 @@ asked_at l y = record {
 }
 
 -- the device that was asked is still reachable
-still_on : {a : Attempt} {old new : World} (q : AskedLast a old new) → reach_on new.roots q.holder.spot ≡ true
-still_on {a} q = ap (λ w. reach_on w.roots q.holder.spot) q.last ∙ stays_reachable_in a q.mid q.holder
+asked_last-reach : {a : Attempt} {old new : World} (q : AskedLast a old new) → reach_on new.roots q.holder.spot ≡ true
+asked_last-reach {a} q = ap (λ w. reach_on w.roots q.holder.spot) q.last ∙ stays_reachable_in a q.mid q.holder
 
 -- What was answered
 
 given_loud : {last : Outcome} {g : Answer} → given_by last ≡ Some g → last ≢ outcome.Nothing
 given_loud is n = cc (sym (ap given_by n) ∙ is)
 
-answered : (t : Target) (ep : ℕ) (g : Answer) (old new : World) {last : Outcome} {outcomes : List Outcome} → IsSettled old.roots → Trail (in_attempt t ep) old (last ∷ outcomes) new → given_by last ≡ Some g
+trail_answered : (t : Target) (ep : ℕ) (g : Answer) (old new : World) {last : Outcome} {outcomes : List Outcome} → IsSettled old.roots → AttemptLog (in_attempt t ep) old (last ∷ outcomes) new → given_by last ≡ Some g
     → new.shared ≡ false → Answered t ep g old new
-answered t ep g old new {last} settled trail is h =
+trail_answered t ep g old new {last} settled trail is h =
     let l = last_attempt settled trail h in
     let y = answerer l (given_loud is) in
     let q = y.holder in
     let x = in_in (in_attempt t ep) l.mid q y.loud (record { kind = refl; payload = refl }) in
     record {
-      asked = asked_at l y;
+      asked = asked_last l y;
       gave = got_given t.max _ last (sym x.outcome ∙ l.came) (given_loud is) ∙ is;
-      on = still_on (asked_at l y);
+      on = asked_last-reach (asked_last l y);
       state = ap (λ w. state_on w.roots q.spot) l.is_last ∙ x.state;
     }
 
 took : (t : Target) (ep : ℕ) (toggle : Toggle) (bytes : List ℕ) (g : Answer) (old new : World) {last : Outcome} {outcomes : List Outcome} → IsSettled old.roots
-    → Trail (out_attempt t ep toggle bytes) old (last ∷ outcomes) new → given_by last ≡ Some g → new.shared ≡ false → Took t ep toggle bytes g old new
+    → AttemptLog (out_attempt t ep toggle bytes) old (last ∷ outcomes) new → given_by last ≡ Some g → new.shared ≡ false → Took t ep toggle bytes g old new
 took t ep toggle bytes g old new {last} settled trail is h =
     let l = last_attempt settled trail h in
     let y = answerer l (given_loud is) in
     let q = y.holder in
     let x = out_in (out_attempt t ep toggle bytes) l.mid q y.loud toggle bytes (record { kind = refl; payload = refl }) in
     record {
-      asked = asked_at l y;
+      asked = asked_last l y;
       gave = got_given t.max _ last (sym x.outcome ∙ l.came) (given_loud is) ∙ is;
-      on = still_on (asked_at l y);
+      on = asked_last-reach (asked_last l y);
       state = ap (λ w. state_on w.roots q.spot) l.is_last ∙ x.state;
     }
 
-pub read_done : (t : Target) (ep : ℕ) (toggle : Toggle) (bytes : List ℕ) (old new : World) → IsSettled old.roots
+pub in_answered : (t : Target) (ep : ℕ) (toggle : Toggle) (bytes : List ℕ) (old new : World) → IsSettled old.roots
     → Transacted (heard_as toggle) (in_attempt t ep) old (Ok bytes) new → new.shared ≡ false → Answered t ep (answer.Data toggle (packed bytes)) old new
-read_done t ep toggle bytes old new settled e = answered t ep (answer.Data toggle (packed bytes)) old new settled e.trail (ap given_by (read_last toggle e.last bytes e.tells))
+in_answered t ep toggle bytes old new settled e = trail_answered t ep (answer.Data toggle (packed bytes)) old new settled e.trail (ap given_by (read_last toggle e.last bytes e.tells))
 
 pub read_stalled : (t : Target) (ep : ℕ) (toggle : Toggle) (old new : World) → IsSettled old.roots
     → Transacted (heard_as toggle) (in_attempt t ep) old (Err Stalled) new → new.shared ≡ false → Answered t ep answer.Stall old new
-read_stalled t ep toggle old new settled e = answered t ep answer.Stall old new settled e.trail (ap given_by e.tells)
+read_stalled t ep toggle old new settled e = trail_answered t ep answer.Stall old new settled e.trail (ap given_by e.tells)
 
 pub write_done : (t : Target) (ep : ℕ) (toggle : Toggle) (bytes done : List ℕ) (old new : World) → IsSettled old.roots
     → Transacted heard_when_sent (out_attempt t ep toggle bytes) old (Ok done) new → new.shared ≡ false → Took t ep toggle bytes answer.Ack old new
@@ -138,13 +138,13 @@ set_up_done t bytes done old new eight settled e h =
     let l : LastAttempt a old new e.last = last_attempt settled e.trail h in
     let y : AttemptAnswerer a l.mid = answerer l (given_loud (ap given_by last)) in
     let q = y.holder in
-    let k = (ready l.mid).roots in
-    let d = damage_in (ready l.mid) in
+    let k = (at_attempt l.mid).roots in
+    let d = damage_in (at_attempt l.mid) in
     let x = setup_in a l.mid q y.loud bytes (record { kind = refl; ep = refl; payload = refl; whole = eight }) in
     let whole : Bool = is_whole (token_way a d (deep_at false q.spot.rest) q.own) && is_whole (payload_way a d (deep_at false q.spot.rest) q.own) in
     record {
-      asked = asked_at l y;
-      on = still_on (asked_at l y);
+      asked = asked_last l y;
+      on = asked_last-reach (asked_last l y);
       state = ap (λ w. state_on w.roots q.spot) l.is_last ∙ x.state
           ∙ ap (λ v. Some v) (taken_up whole (answer_way a d k) q.own (accepted q.own (row_of q.below) (setup_of bytes)) a.max (sym x.outcome ∙ l.came ∙ last));
     }
@@ -164,8 +164,8 @@ unheard_at a w bytes i c h = pick (decided h.own.spec.silent) (decided (hears_at
 no_ack : (o : Outcome) → IsNoEnd (set_up_as o) → o ≢ outcome.Ack
 no_ack o h e = subst (λ x. IsNoEnd (set_up_as x)) e h
 
-unheard_course : {a : Attempt} {old new : World} {outcomes : List Outcome} (bytes : List ℕ) → IsSetup a bytes → Trail a old outcomes new → GoesOn set_up_as outcomes → Course IsUnheard old new
-unfolding GoesOn
+unheard_course : {a : Attempt} {old new : World} {outcomes : List Outcome} (bytes : List ℕ) → IsSetup a bytes → AttemptLog a old outcomes new → KeepsTrying set_up_as outcomes → Course IsUnheard old new
+unfolding KeepsTrying
 unheard_course {a} {old} bytes i start g = here old
 unheard_course {a} bytes i (next w t made) g = course_then (attempt a) (unheard_course bytes i t g.3) (unheard_at a w bytes i (no_ack (outcome_in a w) g.0))
 
@@ -176,14 +176,14 @@ set_up_unheard t bytes old new eight e = at_last e.trail (last_erred set_up_as e
     kind : IsSetup (setup_attempt t bytes) bytes
     kind = record { kind = refl; ep = refl; payload = refl; whole = eight }
 
-    at_last : {o : Outcome} {now : World} → Trail (setup_attempt t bytes) old (o ∷ e.outcomes) now → IsNoEnd (set_up_as o) → Course IsUnheard old now
+    at_last : {o : Outcome} {now : World} → AttemptLog (setup_attempt t bytes) old (o ∷ e.outcomes) now → IsNoEnd (set_up_as o) → Course IsUnheard old now
     at_last (next w r made) on = course_then (attempt (setup_attempt t bytes)) (unheard_course bytes kind r e.onward) (unheard_at (setup_attempt t bytes) w bytes kind (no_ack (outcome_in (setup_attempt t bytes) w) on))
 
 -- Who answered
 
 -- what is so at the end, and of a device before each attempt where it is so after it, was so at first
-was_so : {Did : Deeds} {a : Attempt} {old : World} {j : Spot} {s : State} {outcomes : List Outcome} {w : World} {v : State} (P : State → Type 0)
-    → ((w : World) (i : Spot) (u x : State) → Did w i u x → P x → P u) → Run Did a old j s outcomes w v → P v → P s
+was_so : {Did : Deeds} {a : Attempt} {old : World} {j : Location} {s : State} {outcomes : List Outcome} {w : World} {v : State} (P : State → Type 0)
+    → ((w : World) (i : Location) (u x : State) → Did w i u x → P x → P u) → Run Did a old j s outcomes w v → P v → P s
 was_so P back none h = h
 was_so {j = j} P back (more w u x t made r d) h = was_so P back r (back w j u x d h)
 
@@ -193,13 +193,13 @@ had_one a = record { spot = a.spot; state = a.before; on = a.was_on; stands = a.
 abbrev IsThere : Target → State → Type 0
 IsThere t s = is_at s t ≡ true
 
-module _ (t : Target) (a : Attempt) (its : a.addr ≡ t.addr) (Did : Deeds) (others : (w : World) (j : Spot) (s v : State) → Did w j s v → is_at s t ≡ false → v ≡ s)
+module _ (t : Target) (a : Attempt) (its : a.addr ≡ t.addr) (Did : Deeds) (others : (w : World) (j : Location) (s v : State) → Did w j s v → is_at s t ≡ false → v ≡ s)
     (does : (w : World) → IsMade a w → (after (attempt a) w).shared ≡ false → EachIf (IsThere t) (Did w) w (after (attempt a) w)) (old : World) (settled : IsSettled old.roots) where
-  back : (w : World) (j : Spot) (s v : State) → Did w j s v → IsThere t v → IsThere t s
+  back : (w : World) (j : Location) (s v : State) → Did w j s v → IsThere t v → IsThere t s
   back w j s v d = had_address t s v (others w j s v d)
 
   -- what was heard at last came from it
-  who : {new : World} {last : Outcome} {outcomes : List Outcome} → new.shared ≡ false → Trail a old (last ∷ outcomes) new → last ≢ outcome.Nothing → Answerer t old new
+  who : {new : World} {last : Outcome} {outcomes : List Outcome} → new.shared ≡ false → AttemptLog a old (last ∷ outcomes) new → last ≢ outcome.Nothing → Answerer t old new
   unfolding with_attempt
   who single (next {outcomes} w r made) loud =
       let x = (one_answers a w (made_of a w (trail_settled r settled) made) single loud).holder in
@@ -207,12 +207,12 @@ module _ (t : Target) (a : Attempt) (its : a.addr ≡ t.addr) (Did : Deeds) (oth
       let there : _ = due_back w x.spot x.on in
       let at : IsThere t x.own = same_equal (address_of x.own) t.addr (x.at ∙ its) in
       let was : Was (λ j s v. Run Did a old j s outcomes w v) old x.spot x.own =
-      over_trail Did a (IsThere t) back does old settled r (made_unshared a w made single).before x.spot x.own there.0 (sym there.1 ∙ sym (state_stands (ready w).roots x.spot.row x.spot.rest) ∙ ap stands x.stands) at in
+      over_trail Did a (IsThere t) back does old settled r (made_unshared a w made single).before x.spot x.own there.0 (sym there.1 ∙ sym (state_stands (at_attempt w).roots x.spot.row x.spot.rest) ∙ ap stands x.stands) at in
       record {
         spot = x.spot;
-        now = forgotten (third a (damage_in (ready w)) (ready w).roots h).1;
+        now = forgotten (third a (damage_in (at_attempt w)) (at_attempt w).roots h).1;
         on = stays_reachable_in a w x;
-        stands = ap (λ v. state_on v.roots x.spot) (made_is a w x.made) ∙ is_state a (damage_in (ready w)) (ready w).roots h;
+        stands = ap (λ v. state_on v.roots x.spot) (made_is a w x.made) ∙ is_state a (damage_in (at_attempt w)) (at_attempt w).roots h;
         before = was.before;
         was_on = was.on;
         stood = was.stands;
@@ -220,7 +220,7 @@ module _ (t : Target) (a : Attempt) (its : a.addr ≡ t.addr) (Did : Deeds) (oth
       }
 
   module _ (new : World) (single : new.shared ≡ false) (hear : Outcome → HeardOutcome) (lost : hear outcome.Nothing ≡ Lost) where
-    moved_who : (bytes : List ℕ) → Ended hear a old (Ok bytes) new → Answerer t old new
+    moved_who : (bytes : List ℕ) → TransactionDone hear a old (Ok bytes) new → Answerer t old new
     moved_who bytes e = who single e.trail (λ n. cc (sym lost ∙ sym (ap hear n) ∙ e.tells))
 
     -- the last of too many waits was heard
@@ -237,34 +237,34 @@ module _ (t : Target) (a : Attempt) (its : a.addr ≡ t.addr) (Did : Deeds) (oth
 
 -- one at an address that is not 0 was not reset
 does_setup : (t : Target) (bytes : List ℕ) → length bytes ≡ 8 → (is_harmless (setup_of bytes) ≡ false → t.addr ≢ 0) → (w : World) → IsMade (setup_attempt t bytes) w → (after (attempt (setup_attempt t bytes)) w).shared ≡ false
-    → EachIf (IsThere t) (Accepts t bytes w) w (after (attempt (setup_attempt t bytes)) w)
+    → EachIf (IsThere t) (SetupResult t bytes w) w (after (attempt (setup_attempt t bytes)) w)
 does_setup t bytes eight addressed w made u j v on there at = accepting t bytes eight w made u j v on there (λ h. (addressed h, λ e. addressed h (sym (equal_same (address_of v) t.addr at) ∙ e)))
 
 pub set_up_answered : (t : Target) (bytes done : List ℕ) (old new : World) → length bytes ≡ 8 → (is_harmless (setup_of bytes) ≡ false → t.addr ≢ 0) → IsSettled old.roots
-    → Ended set_up_as (setup_attempt t bytes) old (Ok done) new → new.shared ≡ false → Answerer t old new
+    → TransactionDone set_up_as (setup_attempt t bytes) old (Ok done) new → new.shared ≡ false → Answerer t old new
 set_up_answered t bytes done old new eight addressed settled e single =
-    moved_who t (setup_attempt t bytes) refl (Accepts t bytes) (λ w j s v d. d.others) (does_setup t bytes eight addressed) old settled new single set_up_as refl done e
+    moved_who t (setup_attempt t bytes) refl (SetupResult t bytes) (λ w j s v d. d.others) (does_setup t bytes eight addressed) old settled new single set_up_as refl done e
 
 pub set_up_had : (t : Target) (bytes : List ℕ) (fault : TransFault) (old new : World) → length bytes ≡ 8 → (is_harmless (setup_of bytes) ≡ false → t.addr ≢ 0) → IsSettled old.roots
     → IsAnswer fault → Transacted set_up_as (setup_attempt t bytes) old (Err fault) new → new.shared ≡ false → HadOne t old
 set_up_had t bytes fault old new eight addressed settled y e single =
-    fault_had t (setup_attempt t bytes) refl (Accepts t bytes) (λ w j s v d. d.others) (does_setup t bytes eight addressed) old settled new single set_up_as refl fault y e
+    fault_had t (setup_attempt t bytes) refl (SetupResult t bytes) (λ w j s v d. d.others) (does_setup t bytes eight addressed) old settled new single set_up_as refl fault y e
 
 module _ (t : Target) (ep : ℕ) (old new : World) (settled : IsSettled old.roots) (single : new.shared ≡ false) where
   does_in : (w : World) → IsMade (in_attempt t ep) w → (after (attempt (in_attempt t ep)) w).shared ≡ false → EachIf (IsThere t) (DidIn (in_attempt t ep) w) w (after (attempt (in_attempt t ep)) w)
   does_in w made u j v on there at = each_in (in_attempt t ep) w made (record { kind = refl; payload = refl }) u j v on there
 
-  who_read : {last : Outcome} {outcomes : List Outcome} → Trail (in_attempt t ep) old (last ∷ outcomes) new → last ≢ outcome.Nothing → Answerer t old new
+  who_read : {last : Outcome} {outcomes : List Outcome} → AttemptLog (in_attempt t ep) old (last ∷ outcomes) new → last ≢ outcome.Nothing → Answerer t old new
   who_read = who t (in_attempt t ep) refl (DidIn (in_attempt t ep)) (in_others t ep) does_in old settled single
 
-  moved_in : (hear : Outcome → HeardOutcome) → hear outcome.Nothing ≡ Lost → (bytes : List ℕ) → Ended hear (in_attempt t ep) old (Ok bytes) new → Answerer t old new
+  moved_in : (hear : Outcome → HeardOutcome) → hear outcome.Nothing ≡ Lost → (bytes : List ℕ) → TransactionDone hear (in_attempt t ep) old (Ok bytes) new → Answerer t old new
   moved_in = moved_who t (in_attempt t ep) refl (DidIn (in_attempt t ep)) (in_others t ep) does_in old settled new single
 
   had_in : (hear : Outcome → HeardOutcome) → hear outcome.Nothing ≡ Lost → (fault : TransFault) → IsAnswer fault → Transacted hear (in_attempt t ep) old (Err fault) new → HadOne t old
   had_in = fault_had t (in_attempt t ep) refl (DidIn (in_attempt t ep)) (in_others t ep) does_in old settled new single
 
 pub read_answered : (t : Target) (ep : ℕ) (awaited : Toggle) (bytes : List ℕ) (old new : World) → IsSettled old.roots
-    → Ended (heard_as awaited) (in_attempt t ep) old (Ok bytes) new → new.shared ≡ false → Answerer t old new
+    → TransactionDone (heard_as awaited) (in_attempt t ep) old (Ok bytes) new → new.shared ≡ false → Answerer t old new
 read_answered t ep awaited bytes old new settled e single = moved_in t ep old new settled single (heard_as awaited) refl bytes e
 
 pub poll_answered : (t : Target) (ep : ℕ) (toggle : Toggle) (bytes : List ℕ) (old new : World) → IsSettled old.roots
@@ -287,7 +287,7 @@ module _ (t : Target) (ep : ℕ) (toggle : Toggle) (bytes : List ℕ) where
       → EachIf (IsThere t) (DidOut (out_attempt t ep toggle bytes) toggle bytes w) w (after (attempt (out_attempt t ep toggle bytes)) w)
   does_out w made u j v on there at = each_out (out_attempt t ep toggle bytes) w toggle bytes made (record { kind = refl; payload = refl }) u j v on there
 
-  pub write_answered : (done : List ℕ) (old new : World) → IsSettled old.roots → Ended heard_when_sent (out_attempt t ep toggle bytes) old (Ok done) new → new.shared ≡ false → Answerer t old new
+  pub write_answered : (done : List ℕ) (old new : World) → IsSettled old.roots → TransactionDone heard_when_sent (out_attempt t ep toggle bytes) old (Ok done) new → new.shared ≡ false → Answerer t old new
   write_answered done old new settled e single =
       moved_who t (out_attempt t ep toggle bytes) refl (DidOut (out_attempt t ep toggle bytes) toggle bytes) (out_others t ep toggle bytes) does_out old settled new single heard_when_sent refl done e
 
@@ -308,18 +308,18 @@ module _ (t : Target) (ep : ℕ) (awaited : Toggle) (old new : World) (settled :
       each_beside (SourceIn t ep awaited result) (ControlIn t awaited result) (InLeaves t ep awaited result) (ep ≡ 0) (λ j s v b c. record { control = c; bulk = b }) old new (source_leaves t ep awaited result old new settled x single)
       (λ z. control_leaves t awaited result old new settled (subst (λ k. Transacted (heard_as awaited) (in_attempt t k) old result new) z x) single)
 
-  why_in : (result : Result (List ℕ) TransFault) → Transacted (heard_as awaited) (in_attempt t ep) old result new → IsUnhindered old result new → EachWas (WhyIn t ep awaited result) old new
+  why_in : (result : Result (List ℕ) TransFault) → Transacted (heard_as awaited) (in_attempt t ep) old result new → IsUnhindered old result new → EachWas (InFailure t ep awaited result) old new
   why_in result x u =
       let e = ended_of result x u.whole in
-      each_beside (WhySourceIn t ep awaited result) (WhyControlIn t awaited result) (WhyIn t ep awaited result) (ep ≡ 0) (λ j s v b c. record { control = c; bulk = b }) old new (source_why t ep awaited result old new settled u.few e u.single)
-      (λ z. control_in_why t awaited result old new settled u.few (subst (λ k. Ended (heard_as awaited) (in_attempt t k) old result new) z e) u.single)
+      each_beside (SourceInFailure t ep awaited result) (ControlInFailure t awaited result) (InFailure t ep awaited result) (ep ≡ 0) (λ j s v b c. record { control = c; bulk = b }) old new (source_why t ep awaited result old new settled u.few e u.single)
+      (λ z. control_in_why t awaited result old new settled u.few (subst (λ k. TransactionDone (heard_as awaited) (in_attempt t k) old result new) z e) u.single)
 
   who_in : (result : Result (List ℕ) TransFault) → Transacted (heard_as awaited) (in_attempt t ep) old result new → OnOk result (new.shared ≡ false → Answerer t old new)
   who_in (Ok bytes) x = read_answered t ep awaited bytes old new settled x
   who_in (Err fault) x = tt
 
   means_in : (result : Result (List ℕ) TransFault) → Transacted (heard_as awaited) (in_attempt t ep) old result new → MeansOfIn t ep awaited old result new
-  means_in (Ok bytes) x = read_done t ep awaited bytes old new settled x
+  means_in (Ok bytes) x = in_answered t ep awaited bytes old new settled x
   means_in (Err Stalled) x = read_stalled t ep awaited old new settled x
   means_in result x = tt
 
@@ -351,9 +351,9 @@ module _ (t : Target) (ep : ℕ) (toggle : Toggle) (bytes : List ℕ) (old new :
       (sink_leaves t ep toggle bytes result old new settled x single)
       (λ z. status_leaves t result old new settled (status_out result x z) single)
 
-  why_out : (result : Result (List ℕ) TransFault) → Transacted heard_when_sent (out_attempt t ep toggle bytes) old result new → IsUnhindered old result new → EachWas (WhyOut t ep toggle bytes result) old new
+  why_out : (result : Result (List ℕ) TransFault) → Transacted heard_when_sent (out_attempt t ep toggle bytes) old result new → IsUnhindered old result new → EachWas (OutFailure t ep toggle bytes result) old new
   why_out result x u =
-      each_beside (WhySinkOut t ep toggle bytes result) (WhyReadStatus t result) (WhyOut t ep toggle bytes result) (EndsRead ep toggle bytes) (λ j s v b c. record { control = λ f g h. c (f, g, h); bulk = b }) old new
+      each_beside (SinkOutFailure t ep toggle bytes result) (StatusReadFailure t result) (OutFailure t ep toggle bytes result) (EndsRead ep toggle bytes) (λ j s v b c. record { control = λ f g h. c (f, g, h); bulk = b }) old new
       (sink_why t ep toggle bytes result old new settled u.few (ended_of result x u.whole) u.single)
       (λ z. read_status_why t result old new settled u.few (ended_of result (status_out result x z) u.whole) u.single)
 

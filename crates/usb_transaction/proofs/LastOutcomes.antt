@@ -12,15 +12,15 @@ use Rattle.usb_transaction.specs.declared.heard_outcome.HeardOutcome.TheVariants
 use Rattle.usb_transaction.specs.declared.fault.TransFault.{TransFault}
 use Rattle.usb_transaction.specs.HeardOutcomes.{heard_as, polled_as, heard_when_sent, set_up_as}
 use Rattle.usb_transaction.specs.Transactions.{packed}
-use Rattle.usb_transaction.specs.Trail.{IsNoEnd}
+use Rattle.usb_transaction.specs.AttemptLog.{IsNoEnd}
 
 -- What an outcome is by how it is heard
 
 pub heard_moved : (t : Toggle) (o : Outcome) (bytes : ArrayVec ℕ) → Moved bytes ≡ heard_as t o → o ≡ Payload t bytes
 heard_moved t o bytes e = grind arith
 
-pub heard_nak : (t : Toggle) (o : Outcome) → NotReady ≡ heard_as t o → o ≡ Nak
-heard_nak t o e = grind arith
+pub heard_as-nak : (t : Toggle) (o : Outcome) → NotReady ≡ heard_as t o → o ≡ Nak
+heard_as-nak t o e = grind arith
 
 pub heard_stall : (t : Toggle) (o : Outcome) → Refused ≡ heard_as t o → o ≡ Stall
 heard_stall t o e = grind arith

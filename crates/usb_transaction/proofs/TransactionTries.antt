@@ -7,55 +7,55 @@ use Rattle.usb_world.specs.declared.types.Attempt.{Attempt}
 use Rattle.usb_world.specs.declared.types.BusFault.{BusFault}
 use Rattle.usb_world.specs.declared.types.Outcome.{Outcome}
 use Rattle.usb_world.specs.declared.types.Outcome.TheVariants.{Nak, Stall}
-use Rattle.usb_world.specs.World.{World, Made, Spends, Attempted, IsAttempt, FitsMaximum}
+use Rattle.usb_world.specs.World.{World, Made, AttemptsWithin, Attempted, IsAttempt, FitsMaximum}
 use Rattle.usb_world.specs.Steps.{attempt, after, AttemptFails}
 use Rattle.usb_world.proofs.Interface.{spends_none, spends_then, spends_wider}
-use Rattle.usb_bus.specs.Traces.{Attempts, Traced, still, attempted, WentOn}
+use Rattle.usb_bus.specs.Traces.{Attempts, Traced, still, attempted, StepRun}
 use Rattle.usb_transaction.specs.declared.heard_outcome.HeardOutcome.{HeardOutcome}
 use Rattle.usb_transaction.specs.declared.heard_outcome.HeardOutcome.TheVariants.{Moved, NotReady, Repeat, Lost}
 use Rattle.usb_transaction.specs.declared.tries.Tries.{Tries}
 use Rattle.usb_transaction.specs.declared.fault.TransFault.{TransFault}
 use Rattle.usb_transaction.specs.declared.fault.TransFault.TheVariants.{Stalled, Busy, NoAnswer, Bus}
 use Rattle.usb_transaction.specs.HeardOutcomes.{heard_as, polled_as, set_up_as, acks}
-use Rattle.usb_transaction.specs.Trail.{Trail, start, next, errors_with, waits_with, errors_running, waits_in, IsNoEnd, GoesOn, Tells, Ended, CutOff, Transacted, Waiting, Polled}
-use Rattle.usb_transaction.specs.Transactions.{packed, Worked, Ends, transaction_bound}
+use Rattle.usb_transaction.specs.AttemptLog.{AttemptLog, start, next, errors_with, waits_with, errors_running, waits_in, IsNoEnd, KeepsTrying, LastOutcome, TransactionDone, BusFailed, Transacted, Waiting, Polled}
+use Rattle.usb_transaction.specs.Transactions.{packed, AttemptsMade, Ends, transaction_bound}
 use Rattle.usb_transaction.proofs.LastOutcomes.{heard_moved}
 
 -- One more attempt, and what the host got
 
-pub record Once (a : Attempt) (mid : World) (before : Option (List ℕ)) (o : Outcome) (new : World) (now : Option (List ℕ)) : Type 0 where
+pub record AttemptedOnce (a : Attempt) (mid : World) (before : Option (List ℕ)) (o : Outcome) (new : World) (now : Option (List ℕ)) : Type 0 where
   pub fits : IsAttempt a
   pub made : Attempts a mid before (Ok o) new now
 
-pub once : {a b : Attempt} {mid new : World} {o : Outcome} {before now : Option (List ℕ)} → b ≡ a
-    → IsAttempt b → Attempts b mid before (Ok o) new now → Once a mid before o new now
-once {mid = mid} {new = new} {o = o} {before = before} {now = now} is fits x =
-    subst (λ y. Once y mid before o new now) is (record { fits = fits; made = x })
+pub attempted_once : {a b : Attempt} {mid new : World} {o : Outcome} {before now : Option (List ℕ)} → b ≡ a
+    → IsAttempt b → Attempts b mid before (Ok o) new now → AttemptedOnce a mid before o new now
+attempted_once {mid = mid} {new = new} {o = o} {before = before} {now = now} is fits x =
+    subst (λ y. AttemptedOnce y mid before o new now) is (record { fits = fits; made = x })
 
-one_more : {a : Attempt} {old mid new : World} {outcomes : List Outcome} {o : Outcome} {before now : Option (List ℕ)} → Trail a old outcomes mid → Once a mid before o new now → Trail a old (o ∷ outcomes) new
-one_more {a} {old} {mid} {new} {outcomes} {o} t one =
-    subst (λ w. Trail a old (o ∷ outcomes) w) (sym one.made.exact)
-    (subst (λ x. Trail a old (x ∷ outcomes) (after (attempt a) mid)) (sym one.made.outcome) (next mid t (subst (λ w. Made mid w) one.made.exact one.made.counts.ends)))
+trail_more : {a : Attempt} {old mid new : World} {outcomes : List Outcome} {o : Outcome} {before now : Option (List ℕ)} → AttemptLog a old outcomes mid → AttemptedOnce a mid before o new now → AttemptLog a old (o ∷ outcomes) new
+trail_more {a} {old} {mid} {new} {outcomes} {o} t one =
+    subst (λ w. AttemptLog a old (o ∷ outcomes) w) (sym one.made.exact)
+    (subst (λ x. AttemptLog a old (x ∷ outcomes) (after (attempt a) mid)) (sym one.made.outcome) (next mid t (subst (λ w. Made mid w) one.made.exact one.made.counts.ends)))
 
 -- It goes on: so many errors run, after so many NAKs and repeats; between the worlds lie at most three attempts for each of these and one for each error running
-pub record Going (hear : Outcome → HeardOutcome) (a : Attempt) (errors waits : ℕ) (old now : World) : Type 0 where
+pub record TryingOn (hear : Outcome → HeardOutcome) (a : Attempt) (errors waits : ℕ) (old now : World) : Type 0 where
   pub outcomes : List Outcome
-  pub trail : Trail a old outcomes now
-  pub onward : GoesOn hear outcomes
+  pub trail : AttemptLog a old outcomes now
+  pub onward : KeepsTrying hear outcomes
   running : errors_running hear outcomes ≡ errors
   waited : waits_in hear outcomes ≡ waits
-  pub spends : Spends (3 * waits + errors) old now
+  pub spends : AttemptsWithin (3 * waits + errors) old now
 
-going_none : {hear : Outcome → HeardOutcome} {a : Attempt} (w : World) → Going hear a 0 0 w w
-unfolding errors_running waits_in GoesOn
-going_none w = record { outcomes = []; trail = start; onward = tt; running = refl; waited = refl; spends = spends_none w }
+trying_none : {hear : Outcome → HeardOutcome} {a : Attempt} (w : World) → TryingOn hear a 0 0 w w
+unfolding errors_running waits_in KeepsTrying
+trying_none w = record { outcomes = []; trail = start; onward = tt; running = refl; waited = refl; spends = spends_none w }
 
-going_more : {hear : Outcome → HeardOutcome} {a : Attempt} {o : Outcome} {errors waits : ℕ} {old mid new : World} {before now : Option (List ℕ)} (e w : ℕ) → Going hear a errors waits old mid → Once a mid before o new now → IsNoEnd (hear o)
-    → errors_with (hear o) errors ≡ e → waits_with (hear o) waits ≡ w → e < 3 → w < 256 → 3 * waits + errors + 1 ≤ 3 * w + e → Going hear a e w old new
-unfolding errors_running waits_in GoesOn
+going_more : {hear : Outcome → HeardOutcome} {a : Attempt} {o : Outcome} {errors waits : ℕ} {old mid new : World} {before now : Option (List ℕ)} (e w : ℕ) → TryingOn hear a errors waits old mid → AttemptedOnce a mid before o new now → IsNoEnd (hear o)
+    → errors_with (hear o) errors ≡ e → waits_with (hear o) waits ≡ w → e < 3 → w < 256 → 3 * waits + errors + 1 ≤ 3 * w + e → TryingOn hear a e w old new
+unfolding errors_running waits_in KeepsTrying
 going_more {hear} {a} {o} {errors} {waits} {old} {mid} {new} e w g one on x y few calm le = record {
   outcomes = o ∷ g.outcomes;
-  trail = one_more g.trail one;
+  trail = trail_more g.trail one;
   onward = (on, subst (λ n. n < 3) (sym running) few, subst (λ n. n < 256) (sym waited) calm, g.onward);
   running = running;
   waited = waited;
@@ -69,17 +69,17 @@ going_more {hear} {a} {o} {errors} {waits} {old} {mid} {new} e w g one on x y fe
     waited = ap (λ n. waits_with (hear o) n) g.waited ∙ y
 
 going_error : {hear : Outcome → HeardOutcome} {a : Attempt} {o : Outcome} (errors waits : ℕ) {old mid new : World} {before now : Option (List ℕ)} → errors + 1 < 3 → waits < 256
-    → Going hear a errors waits old mid → Once a mid before o new now → Lost ≡ hear o → Going hear a (errors + 1) waits old new
+    → TryingOn hear a errors waits old mid → AttemptedOnce a mid before o new now → Lost ≡ hear o → TryingOn hear a (errors + 1) waits old new
 going_error errors waits few calm g one lost =
     going_more (errors + 1) waits g one (subst (λ h. IsNoEnd h) lost tt) (ap (λ h. errors_with h errors) (sym lost)) (ap (λ h. waits_with h waits) (sym lost)) few calm (omega arith)
 
-third_error : {hear : Outcome → HeardOutcome} {a : Attempt} {o : Outcome} (errors waits : ℕ) {old mid : World} (g : Going hear a errors waits old mid) → Lost ≡ hear o → errors + 1 ≡ 3 → Tells hear (Err NoAnswer) o g.outcomes
+third_error : {hear : Outcome → HeardOutcome} {a : Attempt} {o : Outcome} (errors waits : ℕ) {old mid : World} (g : TryingOn hear a errors waits old mid) → Lost ≡ hear o → errors + 1 ≡ 3 → LastOutcome hear (Err NoAnswer) o g.outcomes
 unfolding errors_running
 third_error {hear} errors waits g lost third = ap (λ x. errors_with x (errors_running hear g.outcomes)) (sym lost) ∙ ap (λ n. n + 1) g.running ∙ third
 
-pub cut_off : {hear : Outcome → HeardOutcome} {a b : Attempt} {fault : BusFault} {errors waits : ℕ} {old mid new : World} {before now : Option (List ℕ)} → b ≡ a → Going hear a errors waits old mid → IsAttempt b → Attempts b mid before (Err fault) new now
-    → CutOff hear a old fault new
-cut_off {fault = fault} {mid = mid} {new = new} is g fits x = record {
+pub going_cut_off : {hear : Outcome → HeardOutcome} {a b : Attempt} {fault : BusFault} {errors waits : ℕ} {old mid new : World} {before now : Option (List ℕ)} → b ≡ a → TryingOn hear a errors waits old mid → IsAttempt b → Attempts b mid before (Err fault) new now
+    → BusFailed hear a old fault new
+going_cut_off {fault = fault} {mid = mid} {new = new} is g fits x = record {
   fits = subst IsAttempt is fits;
   outcomes = g.outcomes;
   mid = mid;
@@ -91,15 +91,15 @@ cut_off {fault = fault} {mid = mid} {new = new} is g fits x = record {
 
 -- A loop of tries: how it stands, with what it wrote
 
-pub record Stands (hear : Outcome → HeardOutcome) (a : Attempt) (t : Tries) (old : World) (first : Option (List ℕ)) (now : World) (text : Option (List ℕ)) : Type 0 where
+pub record TryStands (hear : Outcome → HeardOutcome) (a : Attempt) (t : Tries) (old : World) (first : Option (List ℕ)) (now : World) (text : Option (List ℕ)) : Type 0 where
   pub few : t.errors < 3
   pub calm : t.waits < 256
-  pub going : Going hear a t.errors t.waits old now
+  pub going : TryingOn hear a t.errors t.waits old now
   pub traced : Traced old first now text
 
-pub stands_new : {hear : Outcome → HeardOutcome} {a : Attempt} {text : Option (List ℕ)} (t : Tries) (w : World) → t ≡ record { errors = 0; waits = 0 } → Stands hear a t w text w text
-stands_new {hear} {a} {text} t w is = subst (λ x. Stands hear a x w text w text) (sym is)
-    (record { few = omega arith; calm = omega arith; going = going_none w; traced = still })
+pub stands_new : {hear : Outcome → HeardOutcome} {a : Attempt} {text : Option (List ℕ)} (t : Tries) (w : World) → t ≡ record { errors = 0; waits = 0 } → TryStands hear a t w text w text
+stands_new {hear} {a} {text} t w is = subst (λ x. TryStands hear a x w text w text) (sym is)
+    (record { few = omega arith; calm = omega arith; going = trying_none w; traced = still })
 
 -- a NAK or a repeat
 abbrev pub IsWait : HeardOutcome → Type 0
@@ -114,9 +114,9 @@ waits_of : (h : HeardOutcome) → IsWait h → Waits h
 waits_of h (inl e) = subst Waits (sym e) (record { on = tt; none = λ n. refl; more = λ n. refl })
 waits_of h (inr e) = subst Waits (sym e) (record { on = tt; none = λ n. refl; more = λ n. refl })
 
-module _ {hear : Outcome → HeardOutcome} {a : Attempt} {t : Tries} {old mid : World} {first before : Option (List ℕ)} (s : Stands hear a t old first mid before) where
+module _ {hear : Outcome → HeardOutcome} {a : Attempt} {t : Tries} {old mid : World} {first before : Option (List ℕ)} (s : TryStands hear a t old first mid before) where
   -- its last attempt
-  pub went_last : {b : Attempt} {r : Result Outcome BusFault} {new : World} {now : Option (List ℕ)} → IsAttempt b → Attempts b mid before r new now → WentOn transaction_bound old first new now
+  pub went_last : {b : Attempt} {r : Result Outcome BusFault} {new : World} {now : Option (List ℕ)} → IsAttempt b → Attempts b mid before r new now → StepRun transaction_bound old first new now
   went_last {b} {r} {new} fits x = record {
     spends = spends_wider (3 * t.waits + t.errors + 1) transaction_bound old new (spends_then (3 * t.waits + t.errors) 1 old mid new s.going.spends x.counts.spends) (omega (arith, s.few, s.calm));
     traced = attempted b r fits s.traced x;
@@ -125,21 +125,21 @@ module _ {hear : Outcome → HeardOutcome} {a : Attempt} {t : Tries} {old mid : 
   pub told_cut : {b : Attempt} {fault : BusFault} {new : World} {now : Option (List ℕ)} → b ≡ a
       → IsAttempt b → Attempts b mid before (Err fault) new now
       → Transacted hear a old (Err (Bus fault)) new
-  told_cut is fits x = cut_off is s.going fits x
+  told_cut is fits x = going_cut_off is s.going fits x
 
-  module _ {o : Outcome} {new : World} {now : Option (List ℕ)} (one : Once a mid before o new now) where
-    pub stands_error : (u : Tries) → Lost ≡ hear o → u ≡ record t { errors = t.errors + 1 } → u.errors < 3 → Stands hear a u old first new now
+  module _ {o : Outcome} {new : World} {now : Option (List ℕ)} (one : AttemptedOnce a mid before o new now) where
+    pub stands_error : (u : Tries) → Lost ≡ hear o → u ≡ record t { errors = t.errors + 1 } → u.errors < 3 → TryStands hear a u old first new now
     stands_error u lost is few =
         let two : t.errors + 1 < 3 = subst (λ x. x.errors < 3) is few in
-        subst (λ x. Stands hear a x old first new now) (sym is)
+        subst (λ x. TryStands hear a x old first new now) (sym is)
         (record { few = two; calm = s.calm; going = going_error t.errors t.waits two s.calm s.going
             one lost; traced = attempted a (Ok o) one.fits s.traced one.made })
 
-    pub stands_waited : (h : HeardOutcome) (u : Tries) → h ≡ hear o → IsWait h → u ≡ record t { errors = 0; waits = t.waits + 1 } → u.waits < 256 → Stands hear a u old first new now
+    pub stands_waited : (h : HeardOutcome) (u : Tries) → h ≡ hear o → IsWait h → u ≡ record t { errors = 0; waits = t.waits + 1 } → u.waits < 256 → TryStands hear a u old first new now
     stands_waited h u heard wait is calm =
         let less : t.waits + 1 < 256 = subst (λ x. x.waits < 256) is calm in
         let w : Waits (hear o) = subst Waits heard (waits_of h wait) in
-        subst (λ x. Stands hear a x old first new now) (sym is)
+        subst (λ x. TryStands hear a x old first new now) (sym is)
         (record {
           few = omega arith;
           calm = less;
@@ -147,8 +147,8 @@ module _ {hear : Outcome → HeardOutcome} {a : Attempt} {t : Tries} {old mid : 
           traced = attempted a (Ok o) one.fits s.traced one.made;
         })
 
-    ended : (result : Result (List ℕ) TransFault) → Tells hear result o s.going.outcomes → Ended hear a old result new
-    ended result tells = record { outcomes = s.going.outcomes; last = o; trail = one_more s.going.trail one; onward = s.going.onward; tells = tells }
+    ended : (result : Result (List ℕ) TransFault) → LastOutcome hear result o s.going.outcomes → TransactionDone hear a old result new
+    ended result tells = record { outcomes = s.going.outcomes; last = o; trail = trail_more s.going.trail one; onward = s.going.onward; tells = tells }
 
     pub told_moved : (bytes : ArrayVec ℕ) → hear o ≡ Moved bytes
         → Transacted hear a old (Ok bytes.items) new
@@ -177,11 +177,11 @@ module _ {hear : Outcome → HeardOutcome} {a : Attempt} {t : Tries} {old mid : 
 
 -- a poll that a NAK ended
 pub told_waiting : {toggle : Toggle} {a : Attempt} {t : Tries} {o : Outcome} {old mid new : World}
-    {first before now : Option (List ℕ)} → Stands (polled_as toggle) a t old first mid before
-    → Once a mid before o new now → o ≡ Nak → Waiting toggle a old new
+    {first before now : Option (List ℕ)} → TryStands (polled_as toggle) a t old first mid before
+    → AttemptedOnce a mid before o new now → o ≡ Nak → Waiting toggle a old new
 told_waiting {toggle} {a} {t} {o} {old} {mid} {new} s one is = record {
   outcomes = s.going.outcomes;
-  trail = subst (λ x. Trail a old (x ∷ s.going.outcomes) new) is (one_more s.going.trail one);
+  trail = subst (λ x. AttemptLog a old (x ∷ s.going.outcomes) new) is (trail_more s.going.trail one);
   onward = s.going.onward;
 }
 
@@ -195,27 +195,27 @@ set_up_moved o e = grind arith
 
 -- after n attempts none of which was acknowledged
 pub record SetUpStands (a : Attempt) (n : ℕ) (old : World) (first : Option (List ℕ)) (now : World) (text : Option (List ℕ)) : Type 0 where
-  pub spends : Spends n old now
-  pub going : n < 3 → Going set_up_as a n 0 old now
-  pub ended : n ≡ 3 → Ended set_up_as a old (Err NoAnswer) now
+  pub spends : AttemptsWithin n old now
+  pub going : n < 3 → TryingOn set_up_as a n 0 old now
+  pub ended : n ≡ 3 → TransactionDone set_up_as a old (Err NoAnswer) now
   pub traced : Traced old first now text
 
 pub set_up_new : {a : Attempt} {text : Option (List ℕ)} (w : World) → SetUpStands a 0 w text w text
 set_up_new w = record {
   spends = spends_none w;
-  going = λ n. going_none w;
+  going = λ n. trying_none w;
   ended = λ e. absurd (omega (arith, e));
   traced = still;
 }
 
 module _ {a : Attempt} {n : ℕ} {old mid : World} {first before : Option (List ℕ)} (few : n < 3) (s : SetUpStands a n old first mid before) where
-  pub set_up_went : {b : Attempt} {r : Result Outcome BusFault} {new : World} {now : Option (List ℕ)} → IsAttempt b → Attempts b mid before r new now → WentOn 3 old first new now
+  pub set_up_went : {b : Attempt} {r : Result Outcome BusFault} {new : World} {now : Option (List ℕ)} → IsAttempt b → Attempts b mid before r new now → StepRun 3 old first new now
   set_up_went {b} {r} {new} fits x = record { spends = spends_wider (n + 1) 3 old new (spends_then n 1 old mid new s.spends x.counts.spends) (omega (arith, few)); traced = attempted b r fits s.traced x }
 
-  set_up_ended : {o : Outcome} {new : World} {now : Option (List ℕ)} (result : Result (List ℕ) TransFault) → Once a mid before o new now → Tells set_up_as result o (s.going few).outcomes → Ended set_up_as a old result new
-  set_up_ended {o} result one tells = record { outcomes = (s.going few).outcomes; last = o; trail = one_more (s.going few).trail one; onward = (s.going few).onward; tells = tells }
+  set_up_ended : {o : Outcome} {new : World} {now : Option (List ℕ)} (result : Result (List ℕ) TransFault) → AttemptedOnce a mid before o new now → LastOutcome set_up_as result o (s.going few).outcomes → TransactionDone set_up_as a old result new
+  set_up_ended {o} result one tells = record { outcomes = (s.going few).outcomes; last = o; trail = trail_more (s.going few).trail one; onward = (s.going few).onward; tells = tells }
 
-  pub set_up_again : {o : Outcome} {new : World} {now : Option (List ℕ)} → Once a mid before o new now → acks o ≡ false → SetUpStands a (n + 1) old first new now
+  pub set_up_again : {o : Outcome} {new : World} {now : Option (List ℕ)} → AttemptedOnce a mid before o new now → acks o ≡ false → SetUpStands a (n + 1) old first new now
   set_up_again {o} {new} one not = record {
     spends = spends_then n 1 old mid new s.spends one.made.counts.spends;
     going = λ more. going_error n 0 more (omega arith) (s.going few) one (set_up_lost o not);
@@ -224,16 +224,16 @@ module _ {a : Attempt} {n : ℕ} {old mid : World} {first before : Option (List 
   }
 
   pub set_up_told : {o : Outcome} {new : World} {now : Option (List ℕ)}
-      → Once a mid before o new now → acks o ≡ true → Transacted set_up_as a old (Ok []) new
+      → AttemptedOnce a mid before o new now → acks o ≡ true → Transacted set_up_as a old (Ok []) new
   set_up_told {o} one is = set_up_ended (Ok []) one (set_up_moved o is)
 
   pub set_up_cut : {b : Attempt} {fault : BusFault} {new : World} {now : Option (List ℕ)} → b ≡ a
       → IsAttempt b → Attempts b mid before (Err fault) new now
       → Transacted set_up_as a old (Err (Bus fault)) new
-  set_up_cut is fits x = cut_off is (s.going few) fits x
+  set_up_cut is fits x = going_cut_off is (s.going few) fits x
 
 -- all three
-pub set_up_spent : {a : Attempt} {n : ℕ} {old now : World} {first text : Option (List ℕ)} → n ≤ 3 → SetUpStands a n old first now text → WentOn 3 old first now text
+pub set_up_spent : {a : Attempt} {n : ℕ} {old now : World} {first text : Option (List ℕ)} → n ≤ 3 → SetUpStands a n old first now text → StepRun 3 old first now text
 set_up_spent {n = n} {old = old} {now = now} le s = record { spends = spends_wider n 3 old now s.spends le; traced = s.traced }
 
 -- How many attempts came before each answer
@@ -243,11 +243,11 @@ record Lasted (n : ℕ) (old new : World) : Type 0 where
   least : old.attempts + n ≤ new.attempts
   sound : new.fault ≡ None → old.fault ≡ None
 
-trail_lasted : {a : Attempt} {old new : World} {outcomes : List Outcome} → Trail a old outcomes new → Lasted (length outcomes) old new
+trail_lasted : {a : Attempt} {old new : World} {outcomes : List Outcome} → AttemptLog a old outcomes new → Lasted (length outcomes) old new
 trail_lasted start = record { least = omega arith; sound = λ e. e }
 trail_lasted (next w t made) = let x = trail_lasted t in record { least = omega (arith, x.least, made.one); sound = λ _. x.sound made.sound }
 
-trail_worked : {a : Attempt} {old new : World} {last : Outcome} {outcomes : List Outcome} (n : ℕ) → n ≤ length (last ∷ outcomes) → Trail a old (last ∷ outcomes) new → Worked n old new
+trail_worked : {a : Attempt} {old new : World} {last : Outcome} {outcomes : List Outcome} (n : ℕ) → n ≤ length (last ∷ outcomes) → AttemptLog a old (last ∷ outcomes) new → AttemptsMade n old new
 trail_worked n le (next w t made) = let x = trail_lasted t in record { sound = x.sound made.sound; least = omega (arith, x.least, made.one, le); still = made.still }
 
 -- an outcome is at most one error and one wait

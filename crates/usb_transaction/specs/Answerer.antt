@@ -1,7 +1,7 @@
 -- Who answered.
 use Rattle.std.specs.Prelude.{◌≡◌, Some, true, ⊤}
 use Rattle.usb_device.specs.Rows.{State}
-use Rattle.usb_device.specs.Tree.{Spot, reach_on, state_on}
+use Rattle.usb_device.specs.Tree.{Location, reach_on, state_on}
 use Rattle.usb_world.specs.World.{World}
 use Rattle.usb_transaction.specs.declared.target.Target.{Target}
 use Rattle.usb_transaction.specs.declared.fault.TransFault.{TransFault}
@@ -10,7 +10,7 @@ use Rattle.usb_transaction.specs.Leaves.{is_at}
 
 -- a device that is reachable now, and was before: then the target's address was its own
 pub record Answerer (t : Target) (old new : World) : Type 0 where
-  pub spot : Spot
+  pub spot : Location
   pub now : State
   pub on : reach_on new.roots spot ≡ true
   pub stands : state_on new.roots spot ≡ Some now
@@ -21,7 +21,7 @@ pub record Answerer (t : Target) (old new : World) : Type 0 where
 
 -- some reachable device has the target's address
 pub record HadOne (t : Target) (w : World) : Type 0 where
-  pub spot : Spot
+  pub spot : Location
   pub state : State
   pub on : reach_on w.roots spot ≡ true
   pub stands : state_on w.roots spot ≡ Some state

@@ -1,5 +1,5 @@
 -- What each call tells: what was heard, what it leaves of each device, why it failed and who answered.
-use Rattle.usb_device.specs.Tree.{Spot}
+use Rattle.usb_device.specs.Tree.{Location}
 use Rattle.std.specs.Prelude.{◌≡◌, ◌≢◌, ◌≤◌, ℕ, List, [], length, false, Option, Result, Ok, Err, IfOk, IfSome, OnOk, ⊤}
 use Rattle.usb_packet.specs.declared.Toggle.{Toggle}
 use Rattle.usb_packet.specs.declared.Toggle.TheVariants.{One}
@@ -18,9 +18,9 @@ use Rattle.usb_transaction.specs.HeardOutcomes.{heard_as, heard_when_sent, set_u
 use Rattle.usb_transaction.specs.AskedDevices.{SetupAccepted, Answered, Took, IsUnheard}
 use Rattle.usb_transaction.specs.Leaves.{IsNotOfBus, ControlIn, ReadStatus, SourceIn, SinkOut, ChangesIn, SetupDone}
 use Rattle.usb_transaction.specs.SparedDevices.{EachSpared}
-use Rattle.usb_transaction.specs.Trail.{Transacted, Polled}
+use Rattle.usb_transaction.specs.AttemptLog.{Transacted, Polled}
 use Rattle.usb_transaction.specs.Transactions.{Ends, SetupEnds, packed, setup_attempt, in_attempt, out_attempt}
-use Rattle.usb_transaction.specs.Failures.{NoThreeDamaged, WhySetup, WhyControlIn, WhyReadStatus, WhySourceIn, WhySinkOut, WhyPoll}
+use Rattle.usb_transaction.specs.Failures.{NoThreeDamaged, SetupFailure, ControlInFailure, StatusReadFailure, SourceInFailure, SinkOutFailure, PollFailure}
 
 -- nothing but the device hindered a call: no three attempts running are damaged, the bus did not
 -- give up, and no address was ever held twice
@@ -45,19 +45,19 @@ pub record SetsUp (t : Target) (bytes : List ℕ) (old : World) (result : Result
   pub ends : SetupEnds old result new
   pub nothing : IfOk result (λ done. done ≡ [])
   pub what : new.shared ≡ false → EachSpared t (setup_of bytes) (SetupDone t bytes result old new) old new
-  pub why : IsUnhindered old result new → EachSpared t (setup_of bytes) (WhySetup t result) old new
+  pub why : IsUnhindered old result new → EachSpared t (setup_of bytes) (SetupFailure t result) old new
   pub who : OnOk result ((is_harmless (setup_of bytes) ≡ false → t.addr ≢ 0) → new.shared ≡ false → Answerer t old new)
   pub means : MeansOfSetup t bytes old result new
 
 -- IN, of endpoint 0 or of a bulk endpoint
 
-pub record InLeaves (t : Target) (ep : ℕ) (awaited : Toggle) (result : Result (List ℕ) TransFault) (x : Spot) (s v : State) : Type 0 where
+pub record InLeaves (t : Target) (ep : ℕ) (awaited : Toggle) (result : Result (List ℕ) TransFault) (x : Location) (s v : State) : Type 0 where
   pub control : ep ≡ 0 → ControlIn t awaited result x s v
   pub bulk : SourceIn t ep awaited result x s v
 
-pub record WhyIn (t : Target) (ep : ℕ) (awaited : Toggle) (result : Result (List ℕ) TransFault) (x : Spot) (s v : State) : Type 0 where
-  pub control : ep ≡ 0 → WhyControlIn t awaited result x s v
-  pub bulk : WhySourceIn t ep awaited result x s v
+pub record InFailure (t : Target) (ep : ℕ) (awaited : Toggle) (result : Result (List ℕ) TransFault) (x : Location) (s v : State) : Type 0 where
+  pub control : ep ≡ 0 → ControlInFailure t awaited result x s v
+  pub bulk : SourceInFailure t ep awaited result x s v
 
 -- data that came were given by the one device that held the address, and a STALL was its own (8.5.2)
 abbrev pub MeansOfIn : Target → ℕ → Toggle → World → Result (List ℕ) TransFault → World → Type 0
@@ -72,19 +72,19 @@ pub record AsksIn (t : Target) (ep : ℕ) (awaited : Toggle) (old : World) (resu
   pub ends : Ends old result new
   pub short : IfOk result (λ bytes. length bytes ≤ t.max)
   pub what : new.shared ≡ false → EachWas (InLeaves t ep awaited result) old new
-  pub why : IsUnhindered old result new → EachWas (WhyIn t ep awaited result) old new
+  pub why : IsUnhindered old result new → EachWas (InFailure t ep awaited result) old new
   pub who : OnOk result (new.shared ≡ false → Answerer t old new)
   pub means : MeansOfIn t ep awaited old result new
 
 -- OUT: of endpoint 0 the one that ends a control read, or of a bulk endpoint
 
-pub record OutLeaves (t : Target) (ep : ℕ) (toggle : Toggle) (bytes : List ℕ) (result : Result (List ℕ) TransFault) (x : Spot) (s v : State) : Type 0 where
+pub record OutLeaves (t : Target) (ep : ℕ) (toggle : Toggle) (bytes : List ℕ) (result : Result (List ℕ) TransFault) (x : Location) (s v : State) : Type 0 where
   pub control : ep ≡ 0 → toggle ≡ One → bytes ≡ [] → ReadStatus t result x s v
   pub bulk : SinkOut t ep toggle bytes result x s v
 
-pub record WhyOut (t : Target) (ep : ℕ) (toggle : Toggle) (bytes : List ℕ) (result : Result (List ℕ) TransFault) (x : Spot) (s v : State) : Type 0 where
-  pub control : ep ≡ 0 → toggle ≡ One → bytes ≡ [] → WhyReadStatus t result x s v
-  pub bulk : WhySinkOut t ep toggle bytes result x s v
+pub record OutFailure (t : Target) (ep : ℕ) (toggle : Toggle) (bytes : List ℕ) (result : Result (List ℕ) TransFault) (x : Location) (s v : State) : Type 0 where
+  pub control : ep ≡ 0 → toggle ≡ One → bytes ≡ [] → StatusReadFailure t result x s v
+  pub bulk : SinkOutFailure t ep toggle bytes result x s v
 
 -- data that were acknowledged were taken by the one device that held the address, and a STALL was its own (8.5.2)
 abbrev pub MeansOfOut : Target → ℕ → Toggle → List ℕ → World → Result (List ℕ) TransFault → World → Type 0
@@ -99,7 +99,7 @@ pub record SendsOut (t : Target) (ep : ℕ) (toggle : Toggle) (bytes : List ℕ)
   pub ends : Ends old result new
   pub nothing : IfOk result (λ done. done ≡ [])
   pub what : new.shared ≡ false → EachWas (OutLeaves t ep toggle bytes result) old new
-  pub why : IsUnhindered old result new → EachWas (WhyOut t ep toggle bytes result) old new
+  pub why : IsUnhindered old result new → EachWas (OutFailure t ep toggle bytes result) old new
   pub who : OnOk result (new.shared ≡ false → Answerer t old new)
   pub means : MeansOfOut t ep toggle bytes old result new
 
@@ -110,5 +110,5 @@ pub record PollsIn (t : Target) (ep : ℕ) (toggle : Toggle) (old : World) (resu
   pub ends : Ends old result new
   pub short : IfOk result (λ got. IfSome got (λ bytes. length bytes ≤ t.max))
   pub what : ep ≡ 1 → new.shared ≡ false → EachWas (ChangesIn t toggle old result new) old new
-  pub why : ep ≡ 1 → IsUnhindered old result new → EachWas (WhyPoll t toggle result) old new
+  pub why : ep ≡ 1 → IsUnhindered old result new → EachWas (PollFailure t toggle result) old new
   pub who : OnOk result (new.shared ≡ false → Answerer t old new)

@@ -1,5 +1,5 @@
 -- Why a transaction fails, where no three attempts running are damaged.
-use Rattle.usb_device.specs.Tree.{Spot}
+use Rattle.usb_device.specs.Tree.{Location}
 use Rattle.std.specs.Prelude.{◌≡◌, ◌≢◌, ℕ, ◌≤◌, ◌<◌, List, length, true, false, Option, Some, is_some, Result, Err}
 use Rattle.usb_packet.specs.declared.Toggle.{Toggle}
 use Rattle.usb_packet.specs.declared.Toggle.TheVariants.{One}
@@ -22,7 +22,7 @@ abbrev pub NoThreeDamaged : World → Type 0
 NoThreeDamaged w = AtMostTwoRunning w.damages
 
 -- the device has the target's address, is not silent, and hears what is sent to the target
-pub record Listens (t : Target) (x : Spot) (s : State) : Type 0 where
+pub record Listens (t : Target) (x : Location) (s : State) : Type 0 where
   pub at : is_at s t ≡ true
   pub loud : s.spec.silent ≡ false
   pub hears : hears_attempt (in_attempt t 0) (deep_at false x.rest) s ≡ true
@@ -39,30 +39,30 @@ pub data HasNext (t : Target) (awaited : Toggle) (s : State) : Type 0 where
   refusal : s.stage ≡ refused → HasNext t awaited s
 
 -- setup data: a device that hears them answers
-pub record WhySetup (t : Target) (result : Result (List ℕ) TransFault) (x : Spot) (s v : State) : Type 0 where
+pub record SetupFailure (t : Target) (result : Result (List ℕ) TransFault) (x : Location) (s v : State) : Type 0 where
   pub answered : Listens t x s → result ≢ Err NoAnswer
 
 -- a device that has it answers, and only a busy one goes on waiting
-pub record WhyControlIn (t : Target) (awaited : Toggle) (result : Result (List ℕ) TransFault) (x : Spot) (s v : State) : Type 0 where
+pub record ControlInFailure (t : Target) (awaited : Toggle) (result : Result (List ℕ) TransFault) (x : Location) (s v : State) : Type 0 where
   pub answered : Listens t x s → HasNext t awaited s → result ≢ Err NoAnswer
   pub waited : Listens t x s → HasNext t awaited s → s.spec.busy ≡ false → s.naks ≤ 200 → result ≢ Err Busy
 
 -- the status stage of a control read
-pub record WhyReadStatus (t : Target) (result : Result (List ℕ) TransFault) (x : Spot) (s v : State) : Type 0 where
+pub record StatusReadFailure (t : Target) (result : Result (List ℕ) TransFault) (x : Location) (s v : State) : Type 0 where
   pub answered : Listens t x s → IsInRead s → result ≢ Err NoAnswer
   pub waited : Listens t x s → IsInRead s → s.spec.busy ≡ false → s.naks ≤ 200 → result ≢ Err Busy
 
 -- bulk IN: an endpoint answers; where it has bytes left, or is halted, it does not keep the host waiting
-pub record WhySourceIn (t : Target) (ep : ℕ) (awaited : Toggle) (result : Result (List ℕ) TransFault) (x : Spot) (s v : State) : Type 0 where
+pub record SourceInFailure (t : Target) (ep : ℕ) (awaited : Toggle) (result : Result (List ℕ) TransFault) (x : Location) (s v : State) : Type 0 where
   pub answered : Listens t x s → (most got : ℕ) → IsSource ep most s → SourceAt most got awaited s → most ≤ t.max → result ≢ Err NoAnswer
   pub waited : Listens t x s → (most got : ℕ) → IsSource ep most s → 1 ≤ most → SourceAt most got awaited s → most ≤ t.max → got < length s.spec.source → result ≢ Err Busy
   pub halted : Listens t x s → (most : ℕ) → IsSource ep most s → s.bulk_in.halted ≡ true → (result ≢ Err NoAnswer) × (result ≢ Err Busy)
 
 -- bulk OUT: an endpoint answers and never waits
-pub record WhySinkOut (t : Target) (ep : ℕ) (toggle : Toggle) (bytes : List ℕ) (result : Result (List ℕ) TransFault) (x : Spot) (s v : State) : Type 0 where
+pub record SinkOutFailure (t : Target) (ep : ℕ) (toggle : Toggle) (bytes : List ℕ) (result : Result (List ℕ) TransFault) (x : Location) (s v : State) : Type 0 where
   pub answered : Listens t x s → (most : ℕ) → IsSink ep most s → length bytes ≤ most → result ≢ Err NoAnswer
   pub waited : Listens t x s → (most : ℕ) → IsSink ep most s → result ≢ Err Busy
 
 -- a hub's status endpoint that is not halted gives a byte, or says that there is none
-pub record WhyPoll (t : Target) (toggle : Toggle) (result : Result (Option (List ℕ)) TransFault) (x : Spot) (s v : State) : Type 0 where
+pub record PollFailure (t : Target) (toggle : Toggle) (result : Result (Option (List ℕ)) TransFault) (x : Location) (s v : State) : Type 0 where
   pub answered : Listens t x s → tells_changes s.spec s.registers ≡ true → PollAt NeverTold toggle s → s.changes.halted ≡ false → (fault : TransFault) → result ≡ Err fault → ⊥

@@ -10,18 +10,18 @@ use Rattle.usb_device.specs.Bulk.{advanced, tells_changes, change_bits}
 use Rattle.usb_device.specs.Effect.{asked_by_setup}
 use Rattle.usb_device.specs.Rows.{State, accepted}
 use Rattle.usb_device.specs.Transfer.{ending, reading, refused as stage_refused, toggle_at}
-use Rattle.usb_device.specs.Tree.{Ports, full, acted, row_of, Spot, place_on}
+use Rattle.usb_device.specs.Tree.{Ports, full, acted, row_of, Location, place_on}
 use Rattle.usb_device.specs.Progress.{ReadingAt, ReadOn, StatusOn, StatusGiven, IsRead, IsSource, SourceAt, SourceOn, IsSink, SinkAt, Joined, PollAt, NeverTold, ToldByte, OnlyControl, OnlyStage, OnlySource, OnlySink, OnlyChanges}
 use Rattle.usb_world.specs.declared.types.Attempt.{Attempt}
 use Rattle.usb_world.specs.declared.types.Outcome.{Outcome}
 use Rattle.usb_world.specs.Paths.{address_of}
 use Rattle.usb_world.specs.World.{World}
 use Rattle.usb_world.specs.OneHolder.{HolderIn}
-use Rattle.usb_world.specs.Steps.{ready, attempt, after}
+use Rattle.usb_world.specs.Steps.{at_attempt, attempt, after}
 use Rattle.usb_transaction.specs.declared.target.Target.{Target}
 use Rattle.usb_transaction.specs.declared.fault.TransFault.{TransFault}
 use Rattle.usb_transaction.specs.declared.fault.TransFault.TheVariants.{Stalled, Busy, NoAnswer, Bus}
-use Rattle.usb_transaction.specs.Trail.{Trail}
+use Rattle.usb_transaction.specs.AttemptLog.{AttemptLog}
 use Rattle.usb_transaction.specs.Transactions.{in_attempt, setup_attempt}
 
 -- the call did not end because the bus gave up
@@ -71,7 +71,7 @@ StatusEnds a s (Err NoAnswer) v = StatusOn a s None v
 StatusEnds a s (Err (Bus fault)) v = StatusGiven a s v
 
 -- IN of endpoint 0, by a host that awaits a toggle (8.5.3)
-pub record ControlIn (t : Target) (awaited : Toggle) (result : Result (List ℕ) TransFault) (x : Spot) (s v : State) : Type 0 where
+pub record ControlIn (t : Target) (awaited : Toggle) (result : Result (List ℕ) TransFault) (x : Location) (s v : State) : Type 0 where
   pub others : is_at s t ≡ false → v ≡ s
   pub frame : OnlyControl s v
   pub reading : is_at s t ≡ true → (answer : List ℕ) (wanted n : ℕ) → awaited ≡ toggle_at n → ReadingAt answer wanted n s → ReadEnds answer wanted n s result v
@@ -89,7 +89,7 @@ pub data IsInRead (s : State) : Type 0 where
   over : IsRead s → IsInRead s
 
 -- OUT of no bytes to endpoint 0 with DATA1, which ends a control read (8.5.3)
-pub record ReadStatus (t : Target) (result : Result (List ℕ) TransFault) (x : Spot) (s v : State) : Type 0 where
+pub record ReadStatus (t : Target) (result : Result (List ℕ) TransFault) (x : Location) (s v : State) : Type 0 where
   pub others : is_at s t ≡ false → v ≡ s
   pub frame : OnlyStage s v
   pub kept : (v.stage ≡ s.stage) ⊎ IsRead v
@@ -111,7 +111,7 @@ SourceEnds most got awaited s (Err NoAnswer) v = SourceOn most got awaited s Non
 SourceEnds most got awaited s (Err (Bus fault)) v = SourceCut most got awaited s v
 
 -- IN of a bulk endpoint (5.8)
-pub record SourceIn (t : Target) (ep : ℕ) (awaited : Toggle) (result : Result (List ℕ) TransFault) (x : Spot) (s v : State) : Type 0 where
+pub record SourceIn (t : Target) (ep : ℕ) (awaited : Toggle) (result : Result (List ℕ) TransFault) (x : Location) (s v : State) : Type 0 where
   pub others : is_at s t ≡ false → v ≡ s
   pub frame : (most : ℕ) → IsSource ep most s → OnlySource s v
   pub source : is_at s t ≡ true → (most got : ℕ) → IsSource ep most s → 1 ≤ most → SourceAt most got awaited s → SourceEnds most got awaited s result v
@@ -119,7 +119,7 @@ pub record SourceIn (t : Target) (ep : ℕ) (awaited : Toggle) (result : Result 
   pub halted : is_at s t ≡ true → (most : ℕ) → IsSource ep most s → s.bulk_in.halted ≡ true → (v ≡ s) × ((bytes : List ℕ) → result ≡ Ok bytes → ⊥)
 
 -- between two of its attempts both ends are as far as they were
-pub record SourceBetween (t : Target) (ep : ℕ) (awaited : Toggle) (x : Spot) (s v : State) : Type 0 where
+pub record SourceBetween (t : Target) (ep : ℕ) (awaited : Toggle) (x : Location) (s v : State) : Type 0 where
   pub others : is_at s t ≡ false → v ≡ s
   pub frame : (most : ℕ) → IsSource ep most s → OnlySource s v
   pub source : is_at s t ≡ true → (most got : ℕ) → IsSource ep most s → 1 ≤ most → SourceAt most got awaited s → SourceAt most got awaited v
@@ -133,38 +133,38 @@ SinkEnds before bytes toggle (Err NoAnswer) v = SinkAt before bytes toggle v
 SinkEnds before bytes toggle (Err (Bus fault)) v = SinkAt before bytes toggle v
 
 -- OUT of a bulk endpoint (5.8)
-pub record SinkOut (t : Target) (ep : ℕ) (toggle : Toggle) (bytes : List ℕ) (result : Result (List ℕ) TransFault) (x : Spot) (s v : State) : Type 0 where
+pub record SinkOut (t : Target) (ep : ℕ) (toggle : Toggle) (bytes : List ℕ) (result : Result (List ℕ) TransFault) (x : Location) (s v : State) : Type 0 where
   pub others : is_at s t ≡ false → v ≡ s
   pub frame : (most : ℕ) → IsSink ep most s → OnlySink s v
   pub sink : is_at s t ≡ true → (most : ℕ) (before : List ℕ) → IsSink ep most s → length bytes ≤ most → SinkAt before bytes toggle s → SinkEnds before bytes toggle result v
   pub halted : is_at s t ≡ true → (most : ℕ) → IsSink ep most s → s.bulk_out.halted ≡ true → (v ≡ s) × ((done : List ℕ) → result ≡ Ok done → ⊥)
 
 -- between two of its attempts the packet joined what the device took, or did not yet
-pub record SinkBetween (t : Target) (ep : ℕ) (toggle : Toggle) (bytes : List ℕ) (x : Spot) (s v : State) : Type 0 where
+pub record SinkBetween (t : Target) (ep : ℕ) (toggle : Toggle) (bytes : List ℕ) (x : Location) (s v : State) : Type 0 where
   pub others : is_at s t ≡ false → v ≡ s
   pub frame : (most : ℕ) → IsSink ep most s → OnlySink s v
   pub sink : is_at s t ≡ true → (most : ℕ) (before : List ℕ) → IsSink ep most s → length bytes ≤ most → SinkAt before bytes toggle s → SinkAt before bytes toggle v
 
 -- the hub's ports told these bits when one of the attempts of a poll was made, and since then the same was attempted, and nothing else
-pub record ToldIn (a : Attempt) (old new : World) (x : Spot) (bits : ℕ) : Type 0 where
+pub record ToldIn (a : Attempt) (old new : World) (x : Location) (bits : ℕ) : Type 0 where
   pub outcomes : List Outcome
   pub mid : World
-  pub trail : Trail a old outcomes mid
+  pub trail : AttemptLog a old outcomes mid
   pub b : PortState
   pub s : State
   pub below : Ports
-  pub stood : place_on (ready mid).roots x ≡ Some (full b s below)
+  pub stood : place_on (at_attempt mid).roots x ≡ Some (full b s below)
   pub told : bits ≡ change_bits (row_of below)
   pub later : List Outcome
-  pub since : Trail a mid later new
+  pub since : AttemptLog a mid later new
 
 -- and the events that were due when it was made have come
-pub record ToldSince (a : Attempt) (old new : World) (x : Spot) (bits : ℕ) : Type 0 where
+pub record ToldSince (a : Attempt) (old new : World) (x : Location) (bits : ℕ) : Type 0 where
   pub told : ToldIn a old new x bits
-  pub came : (ready told.mid).taken ≤ new.taken
+  pub came : (at_attempt told.mid).taken ≤ new.taken
 
 -- up to the end of a poll that is done; where it failed, up to some moment of it
-abbrev pub ToldBy : Attempt → World → Result (Option (List ℕ)) TransFault → World → Spot → ℕ → Type 0
+abbrev pub ToldBy : Attempt → World → Result (Option (List ℕ)) TransFault → World → Location → ℕ → Type 0
 ToldBy a old (Ok got) new x bits = ToldSince a old new x bits
 ToldBy a old (Err fault) new x bits = (now : World) × ToldIn a old now x bits
 
@@ -186,17 +186,17 @@ PollEnds Told toggle (Err NoAnswer) v = PollAt (ToldSome Told) toggle v
 PollEnds Told toggle (Err (Bus fault)) v = PollCut Told toggle v
 
 -- a poll of a hub's status endpoint (11.12.3)
-pub record ChangesIn (t : Target) (toggle : Toggle) (old : World) (result : Result (Option (List ℕ)) TransFault) (new : World) (x : Spot) (s v : State) : Type 0 where
+pub record ChangesIn (t : Target) (toggle : Toggle) (old : World) (result : Result (Option (List ℕ)) TransFault) (new : World) (x : Location) (s v : State) : Type 0 where
   pub others : is_at s t ≡ false → v ≡ s
   pub frame : tells_changes s.spec s.registers ≡ true → OnlyChanges s v
   pub poll : is_at s t ≡ true → tells_changes s.spec s.registers ≡ true → PollAt NeverTold toggle s → PollEnds (ToldBy (in_attempt t 1) old result new x) toggle result v
 
 -- A device accepted setup data in the attempt that left this world: it alone held the address, it is what the request makes, with the ports it had there, of what it
 -- was before the transaction, and what the request asks of its ports is done (8.5.3, 11.24.2)
-pub record AcceptedAt (t : Target) (bytes : List ℕ) (old now : World) (x : Spot) (s v : State) : Type 0 where
+pub record AcceptedAt (t : Target) (bytes : List ℕ) (old now : World) (x : Location) (s v : State) : Type 0 where
   pub outcomes : List Outcome
   pub mid : World
-  pub trail : Trail (setup_attempt t bytes) old outcomes mid
+  pub trail : AttemptLog (setup_attempt t bytes) old outcomes mid
   pub last : now ≡ after (attempt (setup_attempt t bytes)) mid
   pub holder : HolderIn (setup_attempt t bytes) mid
   pub there : holder.spot ≡ x
@@ -204,12 +204,12 @@ pub record AcceptedAt (t : Target) (bytes : List ℕ) (old now : World) (x : Spo
   pub left : place_on now.roots x ≡ Some (full holder.port v (acted (asked_by_setup s (setup_of bytes)) holder.below))
 
 -- so it was at one of the attempts
-pub record AcceptedSince (t : Target) (bytes : List ℕ) (old : World) (x : Spot) (s v : State) : Type 0 where
+pub record AcceptedSince (t : Target) (bytes : List ℕ) (old : World) (x : Location) (s v : State) : Type 0 where
   pub now : World
   pub at : AcceptedAt t bytes old now x s v
 
 -- SETUP (8.5.3): where it is done, its last attempt was accepted
-pub record SetupDone (t : Target) (bytes : List ℕ) (result : Result (List ℕ) TransFault) (old new : World) (x : Spot) (s v : State) : Type 0 where
+pub record SetupDone (t : Target) (bytes : List ℕ) (result : Result (List ℕ) TransFault) (old new : World) (x : Location) (s v : State) : Type 0 where
   pub others : is_at s t ≡ false → v ≡ s
   pub kept : (v ≡ s) ⊎ AcceptedSince t bytes old x s v
   pub done : is_at s t ≡ true → (got : List ℕ) → result ≡ Ok got → AcceptedAt t bytes old new x s v

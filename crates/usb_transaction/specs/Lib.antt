@@ -1,6 +1,6 @@
 pub mod HeardOutcomes
 pub mod Transactions
-pub mod Trail
+pub mod AttemptLog
 pub mod AskedDevices
 pub mod Leaves
 pub mod Failures

@@ -2,7 +2,7 @@
 use Rattle.std.specs.Prelude.{◌≡◌, ◌≢◌, Some, true, false}
 use Rattle.usb_request.specs.declared.setup.Setup.{Setup}
 use Rattle.usb_device.specs.Rows.{State}
-use Rattle.usb_device.specs.Tree.{Spot, reach_on, state_on}
+use Rattle.usb_device.specs.Tree.{Location, reach_on, state_on}
 use Rattle.usb_world.specs.Paths.{address_of}
 use Rattle.usb_world.specs.Courses.{is_harmless}
 use Rattle.usb_world.specs.Devices.{Relation, Was}
@@ -15,4 +15,4 @@ IsSpared t request s = is_harmless request ≡ false → (t.addr ≢ 0) × (addr
 
 -- so it is of each device that is reachable in the new world and was not reset
 abbrev pub EachSpared : Target → Setup → Relation → World → World → Type 0
-EachSpared t request R old new = (x : Spot) (s : State) → reach_on new.roots x ≡ true → state_on new.roots x ≡ Some s → IsSpared t request s → Was R old x s
+EachSpared t request R old new = (x : Location) (s : State) → reach_on new.roots x ≡ true → state_on new.roots x ≡ Some s → IsSpared t request s → Was R old x s

@@ -42,23 +42,23 @@ abbrev pub transaction_bound : ℕ
 transaction_bound = 768
 
 -- at least n attempts were made, and the bus is still at work
-pub record Worked (n : ℕ) (old new : World) : Type 0 where
+pub record AttemptsMade (n : ℕ) (old new : World) : Type 0 where
   pub sound : old.fault ≡ None
   pub least : old.attempts + n ≤ new.attempts
   pub still : new.fault ≡ None
 
 -- how few attempts can have come before each answer
 abbrev pub Ends : {A : Type 0} → World → Result A TransFault → World → Type 0
-Ends old (Ok done) new = Worked 1 old new
-Ends old (Err Stalled) new = Worked 1 old new
-Ends old (Err Busy) new = Worked wait_limit old new
-Ends old (Err NoAnswer) new = Worked error_limit old new
+Ends old (Ok done) new = AttemptsMade 1 old new
+Ends old (Err Stalled) new = AttemptsMade 1 old new
+Ends old (Err Busy) new = AttemptsMade wait_limit old new
+Ends old (Err NoAnswer) new = AttemptsMade error_limit old new
 Ends old (Err (Bus fault)) new = Failed fault new
 
 -- SETUP is never stalled, and never waits
 abbrev pub SetupEnds : World → Result (List ℕ) TransFault → World → Type 0
-SetupEnds old (Ok done) new = Worked 1 old new
+SetupEnds old (Ok done) new = AttemptsMade 1 old new
 SetupEnds old (Err Stalled) new = ⊥
 SetupEnds old (Err Busy) new = ⊥
-SetupEnds old (Err NoAnswer) new = Worked error_limit old new
+SetupEnds old (Err NoAnswer) new = AttemptsMade error_limit old new
 SetupEnds old (Err (Bus fault)) new = Failed fault new

@@ -20,14 +20,14 @@ ghost use Rattle.usb_transaction.specs.Attempts.{IsOnly, TransactionAttempts};
 ghost use Rattle.usb_transaction.specs.HeardOutcomes.{heard_as, heard_when_sent, set_up_as};
 ghost use Rattle.usb_transaction.specs.Losses.{begins_no_stretch, LossesIn, LosesNone};
 ghost use Rattle.usb_transaction.specs.Leaves.{SourceBetween, SinkBetween};
-ghost use Rattle.usb_transaction.specs.Trail.{Trail, GoesOn, Ended, Transacted, Polled};
+ghost use Rattle.usb_transaction.specs.AttemptLog.{AttemptLog, KeepsTrying, TransactionDone, Transacted, Polled};
 ghost use Rattle.usb_transaction.specs.Transactions.{setup_attempt, in_attempt, out_attempt};
 
 /// A transaction makes one attempt, again and again, and no other step. Where the bus gave up, it
 /// was this attempt that it refused.
 pub fn what_a_transaction_attempts()
     ensures trail { (a : AnAttempt) (outcomes : List AnOutcome) (old new : World)
-        → Trail a old outcomes new → Course (IsOnly a) old new }
+        → AttemptLog a old outcomes new → Course (IsOnly a) old new }
     ensures whole { (hear : AnOutcome → AHeardOutcome) (a : AnAttempt)
         (result : Result (List ℕ) AFault) (old new : World) → Transacted hear a old result new
         → TransactionAttempts (IsOnly a) old result new }
@@ -64,11 +64,12 @@ pub fn who_had_the_address()
 pub fn what_is_so_between_bulk_attempts()
     ensures into { (t : ATarget) (ep : ℕ) (awaited : Toggle) (outcomes : List AnOutcome)
         (old now : World) → IsSettled old.roots
-        → Trail (in_attempt t ep) old outcomes now → GoesOn (heard_as awaited) outcomes
+        → AttemptLog (in_attempt t ep) old outcomes now → KeepsTrying (heard_as awaited) outcomes
         → now.shared ≡ false → EachWas (SourceBetween t ep awaited) old now }
     ensures out { (t : ATarget) (ep : ℕ) (toggle : Toggle) (bytes : List ℕ)
         (outcomes : List AnOutcome) (old now : World) → IsSettled old.roots
-        → Trail (out_attempt t ep toggle bytes) old outcomes now → GoesOn heard_when_sent outcomes
+        → AttemptLog (out_attempt t ep toggle bytes) old outcomes now
+        → KeepsTrying heard_when_sent outcomes
         → now.shared ≡ false → EachWas (SinkBetween t ep toggle bytes) old now }
 {}
 
@@ -78,20 +79,20 @@ pub fn what_is_so_between_bulk_attempts()
 /// the losses of another stretch begin.
 pub fn address_losses_of_a_transaction()
     ensures into { (t : ATarget) (result : Result (List ℕ) AFault) (old new : World)
-        → IsSettled old.roots → Ended (heard_as One) (in_attempt t 0) old result new
+        → IsSettled old.roots → TransactionDone (heard_as One) (in_attempt t 0) old result new
         → new.shared ≡ false → EachWas (LossesIn t result old new) old new }
     ensures reads { (t : ATarget) (awaited : Toggle) (result : Result (List ℕ) AFault)
         (old new : World) → IsSettled old.roots
-        → Ended (heard_as awaited) (in_attempt t 0) old result new
+        → TransactionDone (heard_as awaited) (in_attempt t 0) old result new
         → new.shared ≡ false → EachWas (LosesNone t old new) old new }
     ensures others { (t : ATarget) (ep : ℕ) (old new : World) (outcomes : List AnOutcome)
-        → ep ≢ 0 → IsSettled old.roots → Trail (in_attempt t ep) old outcomes new
+        → ep ≢ 0 → IsSettled old.roots → AttemptLog (in_attempt t ep) old outcomes new
         → new.losses ≡ old.losses }
     ensures set_up { (t : ATarget) (bytes : List ℕ) (old new : World)
         (outcomes : List AnOutcome) → begins_no_stretch (setup_of bytes) ≡ true
-        → IsSettled old.roots → Trail (setup_attempt t bytes) old outcomes new
+        → IsSettled old.roots → AttemptLog (setup_attempt t bytes) old outcomes new
         → new.losses ≡ old.losses }
     ensures out { (t : ATarget) (ep : ℕ) (toggle : Toggle) (bytes : List ℕ) (old new : World)
         (outcomes : List AnOutcome) → IsSettled old.roots
-        → Trail (out_attempt t ep toggle bytes) old outcomes new → new.losses ≡ old.losses }
+        → AttemptLog (out_attempt t ep toggle bytes) old outcomes new → new.losses ≡ old.losses }
 {}

@@ -1,6 +1,6 @@
 //! IN, where NAK is an answer.
 ghost use Rattle.std.specs.Prelude.{◌≡◌, ◌<◌, true};
-ghost use Rattle.usb_bus.specs.Traces.{Went};
+ghost use Rattle.usb_bus.specs.Traces.{Steps};
 ghost use Rattle.usb_transaction.specs.Calls.{PollsIn};
 ghost use Rattle.usb_transaction.specs.HeardOutcomes.{toggle_after};
 ghost use Rattle.usb_transaction.specs.Transactions.{IsTarget, transaction_bound};
@@ -31,7 +31,7 @@ pub fn poll_in<B: Bus>(
 ) -> Result<Option<Done>, TransFault>
     requires target { IsTarget target }
     requires endpoint { ep < 16 }
-    ensures went { B.modelled ≡ true → Went B.world B.trace transaction_bound bus.old bus.new }
+    ensures steps { B.modelled ≡ true → Steps B.world B.trace transaction_bound bus.old bus.new }
     ensures polls { B.modelled ≡ true
         → PollsIn target ep toggle.old (B.world bus.old) result (B.world bus.new) }
     ensures toggle { toggle.new ≡ toggle_after toggle.old result }

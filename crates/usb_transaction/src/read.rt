@@ -1,6 +1,6 @@
 //! IN.
 ghost use Rattle.std.specs.Prelude.{◌≡◌, ◌<◌, MatchResult, true};
-ghost use Rattle.usb_bus.specs.Traces.{Went};
+ghost use Rattle.usb_bus.specs.Traces.{Steps};
 ghost use Rattle.usb_transaction.specs.Calls.{AsksIn};
 ghost use Rattle.usb_packet.specs.Toggles.{other};
 ghost use Rattle.usb_transaction.specs.Transactions.{IsTarget, transaction_bound};
@@ -30,7 +30,7 @@ pub fn data_in<B: Bus>(
 ) -> Result<Done, TransFault>
     requires target { IsTarget target }
     requires endpoint { ep < 16 }
-    ensures went { B.modelled ≡ true → Went B.world B.trace transaction_bound bus.old bus.new }
+    ensures steps { B.modelled ≡ true → Steps B.world B.trace transaction_bound bus.old bus.new }
     ensures asks { B.modelled ≡ true
         → AsksIn target ep toggle.old (B.world bus.old) result (B.world bus.new) }
     ensures toggle { MatchResult result (λ _. toggle.new ≡ other toggle.old)

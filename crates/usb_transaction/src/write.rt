@@ -1,6 +1,6 @@
 //! OUT.
 ghost use Rattle.std.specs.Prelude.{◌≡◌, ◌≤◌, ◌<◌, length, MatchResult, true};
-ghost use Rattle.usb_bus.specs.Traces.{Went};
+ghost use Rattle.usb_bus.specs.Traces.{Steps};
 ghost use Rattle.usb_transaction.specs.Calls.{SendsOut};
 ghost use Rattle.usb_packet.specs.Toggles.{other};
 ghost use Rattle.usb_transaction.specs.Transactions.{IsTarget, transaction_bound};
@@ -32,7 +32,7 @@ pub fn data_out<B: Bus>(
     requires target { IsTarget target }
     requires endpoint { ep < 16 }
     requires short { length bytes.now ≤ target.max }
-    ensures went { B.modelled ≡ true → Went B.world B.trace transaction_bound bus.old bus.new }
+    ensures steps { B.modelled ≡ true → Steps B.world B.trace transaction_bound bus.old bus.new }
     ensures sends { B.modelled ≡ true → SendsOut target ep toggle.old bytes.now
         (B.world bus.old) result (B.world bus.new) }
     ensures toggle { MatchResult result (λ _. toggle.new ≡ other toggle.old)

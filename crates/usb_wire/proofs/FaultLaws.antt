@@ -24,11 +24,11 @@ use Rattle.usb_wire.proofs.FieldLemmas.{value-hex}
 
 -- ---- faults of readings one after the other
 
-abbrev first_of : Option WireFault → Option WireFault → Option WireFault
-first_of None other = other
-first_of (Some fault) other = Some fault
+abbrev first_fault_of : Option WireFault → Option WireFault → Option WireFault
+first_fault_of None other = other
+first_fault_of (Some fault) other = Some fault
 
-fault_in-then : {A B : Type 0} (r : Result A WireFault) (f : A → Result B WireFault) (g : Option WireFault) → ((x : A) → fault_in (f x) ≡ g) → fault_in (r >>= f) ≡ first_of (fault_in r) g
+fault_in-then : {A B : Type 0} (r : Result A WireFault) (f : A → Result B WireFault) (g : Option WireFault) → ((x : A) → fault_in (f x) ≡ g) → fault_in (r >>= f) ≡ first_fault_of (fault_in r) g
 fault_in-then (Ok x) f g h = h x
 fault_in-then (Err e) f g h = refl
 
@@ -84,32 +84,32 @@ fault_in-path word = fault_in-ok_or (path_of word) BadPath
 
 -- ---- the rows of each form, by what is so of its words
 
-roots_table : (n : Bool) → first_of (if n then Some BadNumber else None) None ≡ (if n || false then Some BadNumber else None)
+roots_table : (n : Bool) → first_fault_of (if n then Some BadNumber else None) None ≡ (if n || false then Some BadNumber else None)
 roots_table true = refl
 roots_table false = refl
 
-data_table : (h l : Bool) → first_of (if not h then Some BadHex else if l then Some BadLength else None) None ≡ (if not h || false then Some BadHex else if l || false then Some BadLength else None)
+data_table : (h l : Bool) → first_fault_of (if not h then Some BadHex else if l then Some BadLength else None) None ≡ (if not h || false then Some BadHex else if l || false then Some BadLength else None)
 data_table true true = refl
 data_table true false = refl
 data_table false l = refl
 
-clear_table : (p : Bool) → first_of (if p then Some BadPath else None) None ≡ (if p || false then Some BadPath else None)
+clear_table : (p : Bool) → first_fault_of (if p then Some BadPath else None) None ≡ (if p || false then Some BadPath else None)
 clear_table true = refl
 clear_table false = refl
 
-send_table : (h l p : Bool) → first_of (if not h then Some BadHex else if l then Some BadLength else None) (first_of (if p then Some BadPath else None) None)
+send_table : (h l p : Bool) → first_fault_of (if not h then Some BadHex else if l then Some BadLength else None) (first_fault_of (if p then Some BadPath else None) None)
     ≡ (if not h || false then Some BadHex else if l || false then Some BadLength else if p || false then Some BadPath else None)
 send_table true true p = refl
 send_table true false true = refl
 send_table true false false = refl
 send_table false l p = refl
 
-receive_table : (n p : Bool) → first_of (if n then Some BadNumber else None) (first_of (if p then Some BadPath else None) None) ≡ (if n || false then Some BadNumber else if p || false then Some BadPath else None)
+receive_table : (n p : Bool) → first_fault_of (if n then Some BadNumber else None) (first_fault_of (if p then Some BadPath else None) None) ≡ (if n || false then Some BadNumber else if p || false then Some BadPath else None)
 receive_table true p = refl
 receive_table false true = refl
 receive_table false false = refl
 
-push_table : (h l n : Bool) → first_of (if not h then Some BadHex else if not l then Some BadLength else None) (first_of (if n then Some BadNumber else None) None)
+push_table : (h l n : Bool) → first_fault_of (if not h then Some BadHex else if not l then Some BadLength else None) (first_fault_of (if n then Some BadNumber else None) None)
     ≡ (if not h || false then Some BadHex else if not l || false then Some BadLength else if n || false then Some BadNumber else None)
 push_table true false n = refl
 push_table true true true = refl
@@ -121,8 +121,8 @@ push_table false l n = refl
 abbrev roots_given : ℕ → Result Answer WireFault
 roots_given roots = Ok (Roots roots)
 
-abbrev data_given : Toggle → List ℕ → Result Answer WireFault
-data_given toggle xs = Ok (Data (record { toggle = toggle; bytes = record { items = xs } }))
+abbrev data_result : Toggle → List ℕ → Result Answer WireFault
+data_result toggle xs = Ok (Data (record { toggle = toggle; bytes = record { items = xs } }))
 
 abbrev clear_given : List ℕ → Result Answer WireFault
 clear_given p = Ok (Clear p)
@@ -139,41 +139,41 @@ push_given xs number = Ok (Changed number xs)
 faults-roots : (count : ℕ) (word : List ℕ) → fault_in (roots_answer word) ≡ argument_fault count (roots_field ∷ []) (word ∷ [])
 unfolding roots_answer
 faults-roots count word =
-    fault_in-then (number_of_word 1 7 word) roots_given None (λ _. refl) ∙ ap (λ o. first_of o None) (fault_in-number 1 7 word) ∙ roots_table (is_none (number_within 1 7 word))
+    fault_in-then (number_of_word 1 7 word) roots_given None (λ _. refl) ∙ ap (λ o. first_fault_of o None) (fault_in-number 1 7 word) ∙ roots_table (is_none (number_within 1 7 word))
 
 faults-data : (count : ℕ) (toggle : Toggle) (word : List ℕ) → fault_in (data_answer toggle word) ≡ argument_fault count (bytes_field 64 ∷ []) (word ∷ [])
 unfolding data_answer
 faults-data count toggle word =
-    fault_in-then (bytes_of_word 64 word) (data_given toggle) None (λ _. refl) ∙ ap (λ o. first_of o None) (fault_in-bytes 64 word) ∙ data_table (is_dash word || is_hex word) (nat_lt 64 (hex_length word))
+    fault_in-then (bytes_of_word 64 word) (data_result toggle) None (λ _. refl) ∙ ap (λ o. first_fault_of o None) (fault_in-bytes 64 word) ∙ data_table (is_dash word || is_hex word) (nat_lt 64 (hex_length word))
 
 faults-clear : (count : ℕ) (word : List ℕ) → fault_in (clear_answer word) ≡ argument_fault count (path_field ∷ []) (word ∷ [])
 unfolding clear_answer
 faults-clear count word =
-    fault_in-then (path_in word) clear_given None (λ _. refl) ∙ ap (λ o. first_of o None) (fault_in-path word) ∙ clear_table (is_none (path_of word))
+    fault_in-then (path_in word) clear_given None (λ _. refl) ∙ ap (λ o. first_fault_of o None) (fault_in-path word) ∙ clear_table (is_none (path_of word))
 
-path_last : {B : Type 0} (word : List ℕ) (f : List ℕ → Result B WireFault) → ((p : List ℕ) → fault_in (f p) ≡ None) → fault_in (path_in word >>= f) ≡ first_of (if is_none (path_of word) then Some BadPath else None) None
-path_last word f h = fault_in-then (path_in word) f None h ∙ ap (λ o. first_of o None) (fault_in-path word)
+path_last : {B : Type 0} (word : List ℕ) (f : List ℕ → Result B WireFault) → ((p : List ℕ) → fault_in (f p) ≡ None) → fault_in (path_in word >>= f) ≡ first_fault_of (if is_none (path_of word) then Some BadPath else None) None
+path_last word f h = fault_in-then (path_in word) f None h ∙ ap (λ o. first_fault_of o None) (fault_in-path word)
 
 faults-send : (count : ℕ) (first second : List ℕ) → fault_in (send_answer first second) ≡ argument_fault count (path_field ∷ bytes_field send_limit ∷ []) (first ∷ second ∷ [])
 unfolding send_answer
 faults-send count first second =
-    let last : Option WireFault = first_of (if is_none (path_of first) then Some BadPath else None) None in
-    fault_in-then (bytes_of_word send_limit second) (λ xs. path_in first >>= send_given xs) last (λ xs. path_last first (send_given xs) (λ _. refl)) ∙ ap (λ o. first_of o last) (fault_in-bytes send_limit second)
+    let last : Option WireFault = first_fault_of (if is_none (path_of first) then Some BadPath else None) None in
+    fault_in-then (bytes_of_word send_limit second) (λ xs. path_in first >>= send_given xs) last (λ xs. path_last first (send_given xs) (λ _. refl)) ∙ ap (λ o. first_fault_of o last) (fault_in-bytes send_limit second)
     ∙ send_table (is_dash second || is_hex second) (nat_lt send_limit (hex_length second)) (is_none (path_of first))
 
 faults-receive : (count : ℕ) (first second : List ℕ) → fault_in (receive_answer first second) ≡ argument_fault count (path_field ∷ packets_field ∷ []) (first ∷ second ∷ [])
 unfolding receive_answer
 faults-receive count first second =
-    let last : Option WireFault = first_of (if is_none (path_of first) then Some BadPath else None) None in
-    fault_in-then (number_of_word 0 1000 second) (λ n. path_in first >>= receive_given n) last (λ n. path_last first (receive_given n) (λ _. refl)) ∙ ap (λ o. first_of o last) (fault_in-number 0 1000 second)
+    let last : Option WireFault = first_fault_of (if is_none (path_of first) then Some BadPath else None) None in
+    fault_in-then (number_of_word 0 1000 second) (λ n. path_in first >>= receive_given n) last (λ n. path_last first (receive_given n) (λ _. refl)) ∙ ap (λ o. first_fault_of o last) (fault_in-number 0 1000 second)
     ∙ receive_table (is_none (number_within 0 1000 second)) (is_none (path_of first))
 
 faults-status_change : (count : ℕ) (first second : List ℕ) → fault_in (status_change count first second) ≡ argument_fault count (root_field ∷ status_field ∷ []) (first ∷ second ∷ [])
 unfolding status_change
 faults-status_change count first second =
-    let last : Option WireFault = first_of (if is_none (number_within 1 count first) then Some BadNumber else None) None in
-    fault_in-then (status_of_word second) (λ xs. number_of_word 1 count first >>= push_given xs) last (λ xs. fault_in-then (number_of_word 1 count first) (push_given xs) None (λ _. refl) ∙ ap (λ o. first_of o None) (fault_in-number 1 count first))
-    ∙ ap (λ o. first_of o last) (fault_in-status second)
+    let last : Option WireFault = first_fault_of (if is_none (number_within 1 count first) then Some BadNumber else None) None in
+    fault_in-then (status_of_word second) (λ xs. number_of_word 1 count first >>= push_given xs) last (λ xs. fault_in-then (number_of_word 1 count first) (push_given xs) None (λ _. refl) ∙ ap (λ o. first_fault_of o None) (fault_in-number 1 count first))
+    ∙ ap (λ o. first_fault_of o last) (fault_in-status second)
     ∙ push_table (is_dash second || is_hex second) (hex_length second == 4) (is_none (number_within 1 count first))
 
 -- ---- lines of one word, of two, of three

@@ -24,17 +24,17 @@ use Rattle.usb_wire.specs.Reading.{◌>>=◌, bytes_of_word, count_in, status_of
 use Rattle.usb_wire.proofs.WordLemmas.{all_visible, is_visible}
 
 -- a Bool is one of two
-pub either : (b : Bool) → ((b ≡ true) ⊎ (b ≡ false))
-either true = inl refl
-either false = inr refl
+pub true_or_false : (b : Bool) → ((b ≡ true) ⊎ (b ≡ false))
+true_or_false true = inl refl
+true_or_false false = inr refl
 
 pub Ok-from_result_ok : {A E : Type 0} (r : Result A E) (x : A) → result_ok r ≡ Some x → r ≡ Ok x
 Ok-from_result_ok (Ok y) x e = ap Ok (same_Some y x e)
 Ok-from_result_ok (Err e) x h = absurd (none-some x h)
 
-and_false : (b : Bool) → (b && false) ≡ false
-and_false true = refl
-and_false false = refl
+and-false : (b : Bool) → (b && false) ≡ false
+and-false true = refl
+and-false false = refl
 
 or_true : (b : Bool) → (b || true) ≡ true
 or_true true = refl
@@ -99,10 +99,10 @@ spelled_pairs word bytes dash hex e =
 
 pub spelled-value : (word bytes : List ℕ) → hex_value word ≡ Some bytes → Spelled word bytes
 spelled-value word bytes h =
-    elim (either (is_dash word)) [
+    elim (true_or_false (is_dash word)) [
       | inl dash ↦ spelled_dash word bytes dash (same_Some [] bytes (rw dash at h))
       | inr other ↦
-          elim (either (is_hex word)) [
+          elim (true_or_false (is_hex word)) [
             | inl hex ↦ spelled_pairs word bytes other hex (Ok-from_result_ok (decode_of word) bytes (rw (other, hex) at h))
             | inr bad ↦ absurd (none-some bytes (rw (other, bad) at h))
           ]
@@ -125,7 +125,7 @@ other_hex true hex e h = cc
 other_hex false hex e h = h
 
 dash-pair : (a b : ℕ) (more : List ℕ) → is_dash (a ∷ b ∷ more) ≡ false
-dash-pair a b more = and_false (a == 45)
+dash-pair a b more = and-false (a == 45)
 
 -- bytes as they are written
 pub hex_value-hex_text : (bytes : List ℕ) → IsBytes bytes → hex_value (hex_text bytes) ≡ Some bytes
@@ -139,8 +139,8 @@ hex_value-hex_text (b ∷ bytes) small =
 
 -- ---- numbers
 
-own : IsNumeralModel (λ ds. all_ascii_digits ds ≡ true) (digits_value 10)
-own = numerals_by_value (λ ds. all_ascii_digits ds ≡ true) tells_all_ascii_digits
+decimal_is_model : IsNumeralModel (λ ds. all_ascii_digits ds ≡ true) (digits_value 10)
+decimal_is_model = numerals_by_value (λ ds. all_ascii_digits ds ≡ true) tells_all_ascii_digits
 
 -- digits, with no zero before them
 pub record Digits (word : List ℕ) : Type 0 where
@@ -167,7 +167,7 @@ digits-decimal word h =
 
 first_test : (word : List ℕ) → (get_or word 0 0 ≡ 48 → length word ≡ 1) → (length word == 1 || not (get_or word 0 0 == 48)) ≡ true
 first_test word h =
-    elim (either (get_or word 0 0 == 48)) [
+    elim (true_or_false (get_or word 0 0 == 48)) [
       | inl same ↦ rw (h (eqb-true (get_or word 0 0) 48 same)) refl
       | inr other ↦ rw other (or_true (length word == 1))
     ]
@@ -176,12 +176,12 @@ pub decimal-digits : (word : List ℕ) → Digits word → is_decimal word ≡ t
 decimal-digits word h =
     rw (lt-ltb 0 (length word) h.some, same_digits word, h.digits, first_test word h.first) refl
 
-pub record Numbered (least most : ℕ) (word : List ℕ) (n : ℕ) : Type 0 where
+pub record IsNumberWord (least most : ℕ) (word : List ℕ) (n : ℕ) : Type 0 where
   pub low : least ≤ n
   pub high : n ≤ most
   pub text : word ≡ decimal n
 
-pub numbered-within : (least most : ℕ) (word : List ℕ) (n : ℕ) → most < 2 ^ 64 → number_within least most word ≡ Some n → Numbered least most word n
+pub numbered-within : (least most : ℕ) (word : List ℕ) (n : ℕ) → most < 2 ^ 64 → number_within least most word ≡ Some n → IsNumberWord least most word n
 numbered-within least most word n small h =
     let v : ℕ = digits_value 10 word in
     let found = cond_some (is_decimal word && nat_le least v && nat_le v most) v n h in
@@ -190,14 +190,14 @@ numbered-within least most word n small h =
     let digits = digits-decimal word parts.0 in
     let low : least ≤ v = leb-true least v parts.1 in
     let high : v ≤ most = leb-true v most front.1 in
-    let text : decimal v ≡ word = decimal-digits_value own word digits.digits digits.some digits.first (omega arith) in
-    subst (Numbered least most word) found.1 (record { low = low; high = high; text = sym text })
+    let text : decimal v ≡ word = decimal-digits_value decimal_is_model word digits.digits digits.some digits.first (omega arith) in
+    subst (IsNumberWord least most word) found.1 (record { low = low; high = high; text = sym text })
 
 pub within-decimal : (least most n : ℕ) → least ≤ n → n ≤ most → n < 2 ^ 64 → number_within least most (decimal n) ≡ Some n
 within-decimal least most n low high small =
-    let value : digits_value 10 (decimal n) ≡ n = digits_value-decimal own n small in
+    let value : digits_value 10 (decimal n) ≡ n = digits_value-decimal decimal_is_model n small in
     let digits : Digits (decimal n) = record {
-      digits = digits_decimal own n small;
+      digits = digits_decimal decimal_is_model n small;
       some = decimal_nonempty n small;
       first = λ same. first_digit n small same;
     } in
@@ -212,8 +212,8 @@ pub within-unparsed : {E : Type 0} (least most : ℕ) (word : List ℕ) (e : E) 
 within-unparsed least most word e small h refused =
     let digits = digits-decimal word h in
     let v : ℕ = digits_value 10 word in
-    let large : ¬ ((0 < length word) × (v < 2 ^ 64)) = parse_digits own 64 word (Err e) refused digits.digits in
-    elim (either (nat_lt v (2 ^ 64))) [
+    let large : ¬ ((0 < length word) × (v < 2 ^ 64)) = parse_digits decimal_is_model 64 word (Err e) refused digits.digits in
+    elim (true_or_false (nat_lt v (2 ^ 64))) [
       | inl less ↦ absurd (large (digits.some, ltb-true v (2 ^ 64) less))
       | inr more ↦
           let above : 2 ^ 64 ≤ v = ltb-false v (2 ^ 64) more in
@@ -233,10 +233,10 @@ all_visible-digits (c ∷ word) h =
     rw (digit_visible c parts.0, all_visible-digits word parts.1) refl
 
 pub all_digits-decimal : (n : ℕ) → n < 2 ^ 64 → all_ascii_digits (decimal n) ≡ true
-all_digits-decimal n small = digits_decimal own n small
+all_digits-decimal n small = digits_decimal decimal_is_model n small
 
 pub all_visible-decimal : (n : ℕ) → n < 2 ^ 64 → all_visible (decimal n) ≡ true
-all_visible-decimal n small = all_visible-digits (decimal n) (digits_decimal own n small)
+all_visible-decimal n small = all_visible-digits (decimal n) (digits_decimal decimal_is_model n small)
 
 hex_visible : (c : ℕ) → is_hex_digit c ≡ true → is_visible c ≡ true
 hex_visible c h = grind (arith, nat_tests)
@@ -249,7 +249,7 @@ all_visible-hex_digits (c ∷ word) h =
 
 pub all_visible-hex : (word : List ℕ) → (is_dash word || is_hex word) ≡ true → all_visible word ≡ true
 all_visible-hex word h =
-    elim (either (is_dash word)) [
+    elim (true_or_false (is_dash word)) [
       | inl dash ↦ rw ((bytes_eq-Decides word (codes "-")).0 dash) refl
       | inr other ↦
           let hex = other_hex (is_dash word) (is_hex word) other h in
@@ -288,10 +288,10 @@ bytes_by : (most : ℕ) (hex : Bool) (m n : ℕ) (o : Option (List ℕ)) (xs : L
 bytes_by most true m n o xs h same few is = rw (same, few, is) refl
 bytes_by most false m n o xs h same few is = cc
 
-status_by : (hex : Bool) (m : ℕ) (o : Option (List ℕ)) (xs : List ℕ) → hex ≡ true → m ≡ 4 → o ≡ Some xs
+hex_status : (hex : Bool) (m : ℕ) (o : Option (List ℕ)) (xs : List ℕ) → hex ≡ true → m ≡ 4 → o ≡ Some xs
     → ((if hex then Ok m else Err BadHex) >>= (λ count. if count == 4 then ok_or o BadHex else Err BadLength)) ≡ Ok xs
-status_by true m o xs h same is = rw (same, is) refl
-status_by false m o xs h same is = cc
+hex_status true m o xs h same is = rw (same, is) refl
+hex_status false m o xs h same is = cc
 
 pub bytes_of_word-value : (most : ℕ) (word : List ℕ) (n : ℕ) (bytes : List ℕ) → Counted word n → n ≤ most
     → hex_value word ≡ Some bytes → bytes_of_word most word ≡ Ok bytes
@@ -302,17 +302,17 @@ bytes_of_word-value most word n bytes h few e =
 
 pub status_of_word-value : (word bytes : List ℕ) → Counted word 4 → hex_value word ≡ Some bytes → status_of_word word ≡ Ok bytes
 unfolding status_of_word count_in
-status_of_word-value word bytes h e = status_by (is_dash word || is_hex word) (hex_length word) (hex_value word) bytes h.hex h.count e
+status_of_word-value word bytes h e = hex_status (is_dash word || is_hex word) (hex_length word) (hex_value word) bytes h.hex h.count e
 
-no_bytes : (bytes : List ℕ) → length bytes ≡ 0 → bytes ≡ []
-no_bytes [] e = refl
-no_bytes (b ∷ bytes) e = absurd (omega arith)
+length-zero : (bytes : List ℕ) → length bytes ≡ 0 → bytes ≡ []
+length-zero [] e = refl
+length-zero (b ∷ bytes) e = absurd (omega arith)
 
 pub bytes_of_word-none : (most : ℕ) (word : List ℕ) → Counted word 0 → bytes_of_word most word ≡ Ok []
 bytes_of_word-none most word h =
     let value = value-hex word h.hex in
     let spelled = spelled-value word value.0 value.1 in
-    bytes_of_word-value most word 0 [] h (omega arith) (value.1 ∙ ap Some (no_bytes value.0 (sym spelled.count ∙ h.count)))
+    bytes_of_word-value most word 0 [] h (omega arith) (value.1 ∙ ap Some (length-zero value.0 (sym spelled.count ∙ h.count)))
 
 -- what decoding gives where some bytes are counted
 pub record Decoded (word : List ℕ) (n : ℕ) : Type 0 where
@@ -321,8 +321,8 @@ pub record Decoded (word : List ℕ) (n : ℕ) : Type 0 where
   pub count : length bytes ≡ n
   pub decoded : decode_sized word n ≡ Ok bytes
 
-dash_none : (word : List ℕ) (n : ℕ) → hex_length word ≡ n → 0 < n → is_dash word ≡ true → ⊥
-dash_none word n e some dash =
+hex_not_dash : (word : List ℕ) (n : ℕ) → hex_length word ≡ n → 0 < n → is_dash word ≡ true → ⊥
+hex_not_dash word n e some dash =
     let none : 0 ≡ hex_length word = sym (rw dash refl) in
     absurd (omega (arith, none, e))
 
@@ -330,8 +330,8 @@ pub decoded-counted : (word : List ℕ) (n : ℕ) → Counted word n → 0 < n �
 decoded-counted word n h some =
     let value = value-hex word h.hex in
     let spelled = spelled-value word value.0 value.1 in
-    elim (either (is_dash word)) [
-      | inl dash ↦ absurd (dash_none word n h.count some dash)
+    elim (true_or_false (is_dash word)) [
+      | inl dash ↦ absurd (hex_not_dash word n h.count some dash)
       | inr other ↦
           let hex = other_hex (is_dash word) (is_hex word) other h.hex in
           let unfolded : hex_value word ≡ result_ok (decode_of word) = rw (other, hex) refl in
@@ -345,7 +345,7 @@ decoded-counted word n h some =
 -- the digits of bytes are at most one more than twice as many
 pub hex_value-length : (word bytes : List ℕ) → hex_value word ≡ Some bytes → length word ≤ 2 * length bytes + 1
 hex_value-length word bytes e =
-    elim (either (is_dash word)) [
+    elim (true_or_false (is_dash word)) [
       | inl dash ↦
           let text : word ≡ codes "-" = (bytes_eq-Decides word (codes "-")).0 dash in
           let one : length word ≡ 1 = ap length text in

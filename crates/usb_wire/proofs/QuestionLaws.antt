@@ -32,8 +32,8 @@ use Rattle.usb_wire.specs.Questions.{IsEndpoint, IsQuestion, IsQuestionLine, IsS
 use Rattle.usb_wire.specs.Reading.{bytes_of_word, number_of_word, text_of_line}
 use Rattle.usb_wire.specs.Words.{all_printable}
 use Rattle.usb_wire.proofs.FieldLemmas.{all_digits-decimal, all_visible-decimal, hex_value-hex_text}
-use Rattle.usb_wire.proofs.ReadLaws.{IsWord, bytes_word, number_word, read_bytes, read_number}
-use Rattle.usb_wire.proofs.SaidLaws.{IsDataWord, data_word, number_word as number_read, same_Ok, word_is}
+use Rattle.usb_wire.proofs.ReadLaws.{IsVisibleWord, bytes_word, decimal-is_word, read_bytes, read_number}
+use Rattle.usb_wire.proofs.SaidLaws.{IsDataWord, bytes_of_word-data, number_of_word-ok as number_read, same_Ok, word_is}
 use Rattle.usb_wire.proofs.WordLemmas.{HasNoSpace-visible, all_printable-append, all_printable-visible, all_visible, is_visible}
 
 -- ---- cuts
@@ -90,12 +90,12 @@ bind_some : {A B P : Type 0} (o : Option A) (f : A → Option B) (y : B) → (o 
 bind_some (Some x) f y e k = k x refl e
 bind_some None f y e k = absurd (cc)
 
-if_found : {A P : Type 0} (b : Bool) (o p : Option A) (y : A) → (if b then o else p) ≡ Some y → (b ≡ true → o ≡ Some y → P) → (p ≡ Some y → P) → P
-if_found true o p y e k l = k refl e
-if_found false o p y e k l = l e
+if_some_cases : {A P : Type 0} (b : Bool) (o p : Option A) (y : A) → (if b then o else p) ≡ Some y → (b ≡ true → o ≡ Some y → P) → (p ≡ Some y → P) → P
+if_some_cases true o p y e k l = k refl e
+if_some_cases false o p y e k l = l e
 
-nothing : {A P : Type 0} (y : A) → ◌≡◌ {A = Option A} None (Some y) → P
-nothing y e = absurd (cc)
+none_not_some : {A P : Type 0} (y : A) → ◌≡◌ {A = Option A} None (Some y) → P
+none_not_some y e = absurd (cc)
 
 ok_read : {A : Type 0} (r : Result A WireFault) (y : A) → result_ok r ≡ Some y → r ≡ Ok y
 ok_read (Ok x) y e = ap Ok (same_Some x y e)
@@ -111,9 +111,9 @@ record IsDevice (word : List ℕ) (e : Endpoint) : Type 0 where
   fits : IsEndpoint e
   text : word ≡ endpoint_text e
 
-device_found : (word : List ℕ) (e : Endpoint) → endpoint_in word ≡ Some e → IsDevice word e
+endpoint_in-device : (word : List ℕ) (e : Endpoint) → endpoint_in word ≡ Some e → IsDevice word e
 unfolding endpoint_in
-device_found word e h =
+endpoint_in-device word e h =
     bind_some (cut_at 46 word) _ e h (λ cut found h.
     bind_some (result_ok (number_of_word 0 127 cut.0)) _ e h (λ a first h.
     bind_some (result_ok (number_of_word 0 15 cut.1)) _ e h (λ n second h.
@@ -148,8 +148,8 @@ record IsAsked (line : List ℕ) (q : Question) : Type 0 where
   fits : IsQuestion q
   asks : IsQuestionLine line q
 
-asked_at : (line other : List ℕ) (q : Question) → line ≡ other → IsAsked other q → IsAsked line q
-asked_at line other q e h = subst (λ t. IsAsked t q) (sym e) h
+asked_same_line : (line other : List ℕ) (q : Question) → line ≡ other → IsAsked other q → IsAsked line q
+asked_same_line line other q e h = subst (λ t. IsAsked t q) (sym e) h
 
 asked_with : (line digits : List ℕ) (q : Question) → IsQuestion q → hex_value digits ≡ Some (question_bytes q) → line ≡ question_in_digits digits q → IsAsked line q
 asked_with line digits q fits spelled written = record { fits = fits; asks = record { digits = digits; spelled = spelled; written = written } }
@@ -179,17 +179,17 @@ sent_spelled speed kind e rest = ap (λ t. speed_text speed ++ t) (token_spelled
 toggle_found : (word : List ℕ) (t : Toggle) (rest : List ℕ) → toggle_named word ≡ Some t → word ++ 32 ∷ rest ≡ data_name t ++ rest
 unfolding toggle_named
 toggle_found word t rest e =
-    if_found (bytes_eq word (codes "DATA0")) (Some Zero) _ t e (λ same is. subst (λ t. word ++ 32 ∷ rest ≡ data_name t ++ rest) (same_Some Zero t is) (ap (λ w. w ++ 32 ∷ rest) (word_is word (codes "DATA0") same))) (λ e.
-    if_found (bytes_eq word (codes "DATA1")) (Some One) _ t e (λ same is. subst (λ t. word ++ 32 ∷ rest ≡ data_name t ++ rest) (same_Some One t is) (ap (λ w. w ++ 32 ∷ rest) (word_is word (codes "DATA1") same))) (λ e.
-    nothing t e))
+    if_some_cases (bytes_eq word (codes "DATA0")) (Some Zero) _ t e (λ same is. subst (λ t. word ++ 32 ∷ rest ≡ data_name t ++ rest) (same_Some Zero t is) (ap (λ w. w ++ 32 ∷ rest) (word_is word (codes "DATA0") same))) (λ e.
+    if_some_cases (bytes_eq word (codes "DATA1")) (Some One) _ t e (λ same is. subst (λ t. word ++ 32 ∷ rest ≡ data_name t ++ rest) (same_Some One t is) (ap (λ w. w ++ 32 ∷ rest) (word_is word (codes "DATA1") same))) (λ e.
+    none_not_some t e))
 
 pre_found : (text rest : List ℕ) → behind_pre_word text ≡ Some rest → text ≡ codes "PRE " ++ rest
 unfolding behind_pre_word
 pre_found text rest e =
     bind_some (cut_at 32 text) _ rest e (λ cut found e.
-    if_found (bytes_eq cut.0 (codes "PRE")) (Some cut.1) _ rest e (λ same is.
+    if_some_cases (bytes_eq cut.0 (codes "PRE")) (Some cut.1) _ rest e (λ same is.
     cut_at-some 32 text cut found ∙ ap (λ w. w ++ 32 ∷ cut.1) (word_is cut.0 (codes "PRE") same) ∙ ap (λ r. codes "PRE " ++ r) (same_Some cut.1 rest is))
-    (λ e. nothing rest e))
+    (λ e. none_not_some rest e))
 
 after_found : (speed : Speed) (text rest : List ℕ) → after_pre speed text ≡ Some rest → codes " / " ++ text ≡ between_text speed ++ rest
 unfolding after_pre
@@ -204,12 +204,12 @@ data_found speed text sent e =
     bind_some (if bytes_eq cut.0 (codes "/") then after_pre speed cut.1 else None) _ sent e (λ rest behind e.
     bind_some (cut_at 32 rest) _ sent e (λ named second e.
     bind_some (toggle_named named.0) _ sent e (λ t third is.
-    if_found (bytes_eq cut.0 (codes "/")) (after_pre speed cut.1) None rest behind (λ same after.
+    if_some_cases (bytes_eq cut.0 (codes "/")) (after_pre speed cut.1) None rest behind (λ same after.
     let front : 32 ∷ text ≡ codes " / " ++ cut.1 = ap (λ r. 32 ∷ r) (cut_at-some 32 text cut found) ∙ ap (λ w. 32 ∷ (w ++ 32 ∷ cut.1)) (word_is cut.0 (codes "/") same) in
     let whole : 32 ∷ text ≡ between_text speed ++ data_with t named.1 =
     front ∙ after_found speed cut.1 rest after ∙ ap (λ r. between_text speed ++ r) (cut_at-some 32 rest named second ∙ toggle_found named.0 t named.1 third) in
     subst (λ (s : Toggle × List ℕ). 32 ∷ text ≡ between_text speed ++ data_with s.0 s.1) (same_Some (t, named.1) sent is) whole)
-    (λ e. nothing rest e)))))
+    (λ e. none_not_some rest e)))))
 
 -- an attempt with data of the host
 spoken : (speed : Speed) (kind : TokenKind) (e : Endpoint) (text device rest : List ℕ) (t : Toggle) (digits : List ℕ) → text ≡ device ++ 32 ∷ rest → device ≡ endpoint_text e → 32 ∷ rest ≡ between_text speed ++ data_with t digits
@@ -224,7 +224,7 @@ in_found speed text q e =
     bind_some (cut_at 32 text) _ q e (λ cut found e.
     bind_some (endpoint_in cut.0) _ q e (λ dev first e.
     bind_some (result_ok (number_of_word 1 64 cut.1)) _ q e (λ most second is.
-    let device = device_found cut.0 dev first in
+    let device = endpoint_in-device cut.0 dev first in
     let number = number_read 1 64 cut.1 most (omega arith) (ok_read (number_of_word 1 64 cut.1) most second) in
     let text_is : text ≡ endpoint_text dev ++ 32 ∷ decimal most = cut_at-some 32 text cut found ∙ ap (λ d. d ++ 32 ∷ cut.1) device.text ∙ ap (λ r. endpoint_text dev ++ 32 ∷ r) number.text in
     let line_is : speed_text speed ++ (codes "IN" ++ 32 ∷ text) ≡ speed_text speed ++ token_text InTok dev ++ codes " " ++ decimal most =
@@ -238,8 +238,8 @@ out_found speed text q e =
     bind_some (endpoint_in cut.0) _ q e (λ dev first e.
     bind_some (data_behind speed cut.1) _ q e (λ sent second e.
     bind_some (result_ok (bytes_of_word 64 sent.1)) _ q e (λ xs third is.
-    let device = device_found cut.0 dev first in
-    let given = data_word 64 sent.1 xs (ok_read (bytes_of_word 64 sent.1) xs third) in
+    let device = endpoint_in-device cut.0 dev first in
+    let given = bytes_of_word-data 64 sent.1 xs (ok_read (bytes_of_word 64 sent.1) xs third) in
     let asked : Question = Out speed dev (record { toggle = sent.0; bytes = record { items = xs } }) in
     subst (IsAsked _) (same_Some asked q is) (asked_with _ sent.1 asked (device.fits, given.few) given.value
     (spoken speed OutTok dev text cut.0 cut.1 sent.0 sent.1 (cut_at-some 32 text cut found) device.text (data_found speed cut.1 sent second)))))))
@@ -258,9 +258,9 @@ record IsEight (xs : List ℕ) : Type 0 where
   again : bytes_of (setup_of xs) ≡ xs
   fits : IsSetupData (setup_of xs)
 
-eight_bytes : (xs : List ℕ) → length xs ≡ 8 → IsBytes xs → IsEight xs
+is_eight : (xs : List ℕ) → length xs ≡ 8 → IsBytes xs → IsEight xs
 unfolding bytes_of setup_of
-eight_bytes (a ∷ b ∷ c ∷ d ∷ e ∷ f ∷ g ∷ h ∷ []) size small =
+is_eight (a ∷ b ∷ c ∷ d ∷ e ∷ f ∷ g ∷ h ∷ []) size small =
     let value = word_parts c d (small 2) (small 3) in
     let index = word_parts e f (small 4) (small 5) in
     let count = word_parts g h (small 6) (small 7) in
@@ -268,15 +268,15 @@ eight_bytes (a ∷ b ∷ c ∷ d ∷ e ∷ f ∷ g ∷ h ∷ []) size small =
       again = rw (value.low, value.high, index.low, index.high, count.low, count.high) refl;
       fits = (small 0, small 1, value.few, index.few, count.few);
     }
-eight_bytes [] size small = absurd (omega arith)
-eight_bytes (a ∷ []) size small = absurd (omega arith)
-eight_bytes (a ∷ b ∷ []) size small = absurd (omega arith)
-eight_bytes (a ∷ b ∷ c ∷ []) size small = absurd (omega arith)
-eight_bytes (a ∷ b ∷ c ∷ d ∷ []) size small = absurd (omega arith)
-eight_bytes (a ∷ b ∷ c ∷ d ∷ e ∷ []) size small = absurd (omega arith)
-eight_bytes (a ∷ b ∷ c ∷ d ∷ e ∷ f ∷ []) size small = absurd (omega arith)
-eight_bytes (a ∷ b ∷ c ∷ d ∷ e ∷ f ∷ g ∷ []) size small = absurd (omega arith)
-eight_bytes (a ∷ b ∷ c ∷ d ∷ e ∷ f ∷ g ∷ h ∷ i ∷ xs) size small = absurd (omega arith)
+is_eight [] size small = absurd (omega arith)
+is_eight (a ∷ []) size small = absurd (omega arith)
+is_eight (a ∷ b ∷ []) size small = absurd (omega arith)
+is_eight (a ∷ b ∷ c ∷ []) size small = absurd (omega arith)
+is_eight (a ∷ b ∷ c ∷ d ∷ []) size small = absurd (omega arith)
+is_eight (a ∷ b ∷ c ∷ d ∷ e ∷ []) size small = absurd (omega arith)
+is_eight (a ∷ b ∷ c ∷ d ∷ e ∷ f ∷ []) size small = absurd (omega arith)
+is_eight (a ∷ b ∷ c ∷ d ∷ e ∷ f ∷ g ∷ []) size small = absurd (omega arith)
+is_eight (a ∷ b ∷ c ∷ d ∷ e ∷ f ∷ g ∷ h ∷ i ∷ xs) size small = absurd (omega arith)
 
 record GivenSetup (t : Toggle) (digits : List ℕ) (setup : SetupData) : Type 0 where
   zero_toggle : t ≡ Zero
@@ -286,15 +286,15 @@ record GivenSetup (t : Toggle) (digits : List ℕ) (setup : SetupData) : Type 0 
 setup_given : (t : Toggle) (digits xs : List ℕ) (setup : SetupData) → IsDataWord 64 digits xs → setup_by t xs ≡ Some setup → GivenSetup t digits setup
 setup_given One digits xs setup given e = absurd (cc)
 setup_given Zero digits xs setup given e =
-    if_found (length xs == 8) (Some (setup_of xs)) None setup e (λ eight is.
-    let whole = eight_bytes xs (eqb-true (length xs) 8 eight) given.few.1 in
+    if_some_cases (length xs == 8) (Some (setup_of xs)) None setup e (λ eight is.
+    let whole = is_eight xs (eqb-true (length xs) 8 eight) given.few.1 in
     subst (GivenSetup Zero digits) (same_Some (setup_of xs) setup is) (record { zero_toggle = refl; fits = whole.fits; value = given.value ∙ ap Some (sym whole.again) }))
-    (λ e. nothing setup e)
+    (λ e. none_not_some setup e)
 
 setup_read : (t : Toggle) (digits : List ℕ) (setup : SetupData) → setup_in t digits ≡ Some setup → GivenSetup t digits setup
 unfolding setup_in
 setup_read t digits setup e =
-    bind_some (result_ok (bytes_of_word 64 digits)) _ setup e (λ xs read e. setup_given t digits xs setup (data_word 64 digits xs (ok_read (bytes_of_word 64 digits) xs read)) e)
+    bind_some (result_ok (bytes_of_word 64 digits)) _ setup e (λ xs read e. setup_given t digits xs setup (bytes_of_word-data 64 digits xs (ok_read (bytes_of_word 64 digits) xs read)) e)
 
 setup_again : (s : SetupData) → setup_of (bytes_of s) ≡ s
 unfolding bytes_of setup_of
@@ -315,7 +315,7 @@ setup_found speed text q e =
     bind_some (endpoint_in cut.0) _ q e (λ dev first e.
     bind_some (data_behind speed cut.1) _ q e (λ sent second e.
     bind_some (setup_in sent.0 sent.1) _ q e (λ setup third is.
-    let device = device_found cut.0 dev first in
+    let device = endpoint_in-device cut.0 dev first in
     let given = setup_read sent.0 sent.1 setup third in
     let behind : 32 ∷ cut.1 ≡ between_text speed ++ data_with Zero sent.1 = data_found speed cut.1 sent second ∙ ap (λ t. between_text speed ++ data_with t sent.1) given.zero_toggle in
     subst (IsAsked _) (same_Some (Setup speed dev setup) q is) (asked_with _ sent.1 (Setup speed dev setup) (device.fits, given.fits) given.value
@@ -327,14 +327,14 @@ call_at text name a b same is e = word_is text name same ∙ is ∙ ap call_text
 call_found : (text : List ℕ) (call : PortCall) → call_in text ≡ Some call → text ≡ call_text call
 unfolding call_in
 call_found text call e =
-    if_found (bytes_eq text (codes "set PORT_POWER")) (Some SetPower) _ call e (λ same is. call_at text (codes "set PORT_POWER") SetPower call same refl is) (λ e.
-    if_found (bytes_eq text (codes "set PORT_RESET")) (Some SetReset) _ call e (λ same is. call_at text (codes "set PORT_RESET") SetReset call same refl is) (λ e.
-    if_found (bytes_eq text (codes "clear PORT_ENABLE")) (Some ClearEnable) _ call e (λ same is. call_at text (codes "clear PORT_ENABLE") ClearEnable call same refl is) (λ e.
-    if_found (bytes_eq text (codes "clear PORT_POWER")) (Some ClearPower) _ call e (λ same is. call_at text (codes "clear PORT_POWER") ClearPower call same refl is) (λ e.
-    if_found (bytes_eq text (codes "clear C_PORT_CONNECTION")) (Some ClearConnectionChange) _ call e (λ same is. call_at text (codes "clear C_PORT_CONNECTION") ClearConnectionChange call same refl is) (λ e.
-    if_found (bytes_eq text (codes "clear C_PORT_ENABLE")) (Some ClearEnableChange) _ call e (λ same is. call_at text (codes "clear C_PORT_ENABLE") ClearEnableChange call same refl is) (λ e.
-    if_found (bytes_eq text (codes "clear C_PORT_RESET")) (Some ClearResetChange) _ call e (λ same is. call_at text (codes "clear C_PORT_RESET") ClearResetChange call same refl is) (λ e.
-    nothing call e)))))))
+    if_some_cases (bytes_eq text (codes "set PORT_POWER")) (Some SetPower) _ call e (λ same is. call_at text (codes "set PORT_POWER") SetPower call same refl is) (λ e.
+    if_some_cases (bytes_eq text (codes "set PORT_RESET")) (Some SetReset) _ call e (λ same is. call_at text (codes "set PORT_RESET") SetReset call same refl is) (λ e.
+    if_some_cases (bytes_eq text (codes "clear PORT_ENABLE")) (Some ClearEnable) _ call e (λ same is. call_at text (codes "clear PORT_ENABLE") ClearEnable call same refl is) (λ e.
+    if_some_cases (bytes_eq text (codes "clear PORT_POWER")) (Some ClearPower) _ call e (λ same is. call_at text (codes "clear PORT_POWER") ClearPower call same refl is) (λ e.
+    if_some_cases (bytes_eq text (codes "clear C_PORT_CONNECTION")) (Some ClearConnectionChange) _ call e (λ same is. call_at text (codes "clear C_PORT_CONNECTION") ClearConnectionChange call same refl is) (λ e.
+    if_some_cases (bytes_eq text (codes "clear C_PORT_ENABLE")) (Some ClearEnableChange) _ call e (λ same is. call_at text (codes "clear C_PORT_ENABLE") ClearEnableChange call same refl is) (λ e.
+    if_some_cases (bytes_eq text (codes "clear C_PORT_RESET")) (Some ClearResetChange) _ call e (λ same is. call_at text (codes "clear C_PORT_RESET") ClearResetChange call same refl is) (λ e.
+    none_not_some call e)))))))
 
 three_parts : (front first last : List ℕ) → front ++ (first ++ 32 ∷ last) ≡ front ++ first ++ codes " " ++ last
 three_parts front first last = sym (append_assoc (front ++ first) (codes " ") last ∙ append_assoc front first (32 ∷ last))
@@ -356,27 +356,27 @@ word_at_front speed word name text q same h = subst (λ w. IsAsked (speed_text s
 token_found : (speed : Speed) (word text : List ℕ) (q : Question) → token_of_words speed word text ≡ Some q → IsAsked (speed_text speed ++ (word ++ 32 ∷ text)) q
 unfolding token_of_words
 token_found speed word text q e =
-    if_found (bytes_eq word (codes "SETUP")) (setup_question speed text) _ q e (λ same e. word_at_front speed word (codes "SETUP") text q same (setup_found speed text q e)) (λ e.
-    if_found (bytes_eq word (codes "OUT")) (out_question speed text) _ q e (λ same e. word_at_front speed word (codes "OUT") text q same (out_found speed text q e)) (λ e.
-    if_found (bytes_eq word (codes "IN")) (in_question speed text) _ q e (λ same e. word_at_front speed word (codes "IN") text q same (in_found speed text q e)) (λ e.
-    nothing q e)))
+    if_some_cases (bytes_eq word (codes "SETUP")) (setup_question speed text) _ q e (λ same e. word_at_front speed word (codes "SETUP") text q same (setup_found speed text q e)) (λ e.
+    if_some_cases (bytes_eq word (codes "OUT")) (out_question speed text) _ q e (λ same e. word_at_front speed word (codes "OUT") text q same (out_found speed text q e)) (λ e.
+    if_some_cases (bytes_eq word (codes "IN")) (in_question speed text) _ q e (λ same e. word_at_front speed word (codes "IN") text q same (in_found speed text q e)) (λ e.
+    none_not_some q e)))
 
 behind_found : (speed : Speed) (text : List ℕ) (q : Question) → token_behind speed text ≡ Some q → IsAsked (speed_text speed ++ text) q
 unfolding token_behind
 behind_found speed text q e =
-    bind_some (cut_at 32 text) _ q e (λ cut found e. asked_at (speed_text speed ++ text) (speed_text speed ++ (cut.0 ++ 32 ∷ cut.1)) q (ap (λ t. speed_text speed ++ t) (cut_at-some 32 text cut found)) (token_found speed cut.0 cut.1 q e))
+    bind_some (cut_at 32 text) _ q e (λ cut found e. asked_same_line (speed_text speed ++ text) (speed_text speed ++ (cut.0 ++ 32 ∷ cut.1)) q (ap (λ t. speed_text speed ++ t) (cut_at-some 32 text cut found)) (token_found speed cut.0 cut.1 q e))
 
-first_found : (text : List ℕ) (cut : List ℕ × List ℕ) (name : List ℕ) (q : Question) → cut_at 32 text ≡ Some cut → bytes_eq cut.0 name ≡ true → IsAsked (name ++ 32 ∷ cut.1) q → IsAsked text q
-first_found text cut name q found same h = asked_at text (name ++ 32 ∷ cut.1) q (cut_at-some 32 text cut found ∙ ap (λ w. w ++ 32 ∷ cut.1) (word_is cut.0 name same)) h
+asked_of_cut : (text : List ℕ) (cut : List ℕ × List ℕ) (name : List ℕ) (q : Question) → cut_at 32 text ≡ Some cut → bytes_eq cut.0 name ≡ true → IsAsked (name ++ 32 ∷ cut.1) q → IsAsked text q
+asked_of_cut text cut name q found same h = asked_same_line text (name ++ 32 ∷ cut.1) q (cut_at-some 32 text cut found ∙ ap (λ w. w ++ 32 ∷ cut.1) (word_is cut.0 name same)) h
 
 several_found : (text : List ℕ) (q : Question) → asked_in text ≡ Some q → IsAsked text q
 unfolding asked_in
 several_found text q e =
     bind_some (cut_at 32 text) _ q e (λ cut found e.
-    if_found (bytes_eq cut.0 (codes "port")) (port_question cut.1) _ q e (λ same e. first_found text cut (codes "port") q found same (port_found cut.1 q e)) (λ e.
-    if_found (bytes_eq cut.0 (codes "low")) (token_behind Low cut.1) _ q e (λ same e. first_found text cut (codes "low") q found same (behind_found Low cut.1 q e)) (λ e.
-    if_found (bytes_eq cut.0 (codes "PRE")) (token_behind LowBelowHub cut.1) _ q e (λ same e. first_found text cut (codes "PRE") q found same (behind_found LowBelowHub cut.1 q e)) (λ e.
-    asked_at text (cut.0 ++ 32 ∷ cut.1) q (cut_at-some 32 text cut found) (token_found Full cut.0 cut.1 q e)))))
+    if_some_cases (bytes_eq cut.0 (codes "port")) (port_question cut.1) _ q e (λ same e. asked_of_cut text cut (codes "port") q found same (port_found cut.1 q e)) (λ e.
+    if_some_cases (bytes_eq cut.0 (codes "low")) (token_behind Low cut.1) _ q e (λ same e. asked_of_cut text cut (codes "low") q found same (behind_found Low cut.1 q e)) (λ e.
+    if_some_cases (bytes_eq cut.0 (codes "PRE")) (token_behind LowBelowHub cut.1) _ q e (λ same e. asked_of_cut text cut (codes "PRE") q found same (behind_found LowBelowHub cut.1 q e)) (λ e.
+    asked_same_line text (cut.0 ++ 32 ∷ cut.1) q (cut_at-some 32 text cut found) (token_found Full cut.0 cut.1 q e)))))
 
 text_read : (l p : Bool) (line text : List ℕ) → ◌≡◌ {A = Result (List ℕ) WireFault} (if l then Err LineTooLong else if p then Ok line else Err BadCharacter) (Ok text) → line ≡ text
 text_read true p line text e = absurd (cc)
@@ -391,9 +391,9 @@ question_found : (line : List ℕ) (q : Question) → question_of line ≡ Some 
 unfolding question_of
 question_found line q e =
     bind_some (result_ok (text_of_line line)) _ q e (λ text read e.
-    asked_at line text q (text_of_line-ok line text (ok_read (text_of_line line) text read)) (
-    if_found (bytes_eq text (codes "wait")) (Some Wait) _ q e (λ same is. subst (IsAsked text) (same_Some Wait q is) (asked_with text (codes "-") Wait tt refl (word_is text (codes "wait") same))) (λ e.
-    if_found (bytes_eq text (codes "usbplan live 1")) (Some Hello) _ q e (λ same is. subst (IsAsked text) (same_Some Hello q is) (asked_with text (codes "-") Hello tt refl (word_is text (codes "usbplan live 1") same))) (λ e.
+    asked_same_line line text q (text_of_line-ok line text (ok_read (text_of_line line) text read)) (
+    if_some_cases (bytes_eq text (codes "wait")) (Some Wait) _ q e (λ same is. subst (IsAsked text) (same_Some Wait q is) (asked_with text (codes "-") Wait tt refl (word_is text (codes "wait") same))) (λ e.
+    if_some_cases (bytes_eq text (codes "usbplan live 1")) (Some Hello) _ q e (λ same is. subst (IsAsked text) (same_Some Hello q is) (asked_with text (codes "-") Hello tt refl (word_is text (codes "usbplan live 1") same))) (λ e.
     several_found text q e))))
 
 pub question_read-some : (line : List ℕ) (r : Option Question) → r ≡ question_of line → IfSome r (λ q. IsQuestion q × IsQuestionLine line q)
@@ -413,7 +413,7 @@ fine-append m n text more h k = record {
   printable = all_printable-append text more h.printable k.printable;
 }
 
-fine_word : (word : List ℕ) → IsWord 129 word → Fine 129 word
+fine_word : (word : List ℕ) → IsVisibleWord 129 word → Fine 129 word
 fine_word word w = record { short = w.short; printable = all_printable-visible word w.visible }
 
 fine_speed : (speed : Speed) → Fine 9 (speed_text speed)
@@ -448,7 +448,7 @@ fine_blank : Fine 1 (codes " ")
 fine_blank = record { short = lit≤ tt; printable = refl }
 
 fine_number : (n : ℕ) → n ≤ 1000 → Fine 129 (decimal n)
-fine_number n few = fine_word (decimal n) (number_word 129 n (omega arith) few)
+fine_number n few = fine_word (decimal n) (decimal-is_word 129 n (omega arith) few)
 
 fine_token : (speed : Speed) (kind : TokenKind) (e : Endpoint) → IsEndpoint e → Fine (9 + (9 + 129 + 1 + 129)) (speed_text speed ++ token_text kind e)
 fine_token speed kind e h =

@@ -25,23 +25,23 @@ use Rattle.usb_wire.proofs.WordLemmas.{HasNoSpace-visible, all_printable-append,
 -- ---- single words, each visible and short
 
 -- the word has no space, and at most so many bytes
-pub record IsWord (most : ℕ) (word : List ℕ) : Type 0 where
+pub record IsVisibleWord (most : ℕ) (word : List ℕ) : Type 0 where
   pub visible : all_visible word ≡ true
   pub short : length word ≤ most
 
 pub bytes_word : (most : ℕ) (word xs : List ℕ) → hex_value word ≡ Some xs → length xs ≤ most
-    → IsWord (2 * most + 1) word
+    → IsVisibleWord (2 * most + 1) word
 bytes_word most word xs e few =
     let spelled = spelled-value word xs e in
     record { visible = all_visible-hex word spelled.hex; short = omega (arith, hex_value-length word xs e) }
 
-pub number_word : (most n : ℕ) → 4 ≤ most → n ≤ 1000 → IsWord most (decimal n)
-number_word most n wide few =
+pub decimal-is_word : (most n : ℕ) → 4 ≤ most → n ≤ 1000 → IsVisibleWord most (decimal n)
+decimal-is_word most n wide few =
     let short = length-decimal-le 4 n (lit< tt) (omega arith) (omega arith) in
     record { visible = all_visible-decimal n (omega arith); short = omega (arith, short, wide) }
 
-path_word : (most : ℕ) (p : List ℕ) → 13 ≤ most → IsPath p → IsWord most (path_text p)
-path_word most p wide h =
+path_text-is_word : (most : ℕ) (p : List ℕ) → 13 ≤ most → IsPath p → IsVisibleWord most (path_text p)
+path_text-is_word most p wide h =
     let short = length-path_text p in
     record { visible = all_visible-path_text p h.2; short = omega (arith, short, h.1, wide) }
 
@@ -68,7 +68,7 @@ read_path p h = ap (λ o. ok_or o BadPath) (reads_back p h)
 -- ---- lines of one, two and three words
 
 -- the line is read as this
-record Reads (asked : Asked) (count : ℕ) (line : List ℕ) (s : Said) : Type 0 where
+record ReadsLine (asked : Asked) (count : ℕ) (line : List ℕ) (s : Said) : Type 0 where
   short : length line ≤ 1024
   printable : all_printable line ≡ true
   says : words_say asked count (words line) ≡ Ok s
@@ -79,7 +79,7 @@ record IsFront (front first : List ℕ) : Type 0 where
   printable : all_printable front ≡ true
   cut : (rest : List ℕ) → words (front ++ rest) ≡ first ∷ words rest
 
-read_two : (asked : Asked) (count : ℕ) (front first word : List ℕ) (s : Said) → IsFront front first → IsWord 1001 word → words_say asked count (first ∷ word ∷ []) ≡ Ok s → Reads asked count (front ++ word) s
+read_two : (asked : Asked) (count : ℕ) (front first word : List ℕ) (s : Said) → IsFront front first → IsVisibleWord 1001 word → words_say asked count (first ∷ word ∷ []) ≡ Ok s → ReadsLine asked count (front ++ word) s
 read_two asked count front first word s f w e =
     let cut : words (front ++ word) ≡ first ∷ word ∷ [] = f.cut word ∙ ap (λ ws. first ∷ ws) (words_none word (HasNoSpace-visible word w.visible)) in
     record {
@@ -88,8 +88,8 @@ read_two asked count front first word s f w e =
       says = ap (words_say asked count) cut ∙ e;
     }
 
-read_three : (asked : Asked) (count : ℕ) (front first word last : List ℕ) (s : Said) → IsFront front first → IsWord 13 word → IsWord 1001 last → words_say asked count (first ∷ word ∷ last ∷ []) ≡ Ok s
-    → Reads asked count (front ++ word ++ codes " " ++ last) s
+read_three : (asked : Asked) (count : ℕ) (front first word last : List ℕ) (s : Said) → IsFront front first → IsVisibleWord 13 word → IsVisibleWord 1001 last → words_say asked count (first ∷ word ∷ last ∷ []) ≡ Ok s
+    → ReadsLine asked count (front ++ word ++ codes " " ++ last) s
 read_three asked count front first word last s f w l e =
     let behind : words (word ++ 32 ∷ last) ≡ word ∷ last ∷ [] =
     words_cut word last (HasNoSpace-visible word w.visible) ∙ ap (λ ws. word ∷ ws) (words_none last (HasNoSpace-visible last l.visible)) in
@@ -98,16 +98,16 @@ read_three asked count front first word last s f w l e =
     let size : length (front ++ (word ++ 32 ∷ last)) ≡ length front + length (word ++ 32 ∷ last) = length-append front (word ++ 32 ∷ last) in
     let more : length (word ++ 32 ∷ last) ≡ length word + length (32 ∷ last) = length-append word (32 ∷ last) in
     let plain = all_printable-append word (32 ∷ last) (all_printable-visible word w.visible) (all_printable-visible last l.visible) in
-    subst (λ line. Reads asked count line s) (sym whole) (record {
+    subst (λ line. ReadsLine asked count line s) (sym whole) (record {
       short = omega (arith, size, more, f.short, w.short, l.short);
       printable = all_printable-append front (word ++ 32 ∷ last) f.printable plain;
       says = ap (words_say asked count) cut ∙ e;
     })
 
 -- the first word of a data packet
-abbrev data_word : Toggle → List ℕ
-data_word Zero = codes "DATA0"
-data_word One = codes "DATA1"
+abbrev printed_data : Toggle → List ℕ
+printed_data Zero = codes "DATA0"
+printed_data One = codes "DATA1"
 
 port_front : IsFront (codes "port ") (codes "port")
 port_front = record { short = lit≤ tt; printable = refl; cut = λ rest. refl }
@@ -123,9 +123,9 @@ push_said Port count number status digits may low high small e four = rw (read_s
 push_said Wait count number status digits may low high small e four = rw (read_status digits status e four, read_number 1 count number low high (omega arith)) refl
 
 read_changed : (asked : Asked) (count number : ℕ) (status digits : List ℕ) → MayPush asked → 1 ≤ number → number ≤ count → count < 256 → hex_value digits ≡ Some status → length status ≡ 4
-    → Reads asked count (codes "port " ++ decimal number ++ codes " " ++ digits) (Changed number status)
+    → ReadsLine asked count (codes "port " ++ decimal number ++ codes " " ++ digits) (Changed number status)
 read_changed asked count number status digits may low high small e four =
-    read_three asked count (codes "port ") (codes "port") (decimal number) digits (Changed number status) port_front (number_word 13 number (omega arith) (omega arith)) (bytes_word 500 digits status e (omega (arith, four)))
+    read_three asked count (codes "port ") (codes "port") (decimal number) digits (Changed number status) port_front (decimal-is_word 13 number (omega arith) (omega arith)) (bytes_word 500 digits status e (omega (arith, four)))
     (push_said asked count number status digits may low high small e four)
 
 roots_said : (count n : ℕ) → 1 ≤ n → n ≤ 7 → words_say Hello count (codes "roots" ∷ decimal n ∷ []) ≡ Ok (Answered (Roots n))
@@ -133,7 +133,7 @@ unfolding words_say with_one roots_answer
 roots_said count n low high = rw (read_number 1 7 n low high (omega arith)) refl
 
 data_said : (count : ℕ) (toggle : Toggle) (xs digits : List ℕ) → hex_value digits ≡ Some xs → length xs ≤ 64
-    → words_say Attempt count (data_word toggle ∷ digits ∷ []) ≡ Ok (Answered (Data (record { toggle = toggle; bytes = record { items = xs } })))
+    → words_say Attempt count (printed_data toggle ∷ digits ∷ []) ≡ Ok (Answered (Data (record { toggle = toggle; bytes = record { items = xs } })))
 unfolding words_say with_one data_answer
 data_said count Zero xs digits e few = rw (read_bytes 64 digits xs e few) refl
 data_said count One xs digits e few = rw (read_bytes 64 digits xs e few) refl
@@ -151,43 +151,43 @@ receive_said : (count : ℕ) (p : List ℕ) (n : ℕ) → IsPath p → n ≤ 100
 unfolding words_say three_say with_two receive_answer
 receive_said count p n h few = rw (read_number 0 1000 n (omega arith) few few, read_path p h) refl
 
-data_front : (toggle : Toggle) → IsFront (data_name toggle) (data_word toggle)
+data_front : (toggle : Toggle) → IsFront (data_name toggle) (printed_data toggle)
 data_front Zero = record { short = lit≤ tt; printable = refl; cut = λ rest. refl }
 data_front One = record { short = lit≤ tt; printable = refl; cut = λ rest. refl }
 
 -- a line that is one word
-read_one : (asked : Asked) (count : ℕ) (line : List ℕ) (s : Said) → length line ≤ 1024 → all_printable line ≡ true → words_say asked count (words line) ≡ Ok s → Reads asked count line s
+read_one : (asked : Asked) (count : ℕ) (line : List ℕ) (s : Said) → length line ≤ 1024 → all_printable line ≡ true → words_say asked count (words line) ≡ Ok s → ReadsLine asked count line s
 read_one asked count line s short printable says = record { short = short; printable = printable; says = says }
 
-read_answer : (asked : Asked) (count : ℕ) (digits : List ℕ) (a : Answer) → MayAnswer asked a → hex_value digits ≡ Some (answer_bytes a) → Reads asked count (answer_in_digits digits a) (Answered a)
+read_answer : (asked : Asked) (count : ℕ) (digits : List ℕ) (a : Answer) → MayAnswer asked a → hex_value digits ≡ Some (answer_bytes a) → ReadsLine asked count (answer_in_digits digits a) (Answered a)
 unfolding words_say alone
 read_answer Hello count digits (Roots n) h e =
-    read_two Hello count (codes "roots ") (codes "roots") (decimal n) (Answered (Roots n)) (record { short = lit≤ tt; printable = refl; cut = λ rest. refl }) (number_word 1001 n (omega arith) (omega (arith, h.1))) (roots_said count n h.0 h.1)
+    read_two Hello count (codes "roots ") (codes "roots") (decimal n) (Answered (Roots n)) (record { short = lit≤ tt; printable = refl; cut = λ rest. refl }) (decimal-is_word 1001 n (omega arith) (omega (arith, h.1))) (roots_said count n h.0 h.1)
 read_answer Attempt count digits Ack h e = read_one Attempt count (codes "ACK") (Answered Ack) (lit≤ tt) refl refl
 read_answer Attempt count digits Nak h e = read_one Attempt count (codes "NAK") (Answered Nak) (lit≤ tt) refl refl
 read_answer Attempt count digits Stall h e = read_one Attempt count (codes "STALL") (Answered Stall) (lit≤ tt) refl refl
 read_answer Attempt count digits Nothing h e = read_one Attempt count (codes "none") (Answered Nothing) (lit≤ tt) refl refl
 read_answer Attempt count digits (Data sent) h e =
-    read_two Attempt count (data_name sent.toggle) (data_word sent.toggle) digits (Answered (Data sent)) (data_front sent.toggle) (bytes_word 500 digits sent.bytes.items e (omega (arith, h.0))) (data_said count sent.toggle sent.bytes.items digits e h.0)
+    read_two Attempt count (data_name sent.toggle) (printed_data sent.toggle) digits (Answered (Data sent)) (data_front sent.toggle) (bytes_word 500 digits sent.bytes.items e (omega (arith, h.0))) (data_said count sent.toggle sent.bytes.items digits e h.0)
 read_answer Port count digits Done h e = read_one Port count (codes "ok") (Answered Done) (lit≤ tt) refl refl
 read_answer Wait count digits Done h e = read_one Wait count (codes "ok") (Answered Done) (lit≤ tt) refl refl
 read_answer Wait count digits Show h e = read_one Wait count (codes "show") (Answered Show) (lit≤ tt) refl refl
 read_answer Wait count digits End h e = read_one Wait count (codes "end") (Answered End) (lit≤ tt) refl refl
 read_answer Wait count digits (Send p sent) h e =
-    read_three Wait count (codes "send ") (codes "send") (path_text p) digits (Answered (Send p sent)) (record { short = lit≤ tt; printable = refl; cut = λ rest. refl }) (path_word 13 p (omega arith) h.0) (bytes_word 500 digits sent.items e h.1.0)
+    read_three Wait count (codes "send ") (codes "send") (path_text p) digits (Answered (Send p sent)) (record { short = lit≤ tt; printable = refl; cut = λ rest. refl }) (path_text-is_word 13 p (omega arith) h.0) (bytes_word 500 digits sent.items e h.1.0)
     (send_said count p sent.items digits h.0 e h.1.0)
 read_answer Wait count digits (Receive p n) h e =
-    read_three Wait count (codes "receive ") (codes "receive") (path_text p) (decimal n) (Answered (Receive p n)) (record { short = lit≤ tt; printable = refl; cut = λ rest. refl }) (path_word 13 p (omega arith) h.0) (number_word 1001 n (omega arith) h.1)
+    read_three Wait count (codes "receive ") (codes "receive") (path_text p) (decimal n) (Answered (Receive p n)) (record { short = lit≤ tt; printable = refl; cut = λ rest. refl }) (path_text-is_word 13 p (omega arith) h.0) (decimal-is_word 1001 n (omega arith) h.1)
     (receive_said count p n h.0 h.1)
 read_answer Wait count digits (Clear p) h e =
-    read_two Wait count (codes "clear ") (codes "clear") (path_text p) (Answered (Clear p)) (record { short = lit≤ tt; printable = refl; cut = λ rest. refl }) (path_word 1001 p (omega arith) h) (clear_said count p h)
+    read_two Wait count (codes "clear ") (codes "clear") (path_text p) (Answered (Clear p)) (record { short = lit≤ tt; printable = refl; cut = λ rest. refl }) (path_text-is_word 1001 p (omega arith) h) (clear_said count p h)
 read_answer _ count digits _ h e = absurd h
 
-read_line : (asked : Asked) (count : ℕ) (line : List ℕ) (s : Said) → Reads asked count line s → line_says asked count line ≡ Ok s
+read_line : (asked : Asked) (count : ℕ) (line : List ℕ) (s : Said) → ReadsLine asked count line s → line_says asked count line ≡ Ok s
 unfolding line_says text_of_line
 read_line asked count line s h = rw (le-ltb 1024 (length line) h.short, h.printable) h.says
 
-read_said : (asked : Asked) (count : ℕ) (digits : List ℕ) (s : Said) → count < 256 → MaySay asked count s → hex_value digits ≡ Some (said_bytes s) → Reads asked count (said_in_digits digits s) s
+read_said : (asked : Asked) (count : ℕ) (digits : List ℕ) (s : Said) → count < 256 → MaySay asked count s → hex_value digits ≡ Some (said_bytes s) → ReadsLine asked count (said_in_digits digits s) s
 read_said asked count digits (Changed number status) small h e = read_changed asked count number status digits h.0 h.1 h.2 small e h.3
 read_said asked count digits (Answered a) small h e = read_answer asked count digits a h e
 

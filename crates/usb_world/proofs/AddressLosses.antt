@@ -18,10 +18,10 @@ use Rattle.usb_world.specs.World.{IsAttempt, sends_data}
 use Rattle.usb_world.specs.Exchange.{lost_in, is_lost, goes_out, token_of, payload_of, token_out, payload_out, reply_in, reply_out, readable, ack_if, answered_in, heard_in, mark_in, place_of_answer, outcome_of}
 use Rattle.usb_world.specs.AttemptPackets.{after_sent, heard_by, deep_at, IfOut, IsTokenFor, IsAckOut, IsSettled}
 use Rattle.usb_world.specs.OneHolder.{way_to, token_way, reply_way, IsIn}
-use Rattle.usb_world.proofs.Booleans.{no, and_false}
+use Rattle.usb_world.proofs.Booleans.{false_true, and_false}
 use Rattle.usb_world.proofs.StepInvariants.{rests}
 use Rattle.usb_world.proofs.AttemptPackets.{ack_calls, sent_out}
-use Rattle.usb_world.proofs.AwaitedAcks.{IsNoControlIn, ReadsNoControlIn, data_no_control_in, ack_no_control_in, no_loss_sent, rests_loss, acked_loss, ack_received, whole as whole_packet}
+use Rattle.usb_world.proofs.AwaitedAcks.{IsNoControlIn, ReadsNoControlIn, data_no_control_in, ack_no_control_in, no_loss_sent, rests_loss, acked_loss, ack_received, whole_sent as whole_packet}
 use Rattle.usb_world.proofs.Courses.{goes}
 use Rattle.usb_world.proofs.OneDevice.{SentToOne, sent_to_one, settled_memory, token_calls, other_address}
 use Rattle.usb_world.proofs.OneHolder.{holder_holds, ports_by, sent_stands, token_comes, no_payload, none_is, through_spec, way_same, Holder}
@@ -65,16 +65,16 @@ in_unlost a k none s =
     by_data false = refl
     by_data true = ap (λ o. has_loss (after_sent (Some (whole_packet a.low a.pre packet.Ack)) (after_sent o (after_sent (token_out a None) k)))) (no_payload a None none) ∙ acked_loss a.low a.pre a.kind a.addr a.ep false k (rests_loss k (rests k s))
 
-pub none_lost : (a : Attempt) (k : Ports) → IsAttempt a → IsSettled k → lost_in a None k ≡ false
+pub lost_in-none : (a : Attempt) (k : Ports) → IsAttempt a → IsSettled k → lost_in a None k ≡ false
 unfolding token_of
-none_lost a k is s = by_kind a.kind refl
+lost_in-none a k is s = by_kind a.kind refl
   where
     by_kind : (x : TokenKind) → a.kind ≡ x → lost_in a None k ≡ false
     by_kind InTok e = in_unlost a k (none_is a (empty a.payload (is.payload_sent ∙ ap sends_data e))) s
       where
         empty : {A : Type 0} (o : Option A) → is_some o ≡ false → o ≡ None
         empty None h = refl
-        empty (Some x) h = no (sym h)
+        empty (Some x) h = false_true (sym h)
     by_kind x e = no_control_in_unlost a None k (subst (λ y. IsNoControlIn (packet.Token y a.addr a.ep)) (sym e) tt) s
 
 -- IN, where one device holds the address: a loss is counted where that device awaits the host's ACK, and does not see it

@@ -29,7 +29,7 @@ use Rattle.usb_device.specs.Transfer.{Stage, idle, refused, reading, read, endin
 use Rattle.usb_request.specs.Layout.{setup_of}
 use Rattle.usb_device.specs.Tree.{Ports, ended, vacant, taken, Place, empty, full, called, changed}
 use Rattle.usb_device.specs.Tree.{reach, reach_at, state_at, place_at, row_of, path_to, state_on}
-use Rattle.usb_device.specs.Delivery.{hears, reply_to, answer_of, answers, listed, held, is_twice}
+use Rattle.usb_device.specs.Delivery.{hears, reply_to, answer_of, answers, listed, held_addresses, repeats}
 use Rattle.usb_device.proofs.Interface.{keeps-received}
 use Rattle.usb_world.specs.declared.damage.Damage.{Damage}
 use Rattle.usb_world.specs.declared.types.Attempt.{Attempt}
@@ -46,11 +46,11 @@ use Rattle.usb_world.specs.WayEffects.{resets_at, call_resets}
 use Rattle.usb_world.specs.AttemptPackets.{after_sent, answers_to, after_attempt, deep_at}
 use Rattle.usb_world.specs.AttemptPackets.{sent_resets, attempt_resets}
 use Rattle.usb_world.specs.World.{World}
-use Rattle.usb_world.specs.Steps.{took, ready, damage_in, with_attempt, event_taken, Step, attempt}
+use Rattle.usb_world.specs.Steps.{after_event, at_attempt, damage_in, with_attempt, event_taken, Step, attempt}
 use Rattle.usb_world.specs.Steps.{root_call, event, report, after}
-use Rattle.usb_world.specs.Courses.{is_made, made_resets, root_resets, resets, address_at, Own}
+use Rattle.usb_world.specs.Courses.{is_made, made_resets, root_resets, resets, address_at, HoldsMapped}
 use Rattle.usb_world.specs.Courses.{Injective, is_quiet, QuietStep, quiet_data}
-use Rattle.usb_world.proofs.Booleans.{no, both, and_of, decided, neither_of}
+use Rattle.usb_world.proofs.Booleans.{false_true, both, and_of, decided, neither_of}
 use Rattle.usb_world.proofs.PlugEvents.{happened_there}
 use Rattle.usb_world.proofs.PortCalls.{call_state}
 use Rattle.usb_world.proofs.PacketEffects.{packet_state, heard_state}
@@ -61,7 +61,7 @@ use Rattle.usb_world.proofs.Courses.{happened_reach, made_reach, root_reach, goe
 use Rattle.usb_world.proofs.HarmlessRequests.{harmless_resets, IsHarmlessOut}
 use Rattle.usb_world.proofs.States.{kept_address, forgotten_address}
 use Rattle.usb_world.proofs.LiftedSteps.{OverEvents, OverSteps, Keeps, keeps_events}
-use Rattle.usb_world.proofs.LiftedSteps.{over_taken, over_ready, over_attempt, over_step}
+use Rattle.usb_world.proofs.LiftedSteps.{over_taken, over_ready, after-attempt_by, over_step}
 use Rattle.usb_world.proofs.DueEvents.{beside_events, ready_shared}
 
 -- A packet that is no ACK changes no address
@@ -117,8 +117,8 @@ attempt_address t d ct cd k j p f h =
 
 -- Where each reachable device holds an address of its own, no address is held twice
 
-pub own_not_twice : (f : List ℕ → Option ℕ) → Injective f → (w : World) → Own f w → is_twice (held w.roots) ≡ false
-own_not_twice f inj w own = split (decided (is_twice (held w.roots)))
+pub own_not_twice : (f : List ℕ → Option ℕ) → Injective f → (w : World) → HoldsMapped f w → repeats (held_addresses w.roots) ≡ false
+own_not_twice f inj w own = split (decided (repeats (held_addresses w.roots)))
   where
     at_of : (h : Option ℕ) (x : Option ℕ) (n : ℕ) → h ≡ x → h ≡ Some n → x ≡ Some n
     at_of h x n e g = sym e ∙ g
@@ -128,20 +128,20 @@ own_not_twice f inj w own = split (decided (is_twice (held w.roots)))
         (at_of (option_map address_of (state_on w.roots t.one.spot)) (f (path_to t.one.spot)) t.n (own (path_to t.one.spot) t.one.on) t.one.at)
         (at_of (option_map address_of (state_on w.roots t.other.spot)) (f (path_to t.other.spot)) t.n (own (path_to t.other.spot) t.other.on) t.other.at)
 
-    split : (is_twice (held w.roots) ≡ true) ⊎ (is_twice (held w.roots) ≡ false) → is_twice (held w.roots) ≡ false
-    split (inl y) = no (found (twice_two w.roots y))
+    split : (repeats (held_addresses w.roots) ≡ true) ⊎ (repeats (held_addresses w.roots) ≡ false) → repeats (held_addresses w.roots) ≡ false
+    split (inl y) = false_true (found (twice_two w.roots y))
     split (inr y) = y
 
 -- Events
 
 -- a device that is reached was reached before, and is as it was
-abbrev pub Stood : List ℕ → World → World → Type 0
-Stood p w v =
+abbrev pub StandsAfter : List ℕ → World → World → Type 0
+StandsAfter p w v =
     reach v.roots p ≡ true
     → (reach w.roots p ≡ true) × (state_there v.roots p ≡ state_there w.roots p)
 
-pub stood_events : (p : List ℕ) → OverEvents (Stood p)
-unfolding took
+pub stood_events : (p : List ℕ) → OverEvents (StandsAfter p)
+unfolding after_event
 stood_events p = record {
   same = λ w on. (on, refl);
   joined = λ w m v x y on.
@@ -151,7 +151,7 @@ stood_events p = record {
       (before.0, (happened_there e.action w.devices w.roots p before.1).2);
 }
 
-pub ready_stood : (w : World) (p : List ℕ) → Stood p w (ready w)
+pub ready_stood : (w : World) (p : List ℕ) → StandsAfter p w (at_attempt w)
 ready_stood w p = over_ready (stood_events p) w
 
 pub taken_state : (f : Option BusFault) (w : World) (p : List ℕ) → reach (event_taken f w).roots p ≡ true → state_there (event_taken f w).roots p ≡ state_there w.roots p
@@ -274,7 +274,7 @@ no_data_reply [] m max h = refl
 no_data_reply (answer.Ack ∷ []) m max h = refl
 no_data_reply (answer.Nak ∷ []) m max h = refl
 no_data_reply (answer.Stall ∷ []) m max h = refl
-no_data_reply (answer.Data t b ∷ []) m max h = no h
+no_data_reply (answer.Data t b ∷ []) m max h = false_true h
 no_data_reply (x ∷ y ∷ more) m max h = refl
 
 -- Attempts that send setup data
@@ -323,12 +323,12 @@ setup_sends a d SetupTok (Some x) et eo h = record {
   payload_no_ack = rw eo (no_ack_goes a.low a.pre (mark_of (harm_to d 2) a.pre (Payload x.0 x.1)) (Payload x.0 x.1) refl);
   harmless = λ k j p. rw eo (harmless_goes a.low a.pre (mark_of (harm_to d 2) a.pre (Payload x.0 x.1)) (Payload x.0 x.1) h k j p);
 }
-setup_sends a d OutTok o et eo h = no h
-setup_sends a d InTok o et eo h = no h
+setup_sends a d OutTok o et eo h = false_true h
+setup_sends a d InTok o et eo h = false_true h
 
-no_reply : (a : Attempt) (d : Option Damage) (k : Ports) → SetupGoes a d → reply_out a d k ≡ None
+reply_out-setup : (a : Attempt) (d : Option Damage) (k : Ports) → SetupGoes a d → reply_out a d k ≡ None
 unfolding marked_some
-no_reply a d k g =
+reply_out-setup a d k g =
     ap (λ o. goes_out a (marked_some d (place_of_answer a d + 1) a.pre o))
     (no_data_reply (answers_to (token_out a d) k ++ answers_to (payload_out a d) (after_sent (token_out a d) k)) (mark_in a d k) a.max
     (no_data_append (answers_to (token_out a d) k) (answers_to (payload_out a d) (after_sent (token_out a d) k)) (no_data_told (token_out a d) g.token k) (no_data_told (payload_out a d) g.payload (after_sent (token_out a d) k))))
@@ -338,7 +338,7 @@ unfolding with_attempt ports_in
 made_address a w g [] = refl
 made_address a w g (zero ∷ p) = refl
 made_address a w g (suc j ∷ p) =
-    ap (λ r. option_map address_of (state_at (after_attempt (token_out a (damage_in w)) (payload_out a (damage_in w)) r w.roots) j p)) (no_reply a (damage_in w) w.roots g)
+    ap (λ r. option_map address_of (state_at (after_attempt (token_out a (damage_in w)) (payload_out a (damage_in w)) r w.roots) j p)) (reply_out-setup a (damage_in w) w.roots g)
     ∙ attempt_address (token_out a (damage_in w)) (payload_out a (damage_in w)) g.token_no_ack g.payload_no_ack w.roots j p
     (calm_sent (token_out a (damage_in w)) (token_calm_out a.addr (token_out a (damage_in w)) (goes a (damage_in w) w.roots).token) w.roots j p)
     (g.harmless (after_sent (token_out a (damage_in w)) w.roots) j p)
@@ -352,18 +352,18 @@ pub quiet_resets : (s : Step) (w : World) (p : List ℕ) → is_quiet s ≡ true
 unfolding resets
 quiet_resets (attempt a) w p h = made (is_made w.fault w) (by_path p)
   where
-    made : (x : Bool) → made_resets a (ready w) p ≡ false → (x && made_resets a (ready w) p) ≡ false
+    made : (x : Bool) → made_resets a (at_attempt w) p ≡ false → (x && made_resets a (at_attempt w) p) ≡ false
     made true h = h
     made false h = refl
 
-    by_path : (p : List ℕ) → made_resets a (ready w) p ≡ false
+    by_path : (p : List ℕ) → made_resets a (at_attempt w) p ≡ false
     by_path [] = refl
     by_path (zero ∷ p) = refl
-    by_path (suc j ∷ p) = (quiet_sends a (damage_in (ready w)) h).harmless (after_sent (token_out a (damage_in (ready w))) (ready w).roots) j p
+    by_path (suc j ∷ p) = (quiet_sends a (damage_in (at_attempt w)) h).harmless (after_sent (token_out a (damage_in (at_attempt w))) (at_attempt w).roots) j p
 quiet_resets (root_call c n) w p h = by_path n p
   where
     off : (x y : Bool) → not x ≡ true → (x && y) ≡ false
-    off true y h = no h
+    off true y h = false_true h
     off false y h = refl
 
     by_path : (n : ℕ) (p : List ℕ) → root_resets c n w.roots p ≡ false
@@ -376,41 +376,41 @@ quiet_resets event w p h = refl
 quiet_resets (report l) w p h = refl
 
 -- each device keeps its own address over a quiet step
-pub own_steps : (f : List ℕ → Option ℕ) → OverSteps QuietStep (Keeps (Own f))
+pub own_steps : (f : List ℕ → Option ℕ) → OverSteps QuietStep (Keeps (HoldsMapped f))
 unfolding resets
 own_steps f = record {
-  events = keeps_events (Own f) (λ e es w l own p h.
+  events = keeps_events (HoldsMapped f) (λ e es w l own p h.
       let x : _ = (stood_events p).came e es w l h in
       ap (option_map address_of) x.1 ∙ own p x.0);
   made = λ a w made q own p h.
-      let rest : made_resets a (ready w) p ≡ false =
-      ap (λ x. x && made_resets a (ready w) p) (sym made) ∙ quiet_resets (attempt a) w p q in
-      made_address a (ready w) (quiet_sends a (damage_in (ready w)) q) p
-      ∙ own p (made_reach a (ready w) p rest h);
+      let rest : made_resets a (at_attempt w) p ≡ false =
+      ap (λ x. x && made_resets a (at_attempt w) p) (sym made) ∙ quiet_resets (attempt a) w p q in
+      made_address a (at_attempt w) (quiet_sends a (damage_in (at_attempt w)) q) p
+      ∙ own p (made_reach a (at_attempt w) p rest h);
   root = λ c n w q own p h.
       let rest : _ = quiet_resets (root_call c n) w p q in
       root_address c n w.roots p rest ∙ own p (root_reach c n w.roots p rest h);
   refused = λ w own. own;
 }
 
-pub step_own : (f : List ℕ → Option ℕ) (s : Step) (w : World) → is_quiet s ≡ true → Own f w → Own f (after s w)
+pub step_own : (f : List ℕ → Option ℕ) (s : Step) (w : World) → is_quiet s ≡ true → HoldsMapped f w → HoldsMapped f (after s w)
 step_own f = over_step (own_steps f)
 
-pub ready_own : (f : List ℕ → Option ℕ) (w : World) → Own f w → Own f (ready w)
+pub ready_own : (f : List ℕ → Option ℕ) (w : World) → HoldsMapped f w → HoldsMapped f (at_attempt w)
 ready_own f = over_ready (own_steps f).events
 
 -- no mark is set
 
 -- neither a world before an attempt nor the attempt sets the mark
-pub ready_unshared : (f : List ℕ → Option ℕ) → Injective f → (w : World) → Own f w → w.shared ≡ false → ((ready w).shared || is_twice (held (ready w).roots)) ≡ false
+pub ready_unshared : (f : List ℕ → Option ℕ) → Injective f → (w : World) → HoldsMapped f w → w.shared ≡ false → ((at_attempt w).shared || repeats (held_addresses (at_attempt w).roots)) ≡ false
 ready_unshared f inj w own h =
-    neither_of (ready w).shared (is_twice (held (ready w).roots))
-    (ready_shared w ∙ h) (own_not_twice f inj (ready w) (ready_own f w own))
+    neither_of (at_attempt w).shared (repeats (held_addresses (at_attempt w).roots))
+    (ready_shared w ∙ h) (own_not_twice f inj (at_attempt w) (ready_own f w own))
 
-pub step_unshared : (f : List ℕ → Option ℕ) → Injective f → (s : Step) (w : World) → Own f w → w.shared ≡ false → (after s w).shared ≡ false
+pub step_unshared : (f : List ℕ → Option ℕ) → Injective f → (s : Step) (w : World) → HoldsMapped f w → w.shared ≡ false → (after s w).shared ≡ false
 unfolding after with_attempt
 step_unshared f inj (attempt a) w own h =
-    over_attempt (λ v. v.shared ≡ false) a w (λ _. (h, h)) (λ _. ready_unshared f inj w own h)
+    after-attempt_by (λ v. v.shared ≡ false) a w (λ _. (h, h)) (λ _. ready_unshared f inj w own h)
 step_unshared f inj (root_call c n) w own h = h
 step_unshared f inj event w own h = ap (λ v. v.shared) (over_taken beside_events w.fault w) ∙ h
 step_unshared f inj (report l) w own h = h

@@ -15,31 +15,31 @@ use Rattle.usb_world.specs.declared.types.Attempt.{Attempt}
 use Rattle.usb_world.specs.Paths.{address_of, same_number, same_path}
 use Rattle.usb_world.specs.AttemptPackets.{deep_at}
 use Rattle.usb_world.specs.World.{World}
-use Rattle.usb_world.specs.Steps.{ready, damage_in, with_attempt, attempt, after}
-use Rattle.usb_world.specs.Courses.{Own}
+use Rattle.usb_world.specs.Steps.{at_attempt, damage_in, with_attempt, attempt, after}
+use Rattle.usb_world.specs.Courses.{HoldsMapped}
 use Rattle.usb_world.specs.OneHolder.{token_way, answer_way, reply_way, IsIn, HolderIn}
 use Rattle.usb_world.specs.Addresses.{is_setup, after_taking, ends_status}
-use Rattle.usb_world.proofs.Booleans.{no, decided}
-use Rattle.usb_world.proofs.Holders.{one_path}
+use Rattle.usb_world.proofs.Booleans.{false_true, decided}
+use Rattle.usb_world.proofs.Holders.{is_twice-one_path}
 use Rattle.usb_world.proofs.Courses.{made_reach}
 use Rattle.usb_world.proofs.OneHolder.{holder_holds, Holder}
 use Rattle.usb_world.proofs.OneHolderAttempts.{made_is, holder_in, in_in, silent_in}
 use Rattle.usb_world.proofs.AddressesKept.{ready_own}
-use Rattle.usb_world.proofs.AddressesInTransfers.{data_calm, ports_address, bulk_acked}
+use Rattle.usb_world.proofs.AddressesInTransfers.{data_calm, ports_address, bulk_ack-address}
 use Rattle.usb_world.proofs.RootResets.{same_is}
 use Rattle.usb_world.proofs.Equality.{self_number, self_path}
 
 -- The address after IN
 
-abbrev Kept : State → Reply → Type 0
-Kept s r = address_of r.1 ≡ address_of s
+abbrev AddressKept : State → Reply → Type 0
+AddressKept s r = address_of r.1 ≡ address_of s
 
-kept_if : (s : State) (b : Bool) (x y : Reply) → Kept s x → Kept s y → Kept s (if b then x else y)
+kept_if : (s : State) (b : Bool) (x y : Reply) → AddressKept s x → AddressKept s y → AddressKept s (if b then x else y)
 kept_if s true x y h g = h
 kept_if s false x y h g = g
 
 -- data that is given, where what gave it changes no address
-gave_keeps : (s d : State) (giver : InEndpoint) (max : ℕ) (t : Toggle) (bytes : List ℕ) (x y : Way) → address_of d ≡ address_of s → address_of (acknowledged d giver) ≡ address_of s → Kept s (gave d giver max t bytes x y)
+gave_keeps : (s d : State) (giver : InEndpoint) (max : ℕ) (t : Toggle) (bytes : List ℕ) (x y : Way) → address_of d ≡ address_of s → address_of (acknowledged d giver) ≡ address_of s → AddressKept s (gave d giver max t bytes x y)
 gave_keeps s d giver max t bytes x y h g = split (is_whole x && nat_le (length bytes) max && is_whole y)
   where
     split : (b : Bool) → address_of (if b then forgotten (acknowledged d giver) else d) ≡ address_of s
@@ -50,23 +50,23 @@ none_fit : (max : ℕ) → nat_le 0 max ≡ true
 none_fit max = grind (arith, nat_tests)
 
 module _ (s : State) (max : ℕ) (x y : Way) where
-  source_keeps : (most : ℕ) → Kept s (source_law s most max x y)
+  source_keeps : (most : ℕ) → AddressKept s (source_law s most max x y)
   source_keeps most =
       kept_if s s.bulk_in.halted (heard x (Some answer.Stall), s) (if length (rest_of s) == 0 then (heard x (Some answer.Nak), s) else gave s by.Bulk max s.bulk_in.toggle (take most (rest_of s)) x y) refl
       (kept_if s (length (rest_of s) == 0) (heard x (Some answer.Nak), s) (gave s by.Bulk max s.bulk_in.toggle (take most (rest_of s)) x y) refl
-      (gave_keeps s s by.Bulk max s.bulk_in.toggle (take most (rest_of s)) x y refl (bulk_acked s (bulk_of s true))))
+      (gave_keeps s s by.Bulk max s.bulk_in.toggle (take most (rest_of s)) x y refl (bulk_ack-address s (bulk_of s true))))
 
-  bulk_law_keeps : (e : ℕ) (o : Option (ℕ × ℕ)) → Kept s (in_bulk_law s e o max x y)
+  bulk_law_keeps : (e : ℕ) (o : Option (ℕ × ℕ)) → AddressKept s (in_bulk_law s e o max x y)
   bulk_law_keeps e None = refl
   bulk_law_keeps e (Some end) = kept_if s (end.0 == e) (source_law s end.1 max x y) (None, s) (source_keeps end.1) refl
 
-  held_keeps : (row : List PortState) (h : Option ℕ) → Kept s (held_law s row h max x y)
+  held_keeps : (row : List PortState) (h : Option ℕ) → AddressKept s (held_law s row h max x y)
   held_keeps row None =
       kept_if s (change_bits row == 0) (heard x (Some answer.Nak), s) (gave (record s { held = Some (change_bits row) }) by.Changes max s.changes.toggle (change_bits row ∷ []) x y) refl
       (gave_keeps s (record s { held = Some (change_bits row) }) by.Changes max s.changes.toggle (change_bits row ∷ []) x y refl refl)
   held_keeps row (Some bits) = gave_keeps s s by.Changes max s.changes.toggle (bits ∷ []) x y refl refl
 
-  other_keeps : (row : List PortState) (e : ℕ) → Kept s (in_other_law s row e max x y)
+  other_keeps : (row : List PortState) (e : ℕ) → AddressKept s (in_other_law s row e max x y)
   other_keeps row e =
       kept_if s (e == 1 && tells_changes s.spec s.registers) (changes_law s row max x y) (in_bulk_law s e (bulk_of s true) max x y)
       (kept_if s s.changes.halted (heard x (Some answer.Stall), s) (held_law s row s.held max x y) refl (held_keeps row s.held))
@@ -108,10 +108,10 @@ module _ (a : Attempt) (w : World) (h : HolderIn a w) (into : IsIn a) (n : ℕ) 
   open h use {spot.{row as j, rest as p}, own as s, below}
 
   abbrev k : Ports
-  k = (ready w).roots
+  k = (at_attempt w).roots
 
   abbrev pub ends : Bool
-  ends = ends_status a (damage_in (ready w)) k (deep_at false p) s
+  ends = ends_status a (damage_in (at_attempt w)) k (deep_at false p) s
 
   abbrev taken : ℕ
   taken = if ends then n else address_of s
@@ -131,19 +131,19 @@ module _ (a : Attempt) (w : World) (h : HolderIn a w) (into : IsIn a) (n : ℕ) 
       pick : (x : Bool) → s.spec.silent ≡ x → option_map address_of (state_at (after (attempt a) w).roots j p) ≡ Some taken
       pick true e =
           ap (option_map address_of) (silent_in a w h e).state
-          ∙ ap (λ x. Some (if not x && (is_whole (token_way a (damage_in (ready w)) (deep_at false p) s) && (a.ep == 0 && (not (is_busy s) && (is_whole (answer_way a (damage_in (ready w)) k) && is_whole (reply_way a (damage_in (ready w)) k (deep_at false p) s))))) then n else address_of s)) (sym e)
+          ∙ ap (λ x. Some (if not x && (is_whole (token_way a (damage_in (at_attempt w)) (deep_at false p) s) && (a.ep == 0 && (not (is_busy s) && (is_whole (answer_way a (damage_in (at_attempt w)) k) && is_whole (reply_way a (damage_in (at_attempt w)) k (deep_at false p) s))))) then n else address_of s)) (sym e)
       pick false e =
           ap (option_map address_of) (in_in a w h e into).state
-          ∙ ap (λ x. Some x) (in_address s a.max (answer_way a (damage_in (ready w)) k) (reply_way a (damage_in (ready w)) k (deep_at false p) s) (row_of below) a.ep (token_way a (damage_in (ready w)) (deep_at false p) s) n stage)
-          ∙ ap (λ x. Some (if not x && (is_whole (token_way a (damage_in (ready w)) (deep_at false p) s) && (a.ep == 0 && (not (is_busy s) && (is_whole (answer_way a (damage_in (ready w)) k) && is_whole (reply_way a (damage_in (ready w)) k (deep_at false p) s))))) then n else address_of s)) (sym e)
+          ∙ ap (λ x. Some x) (in_address s a.max (answer_way a (damage_in (at_attempt w)) k) (reply_way a (damage_in (at_attempt w)) k (deep_at false p) s) (row_of below) a.ep (token_way a (damage_in (at_attempt w)) (deep_at false p) s) n stage)
+          ∙ ap (λ x. Some (if not x && (is_whole (token_way a (damage_in (at_attempt w)) (deep_at false p) s) && (a.ep == 0 && (not (is_busy s) && (is_whole (answer_way a (damage_in (at_attempt w)) k) && is_whole (reply_way a (damage_in (at_attempt w)) k (deep_at false p) s))))) then n else address_of s)) (sym e)
 
   -- another device takes none
   others : (i : ℕ) (e : List ℕ) → (same_number j i && same_path p e) ≡ false → (t : State) → reach_at k i e ≡ true → state_at k i e ≡ Some t → address_of t ≡ a.addr → ends_with_address t.stage ≡ false
   others i e d t on at x =
-      let z : (j ≡ i) × (p ≡ e) = one_path k j p i e a.addr one.single one.on (holder_holds a.addr k one).at on (ap (option_map address_of) at ∙ ap (λ y. Some y) x) in
-      no (sym d ∙ ap₂ (λ u v. same_number j u && same_path p v) (sym z.0) (sym z.1) ∙ ap₂ (λ u v. u && v) (self_number j) (self_path p))
+      let z : (j ≡ i) × (p ≡ e) = is_twice-one_path k j p i e a.addr one.single one.on (holder_holds a.addr k one).at on (ap (option_map address_of) at ∙ ap (λ y. Some y) x) in
+      false_true (sym d ∙ ap₂ (λ u v. same_number j u && same_path p v) (sym z.0) (sym z.1) ∙ ap₂ (λ u v. u && v) (self_number j) (self_path p))
 
-  module _ (f : List ℕ → Option ℕ) (own : Own f w) where
+  module _ (f : List ℕ → Option ℕ) (own : HoldsMapped f w) where
     abbrev g : List ℕ → Option ℕ
     g q = if same_path (suc j ∷ p) q then Some taken else f q
 
@@ -154,26 +154,26 @@ module _ (a : Attempt) (w : World) (h : HolderIn a w) (into : IsIn a) (n : ℕ) 
     unfolding with_attempt
     kept_there i e d on =
         ap (λ v. option_map address_of (state_at v.roots i e)) (made_is a w h.made)
-        ∙ ports_address a (damage_in (ready w)) k one.settled kind i e (others i e d)
-        ∙ ready_own f w own (suc i ∷ e) (made_reach a (ready w) (suc i ∷ e) (data_calm a (damage_in (ready w)) k one.settled kind i e) (ap (λ v. reach_at v.roots i e) (sym (made_is a w h.made)) ∙ on))
+        ∙ ports_address a (damage_in (at_attempt w)) k one.settled kind i e (others i e d)
+        ∙ ready_own f w own (suc i ∷ e) (made_reach a (at_attempt w) (suc i ∷ e) (data_calm a (damage_in (at_attempt w)) k one.settled kind i e) (ap (λ v. reach_at v.roots i e) (sym (made_is a w h.made)) ∙ on))
         ∙ ap (λ x. if x then Some taken else f (suc i ∷ e)) (sym d)
 
-    own_after : Own g (after (attempt a) w)
-    own_after [] on = no on
-    own_after (zero ∷ e) on = no on
+    own_after : HoldsMapped g (after (attempt a) w)
+    own_after [] on = false_true on
+    own_after (zero ∷ e) on = false_true on
     own_after (suc i ∷ e) on = pick (decided (same_path (suc j ∷ p) (suc i ∷ e)))
       where
         pick : (same_path (suc j ∷ p) (suc i ∷ e) ≡ true) ⊎ (same_path (suc j ∷ p) (suc i ∷ e) ≡ false) → option_map address_of (state_at (after (attempt a) w).roots i e) ≡ g (suc i ∷ e)
         pick (inl d) = taken_there i e (same_is (suc j ∷ p) (suc i ∷ e) d) d
         pick (inr d) = kept_there i e d on
 
-    own_as : (x : List ℕ → Option ℕ) → ((q : List ℕ) → g q ≡ x q) → Own x (after (attempt a) w)
+    own_as : (x : List ℕ → Option ℕ) → ((q : List ℕ) → g q ≡ x q) → HoldsMapped x (after (attempt a) w)
     own_as x c q on = own_after q on ∙ c q
 
-    pub seen : ends ≡ true → Own (after_taking f (suc j ∷ p) n) (after (attempt a) w)
+    pub seen : ends ≡ true → HoldsMapped (after_taking f (suc j ∷ p) n) (after (attempt a) w)
     seen y = own_as (after_taking f (suc j ∷ p) n) (λ q. ap (λ x. if same_path (suc j ∷ p) q then Some (if x then n else address_of s) else f q) y)
 
-    pub unseen : ends ≡ false → Own f (after (attempt a) w)
+    pub unseen : ends ≡ false → HoldsMapped f (after (attempt a) w)
     unseen y = own_as f same
       where
         same : (q : List ℕ) → g q ≡ f q

@@ -7,7 +7,7 @@ use Rattle.usb_device.specs.Rows.{State, forgotten}
 use Rattle.usb_device.specs.Tree.{Ports, ended, vacant, taken, reach_at, state_at, port_at, row_of}
 use Rattle.usb_device.specs.Delivery.{all_forgotten}
 use Rattle.usb_world.specs.PluggedDevices.{hub_ports}
-use Rattle.usb_world.specs.SanePorts.{IsSane, HasItsPorts}
+use Rattle.usb_world.specs.SanePorts.{Consistent, HasItsPorts}
 use Rattle.usb_device.specs.declared.request.Registers.{Registers}
 
 -- a device's description, with its address and configuration
@@ -28,17 +28,17 @@ pub record StandAlike (k m : Ports) : Type 0 where
   pub selves : (i : ℕ) (e : List ℕ) → option_map self_of (state_at m i e) ≡ option_map self_of (state_at k i e)
   pub device : (i : ℕ) (e : List ℕ) (s : State) → state_at k i e ≡ Some s → StillStands s (state_at m i e)
 
-pub record Alike (k m : Ports) : Type 0 where
+pub record SameDevices (k m : Ports) : Type 0 where
   pub port : (i : ℕ) (e : List ℕ) → port_at m i e ≡ port_at k i e
   pub reach : (i : ℕ) (e : List ℕ) → reach_at m i e ≡ reach_at k i e
   pub selves : (i : ℕ) (e : List ℕ) → option_map self_of (state_at m i e) ≡ option_map self_of (state_at k i e)
   pub row : row_of m ≡ row_of k
-  pub sane : IsSane k → IsSane m
+  pub sane : Consistent k → Consistent m
 
-pub alike_self : (k : Ports) → Alike k k
+pub alike_self : (k : Ports) → SameDevices k k
 alike_self k = record { port = λ i e. refl; reach = λ i e. refl; selves = λ i e. refl; row = refl; sane = λ h. h }
 
-pub alike_joined : {k m n : Ports} → Alike k m → Alike m n → Alike k n
+pub alike_joined : {k m n : Ports} → SameDevices k m → SameDevices m n → SameDevices k n
 alike_joined x y = record {
   port = λ i e. y.port i e ∙ x.port i e;
   reach = λ i e. y.reach i e ∙ x.reach i e;
@@ -47,8 +47,8 @@ alike_joined x y = record {
   sane = λ h. y.sane (x.sane h);
 }
 
-pub alike_vacant : (b : PortState) (k m : Ports) → Alike k m → Alike (vacant b k) (vacant b m)
-unfolding port_at reach_at state_at row_of IsSane
+pub alike_vacant : (b : PortState) (k m : Ports) → SameDevices k m → SameDevices (vacant b k) (vacant b m)
+unfolding port_at reach_at state_at row_of Consistent
 alike_vacant b k m h = record { port = port; reach = reach; selves = selves; row = ap (λ r. b ∷ r) h.row; sane = λ g. (g.0, g.1, h.sane g.2) }
   where
     port : (i : ℕ) (e : List ℕ) → port_at (vacant b m) i e ≡ port_at (vacant b k) i e
@@ -64,8 +64,8 @@ alike_vacant b k m h = record { port = port; reach = reach; selves = selves; row
     selves zero e = refl
     selves (suc i) e = h.selves i e
 
-pub alike_taken : (b : PortState) (s z : State) (a c k m : Ports) → self_of z ≡ self_of s → Alike a c → Alike k m → Alike (taken b s a k) (taken b z c m)
-unfolding port_at reach_at state_at row_of IsSane
+pub alike_taken : (b : PortState) (s z : State) (a c k m : Ports) → self_of z ≡ self_of s → SameDevices a c → SameDevices k m → SameDevices (taken b s a k) (taken b z c m)
+unfolding port_at reach_at state_at row_of Consistent
 alike_taken b s z a c k m own below h = record {
   port = port;
   reach = reach;
@@ -95,22 +95,22 @@ alike_taken b s z a c k m own below h = record {
     selves zero (suc j ∷ e) = below.selves j e
     selves (suc i) e = h.selves i e
 
-pub alike_forgotten : (k : Ports) → Alike k (all_forgotten k)
+pub alike_forgotten : (k : Ports) → SameDevices k (all_forgotten k)
 unfolding all_forgotten
 alike_forgotten ended = alike_self ended
 alike_forgotten (vacant b k) = alike_vacant b k (all_forgotten k) (alike_forgotten k)
 alike_forgotten (taken b s a k) = alike_taken b s (forgotten s) a (all_forgotten a) k (all_forgotten k) refl (alike_forgotten a) (alike_forgotten k)
 
-still : (s : State) (o : Option State) → option_map self_of o ≡ Some (self_of s) → StillStands s o
-still s None h = cc
-still s (Some z) h =
+self_still_stands : (s : State) (o : Option State) → option_map self_of o ≡ Some (self_of s) → StillStands s o
+self_still_stands s None h = cc
+self_still_stands s (Some z) h =
     let is : self_of z ≡ self_of s = same_Some (self_of z) (self_of s) h in
     record { own = z; stands = refl; spec = ap (λ x. x.0) is; registers = ap (λ x. x.1) is }
 
-pub stand_alike : (k m : Ports) → Alike k m → StandAlike k m
+pub stand_alike : (k m : Ports) → SameDevices k m → StandAlike k m
 stand_alike k m h = record {
   port = h.port;
   reach = h.reach;
   selves = h.selves;
-  device = λ i e s at. still s (state_at m i e) (h.selves i e ∙ ap (option_map self_of) at);
+  device = λ i e s at. self_still_stands s (state_at m i e) (h.selves i e ∙ ap (option_map self_of) at);
 }

@@ -34,14 +34,14 @@ use Rattle.usb_world.specs.AttemptPackets.{after_sent, deep_at, IfOut}
 use Rattle.usb_world.specs.Addresses.{is_setup}
 use Rattle.usb_world.specs.Devices.{EachWas}
 use Rattle.usb_world.specs.World.{World}
-use Rattle.usb_world.specs.Steps.{ready, damage_in, with_attempt, attempt, after, outcome_in}
-use Rattle.usb_world.proofs.Booleans.{no, not_true, decided, and_none}
+use Rattle.usb_world.specs.Steps.{at_attempt, damage_in, with_attempt, attempt, after, outcome_in}
+use Rattle.usb_world.proofs.Booleans.{false_true, not-true, decided, and_none}
 use Rattle.usb_world.proofs.AwaitedAcks.{IsNoControlIn}
 use Rattle.usb_world.proofs.AddressLosses.{no_control_in_unlost, holder_loss}
 use Rattle.usb_world.proofs.Devices.{each_holder}
 use Rattle.usb_world.proofs.DueEvents.{ready_beside}
 use Rattle.usb_world.proofs.Equality.{unequal}
-use Rattle.usb_world.proofs.OneHolder.{no_payload, none_is, token_is}
+use Rattle.usb_world.proofs.OneHolder.{no_payload, none_is, token_of-fields}
 use Rattle.usb_world.proofs.OneHolderAttempts.{made_is, ready_settled, holder_in, in_in, silent_in, ExchangedIn}
 use Rattle.usb_world.proofs.Outcomes.{brings, acks}
 use Rattle.usb_world.proofs.PacketWays.{clears_if, none_clear}
@@ -51,13 +51,13 @@ use Rattle.usb_device.proofs.Interface.{same_number}
 
 -- whether a loss is counted, and whether another stretch begins, at the next attempt
 abbrev pub loses : Attempt → World → Bool
-loses a w = lost_in a (damage_in (ready w)) (ready w).roots
+loses a w = lost_in a (damage_in (at_attempt w)) (at_attempt w).roots
 
 abbrev pub clears : Attempt → World → Bool
-clears a w = cleared_in a (damage_in (ready w)) (ready w).roots
+clears a w = cleared_in a (damage_in (at_attempt w)) (at_attempt w).roots
 
 pub losses_as : (a : Attempt) (w : World) (gone cleared : Bool) → IsMade a w → loses a w ≡ gone → clears a w ≡ cleared → (after (attempt a) w).losses ≡ counted gone (after_clearing cleared w.losses)
-unfolding with_attempt ready
+unfolding with_attempt at_attempt
 losses_as a w gone cleared m x y =
     ap (λ v. v.losses) (made_is a w m)
     ∙ ap (λ l. counted (loses a w) (after_clearing (clears a w) l))
@@ -71,10 +71,10 @@ CountsNone a w = (after (attempt a) w).losses ≡ w.losses
 
 -- IN sends no data, OUT none that a device takes for a request
 pub in_clears : (a : Attempt) → IsIn a → (w : World) → clears a w ≡ false
-in_clears a i w = ap (λ o. clears_at o (after_sent (token_out a (damage_in (ready w))) (ready w).roots)) (no_payload a (damage_in (ready w)) (none_is a i.payload))
+in_clears a i w = ap (λ o. clears_at o (after_sent (token_out a (damage_in (at_attempt w))) (at_attempt w).roots)) (no_payload a (damage_in (at_attempt w)) (none_is a i.payload))
 
 none_counted : (a : Attempt) (w : World) → IsMade a w → IsNoControlIn (token_of a) → clears a w ≡ false → CountsNone a w
-none_counted a w m p c = losses_as a w false false m (no_control_in_unlost a (damage_in (ready w)) (ready w).roots p (ready_settled w m.settled)) c
+none_counted a w m p c = losses_as a w false false m (no_control_in_unlost a (damage_in (at_attempt w)) (at_attempt w).roots p (ready_settled w m.settled)) c
 
 pub in_counts : (a : Attempt) → IsIn a → a.ep ≢ 0 → (w : World) → IsMade a w → CountsNone a w
 unfolding token_of
@@ -104,20 +104,20 @@ unclearing_allows r h = record {
 
 allowed_clear : (o : Option Sent) → IfOut (AllowsOut unclearing) o → (k : Ports) → clears_at o k ≡ false
 allowed_clear None c k = refl
-allowed_clear (Some q) c k = clears_if q false k (λ j e t at dp. not_true _ (sent_allowed unclearing refl q c dp t))
+allowed_clear (Some q) c k = clears_if q false k (λ j e t at dp. not-true _ (sent_allowed unclearing refl q c dp t))
 
 pub set_up_counts : (a : Attempt) {t : Toggle} (bytes : List ℕ) → a.kind ≡ SetupTok → a.payload ≡ Some (t, record { items = bytes }) → (Is (setup_of bytes) PORT_OUT CLEAR_FEATURE && (setup_of bytes).value == C_PORT_CONNECTION) ≡ false → (w : World) → IsMade a w → CountsNone a w
 unfolding token_of
 set_up_counts a bytes kind payload h w m =
     none_counted a w m (subst (λ t. IsNoControlIn (Token t a.addr a.ep)) (sym kind) tt)
-    (allowed_clear _ (payload_allowed unclearing refl a (damage_in (ready w)) (subst (PayloadAllows unclearing) (sym payload) (unclearing_allows (setup_of bytes) h))) _)
+    (allowed_clear _ (payload_allowed unclearing refl a (damage_in (at_attempt w)) (subst (PayloadAllows unclearing) (sym payload) (unclearing_allows (setup_of bytes) h))) _)
 
 -- where the host got no data
 pub quiet_counts : (a : Attempt) → IsIn a → (w : World) → IsMade a w → brings (outcome_in a w) ≡ false → CountsNone a w
 unfolding outcome_in lost_in marked_some
 quiet_counts a i w m h =
-    let d : Option Damage = damage_in (ready w) in
-    let k : Ports = (ready w).roots in
+    let d : Option Damage = damage_in (at_attempt w) in
+    let k : Ports = (at_attempt w).roots in
     losses_as a w false false m (ap (λ o. is_lost (marked_some d (place_of_answer a d + 1) a.pre o) (reply_out a d k) (answered_in a d k)) (acks (heard_in a d k) (mark_in a d k) a.max ∙ ap ack_if h)) (in_clears a i w)
 
 -- IN of endpoint 0 at the device that holds the address
@@ -139,24 +139,24 @@ data Status (s : State) (awaits : Bool) (z : Way) (o : Outcome) (v : State) : Ty
   gave_it : o ≡ Payload One (record { items = [] }) → awaits ≡ true → v ≡ (if is_whole z then forgotten (ack_row s s.stage) else s) → Status s awaits z o v
   gave_none : brings o ≡ false → v.stage ≡ s.stage → v.registers ≡ s.registers → Status s awaits z o v
 
-abbrev Gives : State → Bool → Way → ℕ → Reply → Type 0
-Gives s awaits z max r = Status s awaits z (got max r.0) r.1
+abbrev ReplyGives : State → Bool → Way → ℕ → Reply → Type 0
+ReplyGives s awaits z max r = Status s awaits z (got max r.0) r.1
 
-status_stage : (n : ℕ) (s : State) (awaits : Bool) (max : ℕ) (y z : Way) → awaits ≡ true → Gives s awaits z max (in_stage_law s (ending (Some n)) max y z)
+status_stage : (n : ℕ) (s : State) (awaits : Bool) (max : ℕ) (y z : Way) → awaits ≡ true → ReplyGives s awaits z max (in_stage_law s (ending (Some n)) max y z)
 status_stage n s awaits max whole z e =
     elim (nat_le 0 max) as (λ x. Status s awaits z (if x then Payload One (record { items = [] }) else Nothing) (if x && is_whole z then forgotten (ack_row s s.stage) else s)) [ true ↦ gave_it refl e refl | false ↦ gave_none refl refl refl ]
 status_stage n s awaits max y z e = gave_none refl refl refl
 
 status_law : (n : ℕ) (s : State) (row : List PortState) (max : ℕ) (x y z : Way) → s.spec.silent ≡ false → s.stage ≡ ending (Some n)
-    → Gives s (awaits_address (through x s row (Token InTok s.registers.address 0)).1) z max (in_law s row 0 max x y z)
+    → ReplyGives s (awaits_address (through x s row (Token InTok s.registers.address 0)).1) z max (in_law s row 0 max x y z)
 status_law n s row max whole y z loud stage = by_busy (is_busy s) refl y
   where
-    by_busy : (b : Bool) → is_busy s ≡ b → (y : Way) → Gives s (awaits_address (received s row (Token InTok s.registers.address 0)).1) z max (if b then (heard y (Some answer.Nak), (nak_row s).1) else in_stage_law s s.stage max y z)
+    by_busy : (b : Bool) → is_busy s ≡ b → (y : Way) → ReplyGives s (awaits_address (received s row (Token InTok s.registers.address 0)).1) z max (if b then (heard y (Some answer.Nak), (nak_row s).1) else in_stage_law s s.stage max y z)
     by_busy true busy whole = gave_none refl refl refl
     by_busy true busy y = gave_none refl refl refl
     by_busy false free y =
         let awaits : Bool = awaits_address (received s row (Token InTok s.registers.address 0)).1 in
-        subst (λ g. Gives s awaits z max (in_stage_law s g max y z)) (sym stage) (status_stage n s awaits max y z (status_awaits n s row loud free stage))
+        subst (λ g. ReplyGives s awaits z max (in_stage_law s g max y z)) (sym stage) (status_stage n s awaits max y z (status_awaits n s row loud free stage))
 status_law n s row max x y z loud stage = gave_none refl refl refl
 
 -- one whose status stage gives no address keeps its own, and has none to give then
@@ -181,10 +181,10 @@ module _ (a : Attempt) (w : World) (into : IsIn a) (zeroth : a.ep ≡ 0) (h : Ho
   open h use {spot.{rest as p}, own as s, below}
 
   abbrev d : Option Damage
-  d = damage_in (ready w)
+  d = damage_in (at_attempt w)
 
   abbrev k : Ports
-  k = (ready w).roots
+  k = (at_attempt w).roots
 
   abbrev token : Way
   token = token_way a d (deep_at false p) s
@@ -219,7 +219,7 @@ module _ (a : Attempt) (w : World) (into : IsIn a) (zeroth : a.ep ≡ 0) (h : Ho
         losses_as a w _ false h.made
         (holder_loss a d k (holder_in a w h) into loud
         ∙ ap₂ (λ x q. x && (awaits_address (through token s (row_of below) q).1 && not (is_whole reply))) (went o e)
-        (token_is a InTok s.registers.address 0 into.kind (sym h.at) zeroth)) (in_clears a into w)
+        (token_of-fields a InTok s.registers.address 0 into.kind (sym h.at) zeroth)) (in_clears a into w)
 
     -- it takes its address, or loses it
     took_or_lost : (n : ℕ) → s.stage ≡ ending (Some n) → (z : Bool) → (after (attempt a) w).losses ≡ counted (not z) w.losses → v ≡ (if z then forgotten (ack_row s s.stage) else s) → TookOrLost n w (after (attempt a) w) s v
@@ -250,5 +250,5 @@ module _ (a : Attempt) (w : World) (into : IsIn a) (zeroth : a.ep ≡ 0) (h : Ho
 
 pub each_counts : (a : Attempt) (w : World) → IsMade a w → IsIn a → a.ep ≡ 0 → (after (attempt a) w).shared ≡ false → EachWas (λ j s v. (address_of s == a.addr) ≡ true → Counts a w s v) w (after (attempt a) w)
 each_counts a w m i zeroth single =
-    each_holder a w m (ap is_setup i.kind) single (λ j s v. (address_of s == a.addr) ≡ true → Counts a w s v) (λ j s v d e at. no (sym d ∙ at))
+    each_holder a w m (ap is_setup i.kind) single (λ j s v. (address_of s == a.addr) ≡ true → Counts a w s v) (λ j s v d e at. false_true (sym d ∙ at))
     (λ h v there at. holder_counts a w i zeroth h v there)

@@ -21,17 +21,17 @@ use Rattle.usb_device.specs.View.{forgotten_place}
 use Rattle.usb_world.specs.declared.wire.Mark.{Mark}
 use Rattle.usb_world.specs.declared.wire.Mark.TheVariants as mark
 use Rattle.usb_world.specs.Exchange.{sent_as}
-use Rattle.usb_world.specs.Paths.{live_at, pend_at}
-use Rattle.usb_world.specs.WayEffects.{IsNew, effect_resets, effect_spares}
-use Rattle.usb_world.specs.SanePorts.{IsSane}
-use Rattle.usb_world.specs.AttemptPackets.{after_sent, after_attempt, calls_on, IsTokenFor, IsAckOut, IfOut, IsAttemptAt, sent_resets, sent_spares, attempt_resets, attempt_spares, IsSettled}
-use Rattle.usb_world.proofs.Booleans.{no}
+use Rattle.usb_world.specs.Paths.{has_power_at, pending_at}
+use Rattle.usb_world.specs.WayEffects.{IsNew, effect_resets, effect_keeps_pending}
+use Rattle.usb_world.specs.SanePorts.{Consistent}
+use Rattle.usb_world.specs.AttemptPackets.{after_sent, after_attempt, calls_on, IsTokenFor, IsAckOut, IfOut, IsAttemptAt, sent_resets, sent_keeps_pending, attempt_resets, attempt_keeps_pending, IsSettled}
+use Rattle.usb_world.proofs.Booleans.{false_true}
 use Rattle.usb_world.proofs.OnWays.{spares_if, resets_if}
 use Rattle.usb_world.proofs.PacketEffects.{packet_way, packet_kept}
 use Rattle.usb_world.proofs.PortCalls.{KeepsPending}
 use Rattle.usb_world.proofs.WayChanges.{SamePorts, same_ports, passed_ports}
 use Rattle.usb_world.proofs.SanePorts.{sane_packet, sane_forgotten}
-use Rattle.usb_world.proofs.States.{forgets}
+use Rattle.usb_world.proofs.States.{forgotten-nothing}
 
 -- no device asks anything of its ports
 abbrev pub IsCalm : Sent → Type 0
@@ -94,10 +94,10 @@ calm_sent None c k j p = refl
 calm_sent (Some q) c k j p =
     resets_if q false k j p (λ e m r t z at dp a. ap (λ x. effect_resets x a m r) (c dp t))
 
-calm_sent_spares : (o : Option Sent) → CalmOut o → (k : Ports) (j : ℕ) (p : List ℕ) → sent_spares o k j p ≡ true
+calm_sent_spares : (o : Option Sent) → CalmOut o → (k : Ports) (j : ℕ) (p : List ℕ) → sent_keeps_pending o k j p ≡ true
 calm_sent_spares None c k j p = refl
 calm_sent_spares (Some q) c k j p =
-    spares_if q false k j p (λ e m r t z at dp. ap (λ x. effect_spares x m r) (c dp t))
+    spares_if q false k j p (λ e m r t z at dp. ap (λ x. effect_keeps_pending x m r) (c dp t))
 
 -- One packet
 
@@ -106,15 +106,15 @@ sent_reach None k j p f h = h
 sent_reach (Some q) k j p f h = (packet_way q false k j p).1 f h
 
 sent_new : (o : Option Sent) (k : Ports) (j : ℕ) (p : List ℕ) → sent_resets o k j p ≡ true → IsNew (place_at (after_sent o k) j p)
-sent_new None k j p h = no h
+sent_new None k j p h = false_true h
 sent_new (Some q) k j p h = (packet_way q false k j p).2 h
 
-sent_kept : (o : Option Sent) (k : Ports) (j : ℕ) (p : List ℕ) → sent_spares o k j p ≡ true
+sent_kept : (o : Option Sent) (k : Ports) (j : ℕ) (p : List ℕ) → sent_keeps_pending o k j p ≡ true
     → KeepsPending k (after_sent o k) j p
 sent_kept None k j p f = (λ h. h, λ h. h)
 sent_kept (Some q) k j p f = packet_kept q false k j p f
 
-sent_sane : (o : Option Sent) (k : Ports) → IsSane k → IsSane (after_sent o k)
+sent_sane : (o : Option Sent) (k : Ports) → Consistent k → Consistent (after_sent o k)
 sent_sane None k h = h
 sent_sane (Some q) k h = sane_packet q false k h
 
@@ -135,7 +135,7 @@ ForgottenWay k j p =
     × (IsNew (place_at k j p) → IsNew (place_at (all_forgotten k) j p))
 
 forgotten_way : (k : Ports) (j : ℕ) (p : List ℕ) → ForgottenWay k j p
-unfolding all_forgotten reach_at live_at pend_at port_at state_at place_at
+unfolding all_forgotten reach_at has_power_at pending_at port_at state_at place_at
 forgotten_way ended j p = (same_ports ended j p, refl, refl, λ h. h)
 forgotten_way (vacant b k) zero [] = (same_ports (vacant b k) zero [], refl, refl, λ h. h)
 forgotten_way (vacant b k) zero (n ∷ p) = (same_ports (vacant b k) zero (n ∷ p), refl, refl, λ h. h)
@@ -174,16 +174,16 @@ forgotten_twice (taken b s a k) =
 -- A device that remembers nothing stays as it is at what is no token for it
 
 rested_received : (p : Packet) (s : State) (row : List PortState) (m : RememberedPacket) → s.memory ≡ m → m ≡ Nothing → is_own s p ≡ false → answered (forgotten s) row m p ≡ (None, s)
-rested_received (Token kind a e) s row m eq n own = rw own (ap (λ x. (None, x)) (forgets s (eq ∙ n)))
-rested_received (Payload t b) s row m eq n own = rw n (ap (λ x. (None, x)) (forgets s (eq ∙ n)))
-rested_received Ack s row m eq n own = rw n (ap (λ x. (None, x)) (forgets s (eq ∙ n)))
-rested_received (Sof f) s row m eq n own = ap (λ x. (None, x)) (forgets s (eq ∙ n))
-rested_received Nak s row m eq n own = ap (λ x. (None, x)) (forgets s (eq ∙ n))
-rested_received Stall s row m eq n own = ap (λ x. (None, x)) (forgets s (eq ∙ n))
-rested_received Pre s row m eq n own = ap (λ x. (None, x)) (forgets s (eq ∙ n))
+rested_received (Token kind a e) s row m eq n own = rw own (ap (λ x. (None, x)) (forgotten-nothing s (eq ∙ n)))
+rested_received (Payload t b) s row m eq n own = rw n (ap (λ x. (None, x)) (forgotten-nothing s (eq ∙ n)))
+rested_received Ack s row m eq n own = rw n (ap (λ x. (None, x)) (forgotten-nothing s (eq ∙ n)))
+rested_received (Sof f) s row m eq n own = ap (λ x. (None, x)) (forgotten-nothing s (eq ∙ n))
+rested_received Nak s row m eq n own = ap (λ x. (None, x)) (forgotten-nothing s (eq ∙ n))
+rested_received Stall s row m eq n own = ap (λ x. (None, x)) (forgotten-nothing s (eq ∙ n))
+rested_received Pre s row m eq n own = ap (λ x. (None, x)) (forgotten-nothing s (eq ∙ n))
 
-abbrev quiet : State → Reply
-quiet s = (None, s)
+abbrev forgotten_reply : State → Reply
+forgotten_reply s = (None, s)
 
 pub rested_reply : (c : Content) (s : State) (row : List PortState) → s.memory ≡ Nothing → calls_on c s ≡ false → reply_to c s row ≡ (None, s)
 unfolding received unread
@@ -194,9 +194,9 @@ rested_reply (Whole p) s row n own = heard s.spec.silent
     heard false = rested_received p s row s.memory refl n own
 rested_reply Broken s row n own = heard s.spec.silent
   where
-    heard : (x : Bool) → quiet (if x then s else forgotten s) ≡ quiet s
+    heard : (x : Bool) → forgotten_reply (if x then s else forgotten s) ≡ forgotten_reply s
     heard true = refl
-    heard false = ap quiet (forgets s n)
+    heard false = ap forgotten_reply (forgotten-nothing s n)
 
 pub rested_answer : (q : Sent) (deep : Bool) (s : State) (a : Ports) → s.memory ≡ Nothing → calls_on q.content s ≡ false → answer_of q deep s a ≡ (None, s)
 unfolding answer_of
@@ -280,7 +280,7 @@ attempt_new n t d r is k j p h =
 -- what is live or pending, and spared, is so after an attempt
 pub attempt_kept : (n : ℕ) (t d r : Option Sent) → IsAttemptAt n t d r
     → (k : Ports) (j : ℕ) (p : List ℕ)
-    → attempt_spares t d k j p ≡ true → KeepsPending k (after_attempt t d r k) j p
+    → attempt_keeps_pending t d k j p ≡ true → KeepsPending k (after_attempt t d r k) j p
 attempt_kept n t d r is k j p f =
     let first : _ = sent_kept t k j p (calm_sent_spares t (token_out n t is.token) k j p) in
     let second : _ = sent_kept d (after_sent t k) j p f in
@@ -289,8 +289,8 @@ attempt_kept n t d r is k j p f =
     let same : _ = forgotten_ports (after_sent r (after_sent d (after_sent t k))) j p in
     (λ h. same.1 ∙ third.0 (second.0 (first.0 h)), λ h. same.2 ∙ third.1 (second.1 (first.1 h)))
 
-pub attempt_sane : (t d r : Option Sent) (k : Ports) → IsSane k → IsSane (after_attempt t d r k)
+pub attempt_sane : (t d r : Option Sent) (k : Ports) → Consistent k → Consistent (after_attempt t d r k)
 attempt_sane t d r k h = sane_forgotten (after_sent r (after_sent d (after_sent t k))) (sent_sane r (after_sent d (after_sent t k)) (sent_sane d (after_sent t k) (sent_sane t k h)))
 
-pub attempt_settled : (t d r : Option Sent) (k : Ports) → IsSettled (after_attempt t d r k)
-attempt_settled t d r k = forgotten_twice (after_sent r (after_sent d (after_sent t k)))
+pub after_attempt-settled : (t d r : Option Sent) (k : Ports) → IsSettled (after_attempt t d r k)
+after_attempt-settled t d r k = forgotten_twice (after_sent r (after_sent d (after_sent t k)))

@@ -164,13 +164,13 @@ rests_loss (taken b s a k) h = three_none _ _ _ (none_awaited s (ap awaits_contr
 
 -- A token and then an ACK, both whole: who hears the one hears the other
 
-abbrev pub whole : Bool → Bool → Packet → Sent
-whole low pre p = record { low = low; pre = pre; content = Whole p }
+abbrev pub whole_sent : Bool → Bool → Packet → Sent
+whole_sent low pre p = record { low = low; pre = pre; content = Whole p }
 
-still : (q : Sent) (p : Packet) (deep : Bool) (s : State) (a : Ports) → q.content ≡ Whole p → (s.spec.silent ≡ true) ⊎ (hears q deep s ≡ false) → (answer_of q deep s a).1 ≡ s
+answer_of-unheard : (q : Sent) (p : Packet) (deep : Bool) (s : State) (a : Ports) → q.content ≡ Whole p → (s.spec.silent ≡ true) ⊎ (hears q deep s ≡ false) → (answer_of q deep s a).1 ≡ s
 unfolding answer_of received
-still q p deep s a e (inl f) = grind arith
-still q p deep s a e (inr f) = grind arith
+answer_of-unheard q p deep s a e (inl f) = grind arith
+answer_of-unheard q p deep s a e (inr f) = grind arith
 
 -- the ACK at a device that hears it, or awaits none
 pub ack_received : (s : State) (row : List PortState) → s.spec.silent ≡ false → awaits_address (received s row packet.Ack).1 ≡ false
@@ -188,19 +188,19 @@ ack_answer q e deep s a f = rw e (by_hearing (hears q deep s) s.spec.silent f (a
     by_hearing false y f g = f (inr refl)
 
 acked_answer : (low pre : Bool) (t : Packet) (deep : Bool) (s : State) (a x : Ports) → awaits_address s ≡ false
-    → awaits_address (answer_of (whole low pre packet.Ack) deep (answer_of (whole low pre t) deep s a).1 x).1 ≡ false
-acked_answer low pre t deep s a x h = ack_answer (whole low pre packet.Ack) refl deep (answer_of (whole low pre t) deep s a).1 x (λ y. ap awaits_address (still (whole low pre t) t deep s a refl (as_before y)) ∙ h)
+    → awaits_address (answer_of (whole_sent low pre packet.Ack) deep (answer_of (whole_sent low pre t) deep s a).1 x).1 ≡ false
+acked_answer low pre t deep s a x h = ack_answer (whole_sent low pre packet.Ack) refl deep (answer_of (whole_sent low pre t) deep s a).1 x (λ y. ap awaits_address (answer_of-unheard (whole_sent low pre t) t deep s a refl (as_before y)) ∙ h)
   where
-    spec : (answer_of (whole low pre t) deep s a).1.spec ≡ s.spec
-    spec = answer-spec (whole low pre t) deep s a
+    spec : (answer_of (whole_sent low pre t) deep s a).1.spec ≡ s.spec
+    spec = answer-spec (whole_sent low pre t) deep s a
 
-    as_before : ((answer_of (whole low pre t) deep s a).1.spec.silent ≡ true) ⊎ (hears (whole low pre packet.Ack) deep (answer_of (whole low pre t) deep s a).1 ≡ false) → (s.spec.silent ≡ true) ⊎ (hears (whole low pre t) deep s ≡ false)
+    as_before : ((answer_of (whole_sent low pre t) deep s a).1.spec.silent ≡ true) ⊎ (hears (whole_sent low pre packet.Ack) deep (answer_of (whole_sent low pre t) deep s a).1 ≡ false) → (s.spec.silent ≡ true) ⊎ (hears (whole_sent low pre t) deep s ≡ false)
     as_before (inl y) = inl (ap (λ u. u.silent) (sym spec) ∙ y)
-    as_before (inr y) = inr (ap (λ u. is_heard (whole low pre t) deep u.low) (sym spec) ∙ y)
+    as_before (inr y) = inr (ap (λ u. is_heard (whole_sent low pre t) deep u.low) (sym spec) ∙ y)
 
 -- after a token and an ACK nobody awaits what was not awaited before
 pub acked_loss : (low pre : Bool) (kind : TokenKind) (n e : ℕ) (deep : Bool) (k : Ports) → has_loss k ≡ false
-    → has_loss (after_packet (whole low pre packet.Ack) deep (after_packet (whole low pre (Token kind n e)) deep k)) ≡ false
+    → has_loss (after_packet (whole_sent low pre packet.Ack) deep (after_packet (whole_sent low pre (Token kind n e)) deep k)) ≡ false
 unfolding has_loss after_packet
 acked_loss low pre kind n e deep ended h = h
 acked_loss low pre kind n e deep (vacant b k) h = acked_loss low pre kind n e deep k h
@@ -209,10 +209,10 @@ acked_loss low pre kind n e deep (taken b s a k) h =
     split b.enable refl l (acked_loss low pre kind n e true a l.below) (acked_loss low pre kind n e deep k l.more)
   where
     t : Sent
-    t = whole low pre (Token kind n e)
+    t = whole_sent low pre (Token kind n e)
 
     r : Sent
-    r = whole low pre packet.Ack
+    r = whole_sent low pre packet.Ack
 
     split : (x : Bool) → b.enable ≡ x → NoLoss s a k → has_loss (after_packet r true (after_packet t true a)) ≡ false → has_loss (after_packet r deep (after_packet t deep k)) ≡ false
         → has_loss (after_packet r deep (if x then taken b (answer_of t deep s a).1 (acted (effect_of t deep s) (after_packet t true a)) (after_packet t deep k) else taken b s a (after_packet t deep k))) ≡ false

@@ -22,14 +22,14 @@ use Rattle.usb_world.specs.AttemptPackets.{after_sent, after_attempt, sent_reset
 use Rattle.usb_world.specs.WayEffects.{effect_resets, resets_at, leaves_port, way_leaves}
 use Rattle.usb_world.specs.WayEffects.{takes_reset}
 use Rattle.usb_world.specs.World.{World}
-use Rattle.usb_world.specs.Steps.{happened, way_of, names_path, took, ready, damage_in}
+use Rattle.usb_world.specs.Steps.{after_change, way_of, names_path, after_event, at_attempt, damage_in}
 use Rattle.usb_world.specs.Steps.{with_attempt, Course}
 use Rattle.usb_world.specs.Courses.{made_resets, root_resets}
 use Rattle.usb_world.specs.PortRequests.{sent_leaves, made_leaves, root_leaves, leaves_step}
 use Rattle.usb_world.specs.PortRequests.{LeavesPort, row_reached, StillSet}
-use Rattle.usb_world.proofs.Booleans.{no, both, and_false, or_right, not_true, decided}
+use Rattle.usb_world.proofs.Booleans.{false_true, both, and_false, or_right, not-true, decided}
 use Rattle.usb_world.proofs.WayChanges.{SamePorts, same_ports, changed_there, root_there}
-use Rattle.usb_world.proofs.RootResets.{is_same}
+use Rattle.usb_world.proofs.RootResets.{same_number-is}
 use Rattle.usb_world.proofs.PacketPlaces.{way_ports}
 use Rattle.usb_world.proofs.AttemptPackets.{token_out as token_calm, ack_out as ack_calm}
 use Rattle.usb_world.proofs.AttemptPackets.{forgotten_ports}
@@ -37,8 +37,8 @@ use Rattle.usb_world.proofs.LiftedSteps.{OverSteps, happened_by, over_course}
 use Rattle.usb_world.proofs.Courses.{happened_reach, made_reach, root_reach, goes}
 use Rattle.usb_world.proofs.PacketWays.{calm_leaves}
 
-still_same : (b : PortState) (o : Option PortState) → o ≡ Some b → StillSet b o
-still_same b o h = record { now = b; stands = h; power = λ e. e; connection = λ e. e; enable = λ e. e; reset = λ e. e }
+still_set-same : (b : PortState) (o : Option PortState) → o ≡ Some b → StillSet b o
+still_set-same b o h = record { now = b; stands = h; power = λ e. e; connection = λ e. e; enable = λ e. e; reset = λ e. e }
 
 still_then : (b : PortState) (o v : Option PortState) → StillSet b o → ((c : PortState) → o ≡ Some c → StillSet c v) → StillSet b v
 still_then b o v x f =
@@ -67,50 +67,50 @@ still_put (Some s) x k b h = still_plugged s.low (port_of x) b h
 struck_port : (o : Option Spec) (k : Ports) (i : ℕ) (e : List ℕ) (b : PortState)
     → port_at k i e ≡ Some b → StillSet b (port_at (changed_at (replaced o) k i e) i e)
 unfolding changed_at port_at
-struck_port o ended i e b h = still_same b None h
+struck_port o ended i e b h = still_set-same b None h
 struck_port o (vacant c k) zero [] b h = still_put o (empty c) k b h
-struck_port o (vacant c k) zero (n ∷ e) b h = still_same b None h
+struck_port o (vacant c k) zero (n ∷ e) b h = still_set-same b None h
 struck_port o (vacant c k) (suc i) e b h = struck_port o k i e b h
 struck_port o (taken c s a k) zero [] b h = still_put o (full c s a) k b h
-struck_port o (taken c s a k) zero (zero ∷ e) b h = still_same b None h
+struck_port o (taken c s a k) zero (zero ∷ e) b h = still_set-same b None h
 struck_port o (taken c s a k) zero (suc i ∷ e) b h = struck_port o a i e b h
 struck_port o (taken c s a k) (suc i) e b h = struck_port o k i e b h
 
 struck_there : (o : Option Spec) (k : Ports) (p : List ℕ) (b : PortState)
     → port_there k p ≡ Some b → StillSet b (port_there (changed (replaced o) k p) p)
-struck_there o k [] b h = still_same b None h
-struck_there o k (zero ∷ p) b h = still_same b None h
+struck_there o k [] b h = still_set-same b None h
+struck_there o k (zero ∷ p) b h = still_set-same b None h
 struck_there o k (suc i ∷ p) b h = struck_port o k i p b h
 
 -- what leads to a port and not to the device above it is that port's own path
 last_step : (x q : List ℕ) (n : ℕ) → is_way x q ≡ false → is_way x (q ++ (n ∷ [])) ≡ true
     → x ≡ q ++ (n ∷ [])
 unfolding is_way
-last_step [] q n w h = no (sym w)
-last_step (m ∷ []) [] n w h = ap (λ y. y ∷ []) (sym (is_same m n (both (same_number m n) true h).0))
-last_step (m ∷ y ∷ x) [] n w h = no (both (same_number m n) false h).1
+last_step [] q n w h = false_true (sym w)
+last_step (m ∷ []) [] n w h = ap (λ y. y ∷ []) (sym (same_number-is m n (both (same_number m n) true h).0))
+last_step (m ∷ y ∷ x) [] n w h = false_true (both (same_number m n) false h).1
 last_step (m ∷ x) (k ∷ q) n w h =
     let on : _ = both (same_number m k) (is_way x (q ++ (n ∷ []))) h in
-    ap (λ y. y ∷ x) (sym (is_same m k on.0))
+    ap (λ y. y ∷ x) (sym (same_number-is m k on.0))
     ∙ ap (λ l. k ∷ l) (last_step x q n (sym (ap (λ y. y && is_way x q) on.0) ∙ w) on.1)
 
 replaced_bits : (o : Option Spec) (k : Ports) (x q : List ℕ) (n : ℕ) (b : PortState) → way_of x q ≡ false
     → port_there k (q ++ (n ∷ [])) ≡ Some b → StillSet b (port_there (changed (replaced o) k x) (q ++ (n ∷ [])))
-replaced_bits o k [] q n b w h = still_same b _ h
+replaced_bits o k [] q n b w h = still_set-same b _ h
 replaced_bits o k (m ∷ x) q n b w h = elim (decided (is_way (m ∷ x) (q ++ (n ∷ [])))) [
   | inl on ↦
       subst (λ y. StillSet b (port_there (changed (replaced o) k y) (q ++ (n ∷ []))))
       (sym (last_step (m ∷ x) q n w on)) (struck_there o k (q ++ (n ∷ [])) b h)
-  | inr away ↦ still_same b _ ((changed_there (replaced o) k (m ∷ x) (q ++ (n ∷ [])) away).1 ∙ h)
+  | inr away ↦ still_set-same b _ ((changed_there (replaced o) k (m ∷ x) (q ++ (n ∷ [])) away).1 ∙ h)
 ]
 
 happened_bits : (a : Action) (d : List Spec) (k : Ports) (q : List ℕ) (n : ℕ) (b : PortState) → names_path d a q ≡ false
-    → port_there k (q ++ (n ∷ [])) ≡ Some b → StillSet b (port_there (happened a d k) (q ++ (n ∷ [])))
+    → port_there k (q ++ (n ∷ [])) ≡ Some b → StillSet b (port_there (after_change a d k) (q ++ (n ∷ [])))
 happened_bits a d k q n b =
     happened_by
     (λ v named.
     named ≡ false → port_there k (q ++ (n ∷ [])) ≡ Some b
-    → StillSet b (port_there v (q ++ (n ∷ [])))) a d k q (λ w h. still_same b _ h)
+    → StillSet b (port_there v (q ++ (n ∷ [])))) a d k q (λ w h. still_set-same b _ h)
     (λ o x. replaced_bits o k x q n b)
 
 no_way : (x : List ℕ) → way_of x [] ≡ false
@@ -120,7 +120,7 @@ no_way (m ∷ x) = refl
 
 -- where a row is reached, it was before, and no event was at it or above it; none is at the host
 row_happened : (a : Action) (d : List Spec) (k : Ports) (q : List ℕ)
-    → row_reached (happened a d k) q ≡ true → (row_reached k q ≡ true) × (names_path d a q ≡ false)
+    → row_reached (after_change a d k) q ≡ true → (row_reached k q ≡ true) × (names_path d a q ≡ false)
 row_happened a d k [] h = (refl, happened_by (λ v named. named ≡ false) a d k [] refl (λ o. no_way))
 row_happened a d k (m ∷ q) h = happened_reach a d k (m ∷ q) h
 
@@ -158,7 +158,7 @@ made_port a w (suc j ∷ p) h = (attempt_ports a.addr (token_out a (damage_in w)
 
 pub left_effect : (e : Effect) (a : Ports) (j : ℕ) (p : List ℕ) → leaves_port e j ≡ true → effect_resets e a j p ≡ false
 left_effect Leaves a j p h = refl
-left_effect (Calls c i) a j [] h = ap (λ x. is_reset c && (x && takes_reset (place_at a j []))) (not_true (same_number i j) h) ∙ and_false (is_reset c)
+left_effect (Calls c i) a j [] h = ap (λ x. is_reset c && (x && takes_reset (place_at a j []))) (not-true (same_number i j) h) ∙ and_false (is_reset c)
 left_effect (Calls c i) a j (n ∷ p) h = refl
 left_effect PortsOff a j p h = refl
 
@@ -192,7 +192,7 @@ left_root : (c : PortCall) (m : ℕ) (k : Ports) (q : List ℕ) (n : ℕ) → ro
 left_root c zero k q n h = refl
 left_root c (suc i) k [] n h = refl
 left_root c (suc i) k (zero ∷ q) n h = refl
-left_root c (suc i) k (suc j ∷ []) n h = ap (λ x. is_reset c && (x && takes_reset (place_at k j []))) (not_true (same_number i j) h) ∙ and_false (is_reset c)
+left_root c (suc i) k (suc j ∷ []) n h = ap (λ x. is_reset c && (x && takes_reset (place_at k j []))) (not-true (same_number i j) h) ∙ and_false (is_reset c)
 left_root c (suc i) k (suc j ∷ x ∷ q) n h = refl
 
 -- Steps
@@ -200,9 +200,9 @@ left_root c (suc i) k (suc j ∷ x ∷ q) n h = refl
 pub root_port : (c : PortCall) (m : ℕ) (k : Ports) (p : List ℕ) → root_leaves m p ≡ true → port_there (changed (called c) k (m ∷ [])) p ≡ port_there k p
 root_port c m k p h = (root_there c m k p h).1
 
-made_row : (a : Attempt) (w : World) (q : List ℕ) (n : ℕ) → made_leaves a w (q ++ (n ∷ [])) ≡ true → row_reached (with_attempt a w).roots q ≡ true → row_reached w.roots q ≡ true
-made_row a w [] n g h = refl
-made_row a w (m ∷ q) n g h = made_reach a w (m ∷ q) (left_made a w (m ∷ q) n g) h
+row_reached-made : (a : Attempt) (w : World) (q : List ℕ) (n : ℕ) → made_leaves a w (q ++ (n ∷ [])) ≡ true → row_reached (with_attempt a w).roots q ≡ true → row_reached w.roots q ≡ true
+row_reached-made a w [] n g h = refl
+row_reached-made a w (m ∷ q) n g h = made_reach a w (m ∷ q) (left_made a w (m ∷ q) n g) h
 
 root_row : (c : PortCall) (m : ℕ) (k : Ports) (q : List ℕ) (n : ℕ)
     → root_leaves m (q ++ (n ∷ [])) ≡ true → row_reached (changed (called c) k (m ∷ [])) q ≡ true
@@ -219,10 +219,10 @@ BitsStay q n w v =
     → StillSet b (port_there v.roots (q ++ (n ∷ []))))
 
 bits_steps : (q : List ℕ) (n : ℕ) → OverSteps (LeavesPort (q ++ (n ∷ []))) (BitsStay q n)
-unfolding took leaves_step
+unfolding after_event leaves_step
 bits_steps q n = record {
   events = record {
-    same = λ w on. (on, λ b h. still_same b _ h);
+    same = λ w on. (on, λ b h. still_set-same b _ h);
     joined = λ w m v x y on.
         let late : _ = y on in
         let early : _ = x late.0 in (
@@ -236,14 +236,14 @@ bits_steps q n = record {
         (row.0, λ b. happened_bits e.action w.devices w.roots q n b row.1);
   };
   made = λ a w made g on. (
-    made_row a (ready w) q n g on,
-    λ b h. still_same b _ (made_port a (ready w) (q ++ (n ∷ [])) g ∙ h),
+    row_reached-made a (at_attempt w) q n g on,
+    λ b h. still_set-same b _ (made_port a (at_attempt w) (q ++ (n ∷ [])) g ∙ h),
   );
   root = λ c m w g on. (
     root_row c m w.roots q n g on,
-    λ b h. still_same b _ (root_port c m w.roots (q ++ (n ∷ [])) g ∙ h),
+    λ b h. still_set-same b _ (root_port c m w.roots (q ++ (n ∷ [])) g ∙ h),
   );
-  refused = λ w on. (on, λ b h. still_same b _ h);
+  refused = λ w on. (on, λ b h. still_set-same b _ h);
 }
 
 pub course_bits : (q : List ℕ) (n : ℕ) {w v : World} → Course (LeavesPort (q ++ (n ∷ []))) w v → row_reached v.roots q ≡ true → (b : PortState)

@@ -10,16 +10,16 @@ use Rattle.usb_port.specs.Calls.{called_port, port_by, is_reset, set_call, clear
 use Rattle.usb_device.specs.Rows.{State}
 use Rattle.usb_device.specs.Tree.{Ports, ended, vacant, taken, new_ports, first_ports, all_off, acted, Place, empty, full, before, reset_where, called, replaced, changed, changed_at, row_of}
 use Rattle.usb_world.proofs.LiftedSteps.{happened_by}
-use Rattle.usb_world.proofs.Booleans.{no}
-use Rattle.usb_world.specs.World.{World, roots_of, root_row, to_come, change_of, Spends, IsRootPort, changes, root_port_at}
+use Rattle.usb_world.proofs.Booleans.{false_true}
+use Rattle.usb_world.specs.World.{World, roots_of, root_row, to_come, change_of, AttemptsWithin, IsRootPort, changes, root_port_at}
 use Rattle.usb_device.specs.Spec.{Spec, Hub}
 use Rattle.usb_device.specs.declared.effect.Effect.{Effect}
 use Rattle.usb_device.specs.declared.effect.Effect.TheVariants as effect
 use Rattle.usb_world.specs.PluggedDevices.{hub_ports}
 use Rattle.usb_world.specs.declared.event.Action.{Action}
-use Rattle.usb_world.specs.Steps.{happened, SetsRoot, ClearsRoot, root_call, after}
+use Rattle.usb_world.specs.Steps.{after_change, SetsRoot, ClearsRoot, root_call, after}
 
-pub spends_none : (w : World) → Spends 0 w w
+pub spends_none : (w : World) → AttemptsWithin 0 w w
 spends_none w = record {
   limit = refl;
   roots = refl;
@@ -31,7 +31,7 @@ spends_none w = record {
   served = omega arith;
 }
 
-pub spends_then : (m n : ℕ) (a b c : World) → Spends m a b → Spends n b c → Spends (m + n) a c
+pub spends_then : (m n : ℕ) (a b c : World) → AttemptsWithin m a b → AttemptsWithin n b c → AttemptsWithin (m + n) a c
 spends_then m n a b c p q = record {
   limit = q.limit ∙ p.limit;
   roots = q.roots ∙ p.roots;
@@ -43,7 +43,7 @@ spends_then m n a b c p q = record {
   served = omega (arith, p.served, q.served);
 }
 
-pub spends_wider : (m n : ℕ) (a b : World) → Spends m a b → m ≤ n → Spends n a b
+pub spends_wider : (m n : ℕ) (a b : World) → AttemptsWithin m a b → m ≤ n → AttemptsWithin n a b
 spends_wider m n a b p le = record {
   limit = p.limit;
   roots = p.roots;
@@ -62,8 +62,8 @@ changes-set [] i p lt = absurd (omega (arith, lt))
 changes-set (q ∷ ps) zero p lt = omega arith
 changes-set (q ∷ ps) (suc i) p lt = omega (arith, changes-set ps i p (omega (arith, lt)))
 
-none_some : (c : PortCall) → None ≡ Some c → ⊥
-none_some c e = cc
+none_not_call : (c : PortCall) → None ≡ Some c → ⊥
+none_not_call c e = cc
 
 -- a call at a port of a row is a row of the port table there
 row_reset : (x : Bool) (b : PortState) (s : State) (a k : Ports) → row_of (before (reset_where x b s a) k) ≡ b ∷ row_of k
@@ -98,7 +98,7 @@ called_root (suc i) c w is = record { row = subst (λ j. row_of (changed_at (cal
 
 -- a call at a root port, and its row of the port table
 pub root_called : (port : ℕ) (call : Option PortCall) (old new : World) → IsRootPort old port → is_some call ≡ true → ((c : PortCall) → call ≡ Some c → new ≡ after (root_call c port) old) → RootCalled port (port_by call (root_port_at old port)) old new
-root_called port None old new is named step = no named
+root_called port None old new is named step = false_true named
 root_called port (Some c) old new is named step = subst (λ w. RootCalled port (called_port c (root_port_at old port)) old w) (sym (step c refl)) (called_root port c old is)
 
 -- a step is a root call of its feature
@@ -153,7 +153,7 @@ acted_long effect.Leaves k = refl
 acted_long (effect.Calls c i) k = row_long_at (called c) k i []
 acted_long effect.PortsOff k = off_long k
 
-pub happened_long : (a : Action) (ds : List Spec) (k : Ports) → length (row_of (happened a ds k)) ≡ length (row_of k)
+pub happened_long : (a : Action) (ds : List Spec) (k : Ports) → length (row_of (after_change a ds k)) ≡ length (row_of k)
 happened_long a ds k =
     happened_by (λ v _. length (row_of v) ≡ length (row_of k)) a ds k [] refl
     (λ o p. row_long (replaced o) k p)
@@ -184,14 +184,14 @@ changes_path f k [] = omega arith
 changes_path f k (zero ∷ p) = omega arith
 changes_path f k (suc i ∷ p) = changes_at f k i p
 
-pub happened_changes : (a : Action) (ds : List Spec) (k : Ports) → changes (row_of (happened a ds k)) ≤ changes (row_of k) + 1
+pub happened_changes : (a : Action) (ds : List Spec) (k : Ports) → changes (row_of (after_change a ds k)) ≤ changes (row_of k) + 1
 happened_changes a ds k =
     happened_by (λ v _. changes (row_of v) ≤ changes (row_of k) + 1) a ds k [] (omega arith)
     (λ o p. changes_path (replaced o) k p)
 
 -- an event that came
 pub event_spends : (old new : World) → changes (root_row new) ≤ changes (root_row old) + 1 → roots_of new ≡ roots_of old → new.taken ≡ old.taken + 1
-    → to_come new + 1 ≡ to_come old → new.attempts ≡ old.attempts → new.limit ≡ old.limit → Spends 0 old new
+    → to_come new + 1 ≡ to_come old → new.attempts ≡ old.attempts → new.limit ≡ old.limit → AttemptsWithin 0 old new
 event_spends old new grown number came left attempts limit = record {
   limit = limit;
   roots = number;
@@ -203,26 +203,26 @@ event_spends old new grown number came left attempts limit = record {
   onward = omega (arith, came);
 }
 
-pub came_spends : (old new : World) (a : Action) (ds : List Spec) → new.roots ≡ happened a ds old.roots → new.taken ≡ old.taken + 1
-    → to_come new + 1 ≡ to_come old → new.attempts ≡ old.attempts → new.limit ≡ old.limit → Spends 0 old new
+pub came_spends : (old new : World) (a : Action) (ds : List Spec) → new.roots ≡ after_change a ds old.roots → new.taken ≡ old.taken + 1
+    → to_come new + 1 ≡ to_come old → new.attempts ≡ old.attempts → new.limit ≡ old.limit → AttemptsWithin 0 old new
 came_spends old new a ds e came left attempts limit =
     event_spends old new (subst (λ k. changes (row_of k) ≤ changes (root_row old) + 1) (sym e) (happened_changes a ds old.roots))
     (ap (λ k. length (row_of k)) e ∙ happened_long a ds old.roots) came left attempts limit
 
-pub set_ends : (port feature : ℕ) (old new : World) (c : PortCall) → IsRootPort old port → IsSetFeature feature → Some c ≡ set_call feature → new ≡ after (root_call c port) old → SetsRoot port feature old new
-set_ends port feature old new c is named found e = set_step port feature old new is named (λ d other. subst (λ x. new ≡ after (root_call x port) old) (same_Some c d (found ∙ other)) e)
+pub set_call_root : (port feature : ℕ) (old new : World) (c : PortCall) → IsRootPort old port → IsSetFeature feature → Some c ≡ set_call feature → new ≡ after (root_call c port) old → SetsRoot port feature old new
+set_call_root port feature old new c is named found e = set_step port feature old new is named (λ d other. subst (λ x. new ≡ after (root_call x port) old) (same_Some c d (found ∙ other)) e)
 
 pub set_none : {A : Type 0} (feature : ℕ) → IsSetFeature feature → None ≡ set_call feature → A
-set_none feature named e = no (ap is_some e ∙ named)
+set_none feature named e = false_true (ap is_some e ∙ named)
 
 pub clear_ends : (port feature : ℕ) (old new : World) (c : PortCall) → IsRootPort old port → IsClearFeature feature → Some c ≡ clear_call feature → new ≡ after (root_call c port) old → ClearsRoot port feature old new
 clear_ends port feature old new c is named found e = clear_step port feature old new is named (λ d other. subst (λ x. new ≡ after (root_call x port) old) (same_Some c d (found ∙ other)) e)
 
 pub clear_none : {A : Type 0} (feature : ℕ) → IsClearFeature feature → None ≡ clear_call feature → A
-clear_none feature named e = no (ap is_some e ∙ named)
+clear_none feature named e = false_true (ap is_some e ∙ named)
 
 -- a root call that leaves C_PORT_CONNECTION as it was, or clears it, makes no attempt and no event
-pub writes_spend : (port : ℕ) (p : PortState) (old new : World) → IsRootPort old port → change_of p ≤ change_of (root_port_at old port) → RootCalled port p old new → Spends 0 old new
+pub writes_spend : (port : ℕ) (p : PortState) (old new : World) → IsRootPort old port → change_of p ≤ change_of (root_port_at old port) → RootCalled port p old new → AttemptsWithin 0 old new
 unfolding root_port_at
 writes_spend port p old new is le c = record {
   limit = c.limit;
@@ -244,9 +244,9 @@ change_of-reset p = elim (p.power && is_attached p.attached) as (λ b. change_of
 Leaves : PortState → Option PortCall → Type 0
 Leaves p call = change_of (port_by call p) ≤ change_of p
 
-leaves_if : (p : PortState) (b : Bool) (x y : Option PortCall) → Leaves p x → Leaves p y → Leaves p (if b then x else y)
-leaves_if p true x y hx hy = hx
-leaves_if p false x y hx hy = hy
+leaves-if : (p : PortState) (b : Bool) (x y : Option PortCall) → Leaves p x → Leaves p y → Leaves p (if b then x else y)
+leaves-if p true x y hx hy = hx
+leaves-if p false x y hx hy = hy
 
 cleared_le : (p : PortState) → 0 ≤ change_of p
 cleared_le p = omega arith
@@ -254,18 +254,18 @@ cleared_le p = omega arith
 change_of-clear : (feature : ℕ) (p : PortState) → Leaves p (clear_call feature)
 unfolding Leaves change_of
 change_of-clear feature p =
-    leaves_if p (feature == PORT_ENABLE) _ _ (omega arith)
-    (leaves_if p (feature == PORT_POWER) _ _ (cleared_le p)
-    (leaves_if p (feature == C_PORT_CONNECTION) _ _ (cleared_le p)
-    (leaves_if p (feature == C_PORT_ENABLE) _ _ (omega arith)
-    (leaves_if p (feature == C_PORT_RESET) _ _ (omega arith) (omega arith)))))
+    leaves-if p (feature == PORT_ENABLE) _ _ (omega arith)
+    (leaves-if p (feature == PORT_POWER) _ _ (cleared_le p)
+    (leaves-if p (feature == C_PORT_CONNECTION) _ _ (cleared_le p)
+    (leaves-if p (feature == C_PORT_ENABLE) _ _ (omega arith)
+    (leaves-if p (feature == C_PORT_RESET) _ _ (omega arith) (omega arith)))))
 
 -- setting PORT_RESET of a root port
-pub resets_spend : (port : ℕ) (old new : World) → IsRootPort old port → SetsRoot port PORT_RESET old new → Spends 0 old new
+pub resets_spend : (port : ℕ) (old new : World) → IsRootPort old port → SetsRoot port PORT_RESET old new → AttemptsWithin 0 old new
 resets_spend port old new is s = writes_spend port _ old new is (change_of-reset (root_port_at old port)) (root_called port (set_call PORT_RESET) old new is refl s.step)
 
 -- clearing a feature of a root port
-pub clears_spend : (port feature : ℕ) (old new : World) → IsRootPort old port → IsClearFeature feature → ClearsRoot port feature old new → Spends 0 old new
+pub clears_spend : (port feature : ℕ) (old new : World) → IsRootPort old port → IsClearFeature feature → ClearsRoot port feature old new → AttemptsWithin 0 old new
 unfolding Leaves
 clears_spend port feature old new is named c = writes_spend port _ old new is (change_of-clear feature (root_port_at old port)) (root_called port (clear_call feature) old new is named c.step)
 

@@ -21,16 +21,16 @@ use Rattle.usb_world.specs.Wire.{is_read, mark_of, harm_to, marked, marked_some}
 use Rattle.usb_world.specs.Exchange.{token_of, payload_of, reply_of, goes_out, token_out}
 use Rattle.usb_world.specs.Exchange.{payload_out, reply_out, heard_in, mark_in, place_of_answer}
 use Rattle.usb_world.specs.Exchange.{ports_in}
-use Rattle.usb_world.specs.Paths.{live, pend}
+use Rattle.usb_world.specs.Paths.{has_power, pending}
 use Rattle.usb_world.specs.WayEffects.{IsNew}
 use Rattle.usb_world.specs.AttemptPackets.{IfOut, IsTokenFor, IsDataOut, IsAckOut, IsAttemptAt}
 use Rattle.usb_world.specs.World.{World}
-use Rattle.usb_world.specs.Steps.{happened, names_path, took, ready, damage_in, with_attempt, Step}
+use Rattle.usb_world.specs.Steps.{after_change, names_path, after_event, at_attempt, damage_in, with_attempt, Step}
 use Rattle.usb_world.specs.Steps.{attempt, root_call, event, report, after, Course, here, step}
-use Rattle.usb_world.specs.Courses.{NoneNames, Undisturbed, is_made, made_resets, made_spares}
-use Rattle.usb_world.specs.Courses.{root_resets, root_spares, resets, spares_step, Reached}
-use Rattle.usb_world.specs.Courses.{UndisturbedOrPends, NoReset, Spares}
-use Rattle.usb_world.proofs.Booleans.{no, both, decided}
+use Rattle.usb_world.specs.Courses.{NoneNames, Undisturbed, is_made, made_resets, made_keeps_pending}
+use Rattle.usb_world.specs.Courses.{root_resets, root_keeps_pending, resets, step_keeps_pending, Reached}
+use Rattle.usb_world.specs.Courses.{UndisturbedOrPends, NoReset, KeepsPendingAt}
+use Rattle.usb_world.proofs.Booleans.{false_true, both, decided}
 use Rattle.usb_world.proofs.LiftedSteps.{OverSteps, with_limit_told, with_call, over_step}
 use Rattle.usb_world.proofs.LiftedSteps.{over_course, made_after}
 use Rattle.usb_world.proofs.PlugEvents.{happened_way}
@@ -57,31 +57,31 @@ undisturbed_on w v u p f g = record {
 -- Events
 
 pub happened_reach : (a : Action) (d : List Spec) (k : Ports) (p : List ℕ)
-    → reach (happened a d k) p ≡ true → (reach k p ≡ true) × (names_path d a p ≡ false)
+    → reach (after_change a d k) p ≡ true → (reach k p ≡ true) × (names_path d a p ≡ false)
 happened_reach a d k p h = (happened_way a d k p).0 h
 
 happened_pend : (a : Action) (d : List Spec) (k : Ports) (p : List ℕ)
-    → pend k p ≡ true → pend (happened a d k) p ≡ true
+    → pending k p ≡ true → pending (after_change a d k) p ≡ true
 happened_pend a d k p h = (happened_way a d k p).1 h
 
 abbrev LiveOr : Ports → Bool → List ℕ → Type 0
-LiveOr v named p = ((live v p ≡ true) × (named ≡ false)) ⊎ (pend v p ≡ true)
+LiveOr v named p = ((has_power v p ≡ true) × (named ≡ false)) ⊎ (pending v p ≡ true)
 
-happened_live : (a : Action) (d : List Spec) (k : Ports) (p : List ℕ) → live k p ≡ true
-    → LiveOr (happened a d k) (names_path d a p) p
+happened_live : (a : Action) (d : List Spec) (k : Ports) (p : List ℕ) → has_power k p ≡ true
+    → LiveOr (after_change a d k) (names_path d a p) p
 happened_live a d k p h = (happened_way a d k p).2 h
 
-took_reach : (e : Event) (es : List Event) (w : World) (p : List ℕ) → w.left ≡ e ∷ es → reach (took e es w).roots p ≡ true → (reach w.roots p ≡ true) × Undisturbed w (took e es w) p
-unfolding took
+took_reach : (e : Event) (es : List Event) (w : World) (p : List ℕ) → w.left ≡ e ∷ es → reach (after_event e es w).roots p ≡ true → (reach w.roots p ≡ true) × Undisturbed w (after_event e es w) p
+unfolding after_event
 took_reach e es w p l h =
     let at : _ = happened_reach e.action w.devices w.roots p h in
     (at.0, record { events = e ∷ []; split = l; silent = (at.1, tt); devices = refl })
 
 -- The packets of an attempt are a token, data and an ACK
 
-token_goes : (a : Attempt) (d : Option Damage) → IfOut (IsTokenFor a.addr) (token_out a d)
+token_out-token : (a : Attempt) (d : Option Damage) → IfOut (IsTokenFor a.addr) (token_out a d)
 unfolding token_of marked
-token_goes a d = sent_out (IsTokenFor a.addr) tt a.low a.pre (mark_of (harm_to d 1) a.pre (packet.Token a.kind a.addr a.ep)) (packet.Token a.kind a.addr a.ep) refl
+token_out-token a d = sent_out (IsTokenFor a.addr) tt a.low a.pre (mark_of (harm_to d 1) a.pre (packet.Token a.kind a.addr a.ep)) (packet.Token a.kind a.addr a.ep) refl
 
 payload_goes : (a : Attempt) (d : Option Damage) → IfOut IsDataOut (payload_out a d)
 unfolding payload_of marked_some marked
@@ -120,34 +120,34 @@ ack_goes : (a : Attempt) (d : Option Damage) (k : Ports) → IfOut IsAckOut (rep
 ack_goes a d k = reply_goes a d (place_of_answer a d + 1) (heard_in a d k) (mark_in a d k) a.max
 
 pub goes : (a : Attempt) (d : Option Damage) (k : Ports) → IsAttemptAt a.addr (token_out a d) (payload_out a d) (reply_out a d k)
-goes a d k = record { token = token_goes a d; payload = payload_goes a d; reply = ack_goes a d k }
+goes a d k = record { token = token_out-token a d; payload = payload_goes a d; reply = ack_goes a d k }
 
 -- An attempt that is made
 
 pub made_reach : (a : Attempt) (w : World) (p : List ℕ) → made_resets a w p ≡ false → reach (with_attempt a w).roots p ≡ true → reach w.roots p ≡ true
 unfolding with_attempt ports_in
-made_reach a w [] f h = no h
-made_reach a w (zero ∷ p) f h = no h
+made_reach a w [] f h = false_true h
+made_reach a w (zero ∷ p) f h = false_true h
 made_reach a w (suc j ∷ p) f h = attempt_reach a.addr (token_out a (damage_in w)) (payload_out a (damage_in w)) (reply_out a (damage_in w) w.roots) (goes a (damage_in w) w.roots) w.roots j p f h
 
 made_new : (a : Attempt) (w : World) (p : List ℕ) → made_resets a w p ≡ true → IsNew (place (with_attempt a w).roots p)
 unfolding with_attempt ports_in
-made_new a w [] f = no f
-made_new a w (zero ∷ p) f = no f
+made_new a w [] f = false_true f
+made_new a w (zero ∷ p) f = false_true f
 made_new a w (suc j ∷ p) f = attempt_new a.addr (token_out a (damage_in w)) (payload_out a (damage_in w)) (reply_out a (damage_in w) w.roots) (goes a (damage_in w) w.roots) w.roots j p f
 
-pub made_pend : (a : Attempt) (w : World) (p : List ℕ) → made_spares a w p ≡ true → pend w.roots p ≡ true → pend (with_attempt a w).roots p ≡ true
+pub made_pend : (a : Attempt) (w : World) (p : List ℕ) → made_keeps_pending a w p ≡ true → pending w.roots p ≡ true → pending (with_attempt a w).roots p ≡ true
 unfolding with_attempt ports_in
-made_pend a w [] f h = no h
-made_pend a w (zero ∷ p) f h = no h
+made_pend a w [] f h = false_true h
+made_pend a w (zero ∷ p) f h = false_true h
 made_pend a w (suc j ∷ p) f h =
     (attempt_kept a.addr (token_out a (damage_in w)) (payload_out a (damage_in w))
     (reply_out a (damage_in w) w.roots) (goes a (damage_in w) w.roots) w.roots j p f).1 h
 
-pub made_live : (a : Attempt) (w : World) (p : List ℕ) → made_spares a w p ≡ true → live w.roots p ≡ true → live (with_attempt a w).roots p ≡ true
+pub made_live : (a : Attempt) (w : World) (p : List ℕ) → made_keeps_pending a w p ≡ true → has_power w.roots p ≡ true → has_power (with_attempt a w).roots p ≡ true
 unfolding with_attempt ports_in
-made_live a w [] f h = no h
-made_live a w (zero ∷ p) f h = no h
+made_live a w [] f h = false_true h
+made_live a w (zero ∷ p) f h = false_true h
 made_live a w (suc j ∷ p) f h =
     (attempt_kept a.addr (token_out a (damage_in w)) (payload_out a (damage_in w))
     (reply_out a (damage_in w) w.roots) (goes a (damage_in w) w.roots) w.roots j p f).0 h
@@ -156,26 +156,26 @@ made_live a w (suc j ∷ p) f h =
 
 pub root_reach : (c : PortCall) (n : ℕ) (k : Ports) (p : List ℕ) → root_resets c n k p ≡ false
     → reach (changed (called c) k (n ∷ [])) p ≡ true → reach k p ≡ true
-root_reach c n k [] f h = no h
-root_reach c n k (zero ∷ p) f h = no h
+root_reach c n k [] f h = false_true h
+root_reach c n k (zero ∷ p) f h = false_true h
 root_reach c zero k (suc j ∷ p) f h = h
 root_reach c (suc i) k (suc j ∷ p) f h = call_reach c k i j p f h
 
 root_new : (c : PortCall) (n : ℕ) (k : Ports) (p : List ℕ) → root_resets c n k p ≡ true → IsNew (place (changed (called c) k (n ∷ [])) p)
-root_new c zero k p f = no f
-root_new c (suc i) k [] f = no f
-root_new c (suc i) k (zero ∷ p) f = no f
+root_new c zero k p f = false_true f
+root_new c (suc i) k [] f = false_true f
+root_new c (suc i) k (zero ∷ p) f = false_true f
 root_new c (suc i) k (suc j ∷ p) f = call_new c k i j p f
 
-pub root_pend : (c : PortCall) (n : ℕ) (k : Ports) (p : List ℕ) → root_spares c n p ≡ true → pend k p ≡ true → pend (changed (called c) k (n ∷ [])) p ≡ true
-root_pend c n k [] g h = no h
-root_pend c n k (zero ∷ p) g h = no h
+pub root_pend : (c : PortCall) (n : ℕ) (k : Ports) (p : List ℕ) → root_keeps_pending c n p ≡ true → pending k p ≡ true → pending (changed (called c) k (n ∷ [])) p ≡ true
+root_pend c n k [] g h = false_true h
+root_pend c n k (zero ∷ p) g h = false_true h
 root_pend c zero k (suc j ∷ p) g h = h
 root_pend c (suc i) k (suc j ∷ p) g h = (call_kept c k i j p g).1 h
 
-pub root_live : (c : PortCall) (n : ℕ) (k : Ports) (p : List ℕ) → root_spares c n p ≡ true → live k p ≡ true → live (changed (called c) k (n ∷ [])) p ≡ true
-root_live c n k [] g h = no h
-root_live c n k (zero ∷ p) g h = no h
+pub root_live : (c : PortCall) (n : ℕ) (k : Ports) (p : List ℕ) → root_keeps_pending c n p ≡ true → has_power k p ≡ true → has_power (changed (called c) k (n ∷ [])) p ≡ true
+root_live c n k [] g h = false_true h
+root_live c n k (zero ∷ p) g h = false_true h
 root_live c zero k (suc j ∷ p) g h = h
 root_live c (suc i) k (suc j ∷ p) g h = (call_kept c k i j p g).0 h
 
@@ -185,11 +185,11 @@ root_live c (suc i) k (suc j ∷ p) g h = (call_kept c k i j p g).0 h
 pub step_new : (s : Step) (w : World) (p : List ℕ) → resets s w p ≡ true → IsNew (place (after s w).roots p)
 unfolding after resets
 step_new (attempt a) w p h =
-    let x : _ = both (is_made w.fault w) (made_resets a (ready w) p) h in
-    subst (λ v. IsNew (place v.roots p)) (sym (made_after a w x.0)) (made_new a (ready w) p x.1)
+    let x : _ = both (is_made w.fault w) (made_resets a (at_attempt w) p) h in
+    subst (λ v. IsNew (place v.roots p)) (sym (made_after a w x.0)) (made_new a (at_attempt w) p x.1)
 step_new (root_call c n) w p h = root_new c n w.roots p h
-step_new event w p h = no h
-step_new (report l) w p h = no h
+step_new event w p h = false_true h
+step_new (report l) w p h = false_true h
 
 -- a device that is reached was reached before, and was not disturbed
 abbrev pub StaysReached : List ℕ → World → World → Type 0
@@ -206,8 +206,8 @@ reach_steps p = record {
     came = λ e es w l. took_reach e es w p l;
   };
   made = λ a w made k h. (
-    made_reach a (ready w) p (ap (λ x. x && made_resets a (ready w) p) (sym made) ∙ k) h,
-    undisturbed_here (ready w) (with_attempt a (ready w)) p refl refl,
+    made_reach a (at_attempt w) p (ap (λ x. x && made_resets a (at_attempt w) p) (sym made) ∙ k) h,
+    undisturbed_here (at_attempt w) (with_attempt a (at_attempt w)) p refl refl,
   );
   root = λ c n w k h.
       (root_reach c n w.roots p k h, undisturbed_here w (with_call c n w) p refl refl);
@@ -237,19 +237,19 @@ pub record OverUnnamed (K : Step → World → Type 0) (R : World → World → 
   pub same : (w : World) → R w w
   pub joined : (w m v : World) → R w m → R m v → R w v
   pub came : (e : Event) (events : List Event) (w : World) → w.left ≡ e ∷ events
-      → names_path w.devices e.action p ≡ false → R w (took e events w)
-  pub made : (a : Attempt) (w : World) → K (attempt a) w → R (ready w) (with_attempt a (ready w))
+      → names_path w.devices e.action p ≡ false → R w (after_event e events w)
+  pub made : (a : Attempt) (w : World) → K (attempt a) w → R (at_attempt w) (with_attempt a (at_attempt w))
   pub root : (c : PortCall) (n : ℕ) (w : World) → K (root_call c n) w → R w (with_call c n w)
   pub refused : (w : World) → R w (with_limit_told w)
-  pub spares : (s : Step) (w : World) → K s w → spares_step s w p ≡ true
+  pub spares : (s : Step) (w : World) → K s w → step_keeps_pending s w p ≡ true
 
 abbrev pub OrPends : (World → World → Type 0) → List ℕ → World → World → Type 0
-OrPends R p w v = ((live v.roots p ≡ true) × R w v) ⊎ (pend v.roots p ≡ true)
+OrPends R p w v = ((has_power v.roots p ≡ true) × R w v) ⊎ (pending v.roots p ≡ true)
 
 -- what is powered stays so and is related, or is pending; and what is pending stays so
 pub record LiveOrPends (R : World → World → Type 0) (p : List ℕ) (w v : World) : Type 0 where
-  pub powered : live w.roots p ≡ true → OrPends R p w v
-  pub pending : pend w.roots p ≡ true → pend v.roots p ≡ true
+  pub powered : has_power w.roots p ≡ true → OrPends R p w v
+  pub pending : pending w.roots p ≡ true → pending v.roots p ≡ true
 
 module _ {K : Step → World → Type 0} {R : World → World → Type 0} {p : List ℕ}
     (l : OverUnnamed K R p) where
@@ -268,20 +268,20 @@ module _ {K : Step → World → Type 0} {R : World → World → Type 0} {p : L
       early (inr z) = inr (y.pending z)
 
   live_came : (e : Event) (events : List Event) (w : World) → w.left ≡ e ∷ events
-      → LiveOrPends R p w (took e events w)
-  unfolding took
+      → LiveOrPends R p w (after_event e events w)
+  unfolding after_event
   live_came e events w left = record {
     powered = λ h. pick (happened_live e.action w.devices w.roots p h);
     pending = happened_pend e.action w.devices w.roots p;
   }
     where
-      pick : LiveOr (happened e.action w.devices w.roots) (names_path w.devices e.action p) p
-          → OrPends R p w (took e events w)
+      pick : LiveOr (after_change e.action w.devices w.roots) (names_path w.devices e.action p) p
+          → OrPends R p w (after_event e events w)
       pick (inl y) = inl (y.0, l.came e events w left y.1)
       pick (inr y) = inr y
 
   pub over_live : OverSteps K (LiveOrPends R p)
-  unfolding spares_step
+  unfolding step_keeps_pending
   over_live = record {
     events = record {
       same = λ w. record { powered = λ h. inl (h, l.same w); pending = λ h. h };
@@ -291,8 +291,8 @@ module _ {K : Step → World → Type 0} {R : World → World → Type 0} {p : L
     made = λ a w made k.
         let spares : _ = l.spares (attempt a) w k in
         record {
-          powered = λ h. inl (made_live a (ready w) p spares h, l.made a w k);
-          pending = made_pend a (ready w) p spares;
+          powered = λ h. inl (made_live a (at_attempt w) p spares h, l.made a w k);
+          pending = made_pend a (at_attempt w) p spares;
         };
     root = λ c n w k.
         let spares : _ = l.spares (root_call c n) w k in
@@ -304,26 +304,26 @@ module _ {K : Step → World → Type 0} {R : World → World → Type 0} {p : L
   }
 
 -- no event comes on a live way but that it is pending
-undisturbed_steps : (p : List ℕ) → OverSteps (Spares p) (LiveOrPends (λ w v. Undisturbed w v p) p)
-unfolding took with_attempt
+undisturbed_steps : (p : List ℕ) → OverSteps (KeepsPendingAt p) (LiveOrPends (λ w v. Undisturbed w v p) p)
+unfolding after_event with_attempt
 undisturbed_steps p = over_live (record {
   same = λ w. undisturbed_here w w p refl refl;
   joined = λ w m v. undisturbed_on w m v p;
   came = λ e es w l silent.
       record { events = e ∷ []; split = l; silent = (silent, tt); devices = refl };
-  made = λ a w k. undisturbed_here (ready w) (with_attempt a (ready w)) p refl refl;
+  made = λ a w k. undisturbed_here (at_attempt w) (with_attempt a (at_attempt w)) p refl refl;
   root = λ c n w k. undisturbed_here w (with_call c n w) p refl refl;
   refused = λ w. undisturbed_here w (with_limit_told w) p refl refl;
   spares = λ s w k. k;
 })
 
-pub step_pend : (s : Step) (w : World) (p : List ℕ) → spares_step s w p ≡ true → pend w.roots p ≡ true → pend (after s w).roots p ≡ true
+pub step_pend : (s : Step) (w : World) (p : List ℕ) → step_keeps_pending s w p ≡ true → pending w.roots p ≡ true → pending (after s w).roots p ≡ true
 step_pend s w p k = (over_step (undisturbed_steps p) s w k).pending
 
-pub pending_persists : (p : List ℕ) {w v : World} → Course (Spares p) w v → pend w.roots p ≡ true → pend v.roots p ≡ true
+pub pending_persists : (p : List ℕ) {w v : World} → Course (KeepsPendingAt p) w v → pending w.roots p ≡ true → pending v.roots p ≡ true
 pending_persists p c = (over_course (undisturbed_steps p) c).pending
 
-pub untouched_or_pending : (p : List ℕ) {w v : World} → Course (Spares p) w v → live w.roots p ≡ true → UndisturbedOrPends w v p
+pub untouched_or_pending : (p : List ℕ) {w v : World} → Course (KeepsPendingAt p) w v → has_power w.roots p ≡ true → UndisturbedOrPends w v p
 untouched_or_pending p c = (over_course (undisturbed_steps p) c).powered
 
 -- Courses

@@ -27,11 +27,11 @@ use Rattle.usb_world.specs.Exchange.{token_of, payload_of, goes_out, sent_as, to
 use Rattle.usb_world.specs.AttemptPackets.{IfOut, IsDataOut, IsSettled, after_sent}
 use Rattle.usb_world.specs.World.{IsAttempt, sends_data}
 use Rattle.usb_world.specs.Steps.{IsCut}
-use Rattle.usb_world.proofs.Booleans.{no}
+use Rattle.usb_world.proofs.Booleans.{false_true}
 use Rattle.usb_world.proofs.StepInvariants.{Rests, rests}
 use Rattle.usb_world.proofs.Courses.{goes}
-use Rattle.usb_world.proofs.AlikeTrees.{Alike, alike_self, alike_joined, alike_vacant, alike_taken, alike_forgotten, stand_alike, self_of, StandAlike}
-use Rattle.usb_world.proofs.MildPackets.{is_nothing, no_setup, no_out, any_memory, Mild, MildAnswer, mild_answer, mild_broken, mild_out, mild_setup, mild_data, grows_after_out}
+use Rattle.usb_world.proofs.AlikeTrees.{SameDevices, alike_self, alike_joined, alike_vacant, alike_taken, alike_forgotten, stand_alike, self_of, StandAlike}
+use Rattle.usb_world.proofs.MildPackets.{is_nothing, remembers_no_setup, no_out, any_memory, Mild, MildAnswer, mild_answer, mild_broken, mild_out, mild_setup, mild_data, grows_after_out}
 
 -- every device remembers such a thing
 unfoldable pub All : (RememberedPacket → Bool) → Ports → Type 0
@@ -55,7 +55,7 @@ all_wider w (taken b s a k) h = (w s.memory h.0, all_wider w a h.1, all_wider w 
 
 pub record MildPacket (new : RememberedPacket → Bool) (k m : Ports) : Type 0 where
   pub all : All new m
-  pub alike : Alike k m
+  pub alike : SameDevices k m
 
 mild_taken : {new : RememberedPacket → Bool} (b : PortState) (s z : State) (e : Effect) (a c k m : Ports) → self_of z ≡ self_of s → new z.memory ≡ true → e ≡ Leaves
     → MildPacket new a c → MildPacket new k m → MildPacket new (taken b s a k) (taken b z (acted e c) m)
@@ -78,7 +78,7 @@ mild_packet {old} {new} q c deep (taken b s a k) h = split b.enable (mild_packet
     split false lower rest = mild_taken b s s Leaves a a k (after_packet q deep k) refl (c.wider s.memory h.0) refl (record { all = all_wider c.wider a h.1; alike = alike_self a }) rest
 
 -- the same where it stopped on its way
-pub mild_stopped : {old new : RememberedPacket → Bool} (q : Sent) → Mild old new q.content → {deep : Bool} {k m : Ports} → Stopped q deep k m → All old k → Alike k m
+pub mild_stopped : {old new : RememberedPacket → Bool} (q : Sent) → Mild old new q.content → {deep : Bool} {k m : Ports} → Stopped q deep k m → All old k → SameDevices k m
 unfolding All
 mild_stopped q w (behind_empty {deep} {k} {m} b st) h = alike_vacant b k m (mild_stopped q w st h)
 mild_stopped {old} {new} q w (behind {deep} {k} {m} b s a st) h = split b.enable (mild_stopped q w st h.2)
@@ -86,7 +86,7 @@ mild_stopped {old} {new} q w (behind {deep} {k} {m} b s a st) h = split b.enable
     reply : MildAnswer old new q deep s a
     reply = mild_answer q w deep s a h.0
 
-    split : (x : Bool) → Alike k m → Alike (taken b s a k) (before (if x then on_port b (delivered_device q deep (record { own = s; ports = a })) else (NoAnswer, full b s a)).1 m)
+    split : (x : Bool) → SameDevices k m → SameDevices (taken b s a k) (before (if x then on_port b (delivered_device q deep (record { own = s; ports = a })) else (NoAnswer, full b s a)).1 m)
     split true rest = rw reply.calm (alike_taken b s (answer_of q deep s a).1 a (after_packet q true a) k m reply.own (mild_packet q w true a h.1).alike rest)
     split false rest = alike_taken b s s a a k m refl (alike_self a) rest
 mild_stopped q w (below {deep} {a} {c} b s k on st) h = alike_taken b s s a c k k refl (mild_stopped q w st h.1) (alike_self k)
@@ -122,19 +122,19 @@ unfolding token_of marked
 token_mild a d n c = sent_mild a.low a.pre (mark_of (harm_to d 1) a.pre (packet.Token a.kind a.addr a.ep)) (packet.Token a.kind a.addr a.ep) n c
 
 -- IN sends no data
-no_data : (a : Attempt) (d : Option Damage) → is_some a.payload ≡ false → payload_out a d ≡ None
+payload_out-none : (a : Attempt) (d : Option Damage) → is_some a.payload ≡ false → payload_out a d ≡ None
 unfolding payload_of marked_some
-no_data a d h = go a.payload h
+payload_out-none a d h = go a.payload h
   where
     go : (o : Option (Toggle × ArrayVec ℕ)) → is_some o ≡ false → goes_out a (marked_some d 2 a.pre (elim o [ None ↦ None | Some p ↦ Some (packet.Payload p.0 p.1) ])) ≡ None
     go None g = refl
-    go (Some x) g = no (sym g)
+    go (Some x) g = false_true (sym g)
 
 module _ (a : Attempt) (d : Option Damage) (k m : Ports) (is : IsAttempt a) (settled : IsSettled k) (c : IsCut a d k m) where
   resting : All is_nothing k
   resting = all_nothing k (rests k settled)
 
-  data_mild : Mild no_setup any_memory c.sent.content
+  data_mild : Mild remembers_no_setup any_memory c.sent.content
   data_mild = mild_data c.sent.content (subst (IfOut IsDataOut) c.went (goes a d k).payload)
 
   -- the attempt is an OUT
@@ -143,18 +143,18 @@ module _ (a : Attempt) (d : Option Damage) (k m : Ports) (is : IsAttempt a) (set
     where
       kinds : (x : TokenKind) → a.kind ≡ x → a.kind ≡ OutTok
       kinds OutTok e = e
-      kinds InTok e = no (ap is_some (sym (no_data a d (is.payload_sent ∙ ap sends_data e)) ∙ c.went))
+      kinds InTok e = false_true (ap is_some (sym (payload_out-none a d (is.payload_sent ∙ ap sends_data e)) ∙ c.went))
       kinds SetupTok e =
           let mild : Mild is_nothing no_out (content.Whole (packet.Token a.kind a.addr a.ep)) = rw e (mild_setup a.addr a.ep) in
           absurd (stopped_after_out c.stopped (mild_sent is_nothing no_out (token_out a d) (token_mild a d refl mild) k resting).all)
 
-  token_packet : MildPacket no_setup k (after_sent (token_out a d) k)
-  token_packet = mild_sent is_nothing no_setup (token_out a d) (token_mild a d refl (rw cut_kind (mild_out a.addr a.ep))) k resting
+  token_packet : MildPacket remembers_no_setup k (after_sent (token_out a d) k)
+  token_packet = mild_sent is_nothing remembers_no_setup (token_out a d) (token_mild a d refl (rw cut_kind (mild_out a.addr a.ep))) k resting
 
-  pub cut_alike : Alike k m
+  pub cut_alike : SameDevices k m
   cut_alike =
-      let tree : Alike (after_sent (token_out a d) k) c.tree = mild_stopped c.sent data_mild c.stopped token_packet.all in
-      subst (Alike k) (sym c.is) (alike_joined token_packet.alike (alike_joined tree (alike_forgotten c.tree)))
+      let tree : SameDevices (after_sent (token_out a d) k) c.tree = mild_stopped c.sent data_mild c.stopped token_packet.all in
+      subst (SameDevices k) (sym c.is) (alike_joined token_packet.alike (alike_joined tree (alike_forgotten c.tree)))
 
 pub cut_stand : (a : Attempt) (d : Option Damage) (k m : Ports) → IsAttempt a → IsSettled k → IsCut a d k m → StandAlike k m
 cut_stand a d k m is settled c = stand_alike k m (cut_alike a d k m is settled c)

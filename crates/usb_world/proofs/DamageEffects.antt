@@ -15,9 +15,9 @@ use Rattle.usb_world.specs.declared.types.Attempt.{Attempt}
 use Rattle.usb_world.specs.World.{IsAttempt}
 use Rattle.usb_world.specs.Exchange.{lost_in}
 use Rattle.usb_world.specs.AttemptPackets.{IsSettled}
-use Rattle.usb_world.proofs.AddressLosses.{none_lost}
+use Rattle.usb_world.proofs.AddressLosses.{lost_in-none}
 use Rattle.usb_world.proofs.Equality.{unequal}
-use Rattle.usb_world.proofs.Booleans.{if_yes, if_no}
+use Rattle.usb_world.proofs.Booleans.{if-true, if-false}
 use Rattle.usb_world.specs.Losses.{AreOfDamages, no_losses, counted, one_more, after_clearing}
 use Rattle.usb_world.specs.Wire.{damage_of, damages_until, bit_count}
 use Rattle.usb_packet.proofs.Interface.{carried}
@@ -62,11 +62,11 @@ bit_within bytes p n h lt =
 
 of_first : (d : Damage) (damages : List Damage) (n : ℕ) → d.attempt ≡ n → damage_of (d ∷ damages) n ≡ Some d
 unfolding damage_of
-of_first d damages n e = if_yes (d.attempt == n) _ _ (eq-eqb d.attempt n e)
+of_first d damages n e = if-true (d.attempt == n) _ _ (eq-eqb d.attempt n e)
 
 of_rest : (d : Damage) (damages : List Damage) (n : ℕ) → (d.attempt ≡ n → ⊥) → damage_of (d ∷ damages) n ≡ damage_of damages n
 unfolding damage_of
-of_rest d damages n h = if_no (d.attempt == n) _ _ (unequal d.attempt n h)
+of_rest d damages n h = if-false (d.attempt == n) _ _ (unequal d.attempt n h)
 
 split_at : (damages : List Damage) (i : ℕ) (d : Damage) → i < length damages → drop i damages ≡ get_or damages i d ∷ drop (i + 1) damages
 split_at damages i d lt = drop-cons damages i d lt ∙ ap (λ (n : ℕ). get_or damages i d ∷ drop n damages) (sym (add-one i))
@@ -118,7 +118,7 @@ losses_damaged damages n a k l false is settled e h = let le = until_grows damag
 losses_damaged damages n a k l true is settled e h = at_loss (damage_of damages (n + 1)) refl e
   where
     at_loss : (o : Option Damage) → damage_of damages (n + 1) ≡ o → true ≡ lost_in a o k → l.all + 1 ≤ damages_until (n + 1) damages
-    at_loss None found t = absurd (no_truth (t ∙ none_lost a k is settled))
+    at_loss None found t = absurd (no_truth (t ∙ lost_in-none a k is settled))
     at_loss (Some d) found t = let more = until_more damages n d found in omega (arith, more, h)
 
 run_at : (l : Losses) (lost : Bool) → l.run ≤ l.all → (counted lost l).run ≤ (counted lost l).all

@@ -12,7 +12,7 @@ use Rattle.usb_world.specs.declared.types.Attempt.{Attempt}
 use Rattle.usb_world.specs.Wire.{harm_to, marked, marked_some}
 use Rattle.usb_world.specs.HeardAnswers.{heard_above}
 use Rattle.usb_world.specs.AttemptPackets.{IsSettled, after_sent, answers_to}
-use Rattle.usb_world.proofs.AttemptPackets.{attempt_settled}
+use Rattle.usb_world.proofs.AttemptPackets.{after_attempt-settled}
 use Rattle.usb_world.specs.ExchangeEffects.{StaysPlugged, PacketWent, PacketsWent, Exchanged}
 use Rattle.usb_world.specs.Exchange.{token_of, payload_of, answer_place, answer_mark, reply_of, goes_out, heard_all, token_out, payload_out, heard_in, mark_in, reply_in, answered_in, is_lost, lost_in, clears_at, cleared_in, exchange_in, ended_in, ports_in}
 
@@ -31,10 +31,10 @@ pub plugged_further : (k j m : Ports) → StaysPlugged k j → StaysPlugged j m 
 plugged_further k j m x y = record { row = y.row ∙ x.row; figure = y.figure ∙ x.figure }
 
 -- a packet at the whole tree
-pub sent_plugged : {A E : Type 0} (r : Result A E) (q : Sent) (k m : Ports) (g h : Heard)
+pub delivered_stays_plugged : {A E : Type 0} (r : Result A E) (q : Sent) (k m : Ports) (g h : Heard)
     → OnOk r ((h, m) ≡ heard_joined g (delivered q false k)) → OnErr r (figure m ≡ figure k) → row_of m ≡ row_of k → StaysPlugged k m
-sent_plugged (Ok x) q k m g h ok err row = record { row = row; figure = ap (λ y. figure y.1) ok ∙ figure-after q false k }
-sent_plugged (Err x) q k m g h ok err row = record { row = row; figure = err }
+delivered_stays_plugged (Ok x) q k m g h ok err row = record { row = row; figure = ap (λ y. figure y.1) ok ∙ figure-after q false k }
+delivered_stays_plugged (Err x) q k m g h ok err row = record { row = row; figure = err }
 
 pub sent_went : {A E : Type 0} (r : Result A E) (o : Option Sent) (q : Sent) (k m : Ports) (g h : Heard)
     → o ≡ Some q → OnOk r ((h, m) ≡ heard_joined g (delivered q false k)) → OnOk r (PacketWent o k m g h)
@@ -58,7 +58,7 @@ over_plugged k j m e x = record {
 }
 
 pub over_settled : (k m : Ports) → m ≡ all_forgotten k → IsSettled m
-over_settled k m e = subst IsSettled (sym e) (attempt_settled None None None k)
+over_settled k m e = subst IsSettled (sym e) (after_attempt-settled None None None k)
 
 pub over_made : (a : Attempt) (d : Option Damage) (k j m : Ports) (x : Exchange) → m ≡ all_forgotten j → PacketsWent a d k j x → Exchanged a d k m x
 unfolding ports_in

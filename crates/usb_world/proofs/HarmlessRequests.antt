@@ -32,7 +32,7 @@ use Rattle.usb_device.specs.Delivery.{hears, asked_by, effect_of}
 use Rattle.usb_world.specs.WayEffects.{effect_resets, resets_at}
 use Rattle.usb_world.specs.Courses.{is_harmless}
 use Rattle.usb_world.proofs.OnWays.{resets_if}
-use Rattle.usb_world.proofs.Booleans.{no, and_false}
+use Rattle.usb_world.proofs.Booleans.{false_true, and_false}
 
 -- data that are no such request
 abbrev pub IsHarmlessOut : Content → Type 0
@@ -59,9 +59,9 @@ by_descriptor s v =
     (both_ways (v / 256 == CONFIGURATION) _ _ (both_ways s.stalls.config stalled (text_asked s.configs (v % 256)) refl (by_text (slice_get s.configs (v % 256))))
     (both_ways (v / 256 == STRING) _ _ (both_ways s.stalls.string stalled (text_asked s.strings (v % 256)) refl (by_text (slice_get s.strings (v % 256)))) refl))
 
-by_endpoint : (f : ServedEndpoint → Outcome) → ((w : ServedEndpoint) → asks_reset (f w) ≡ false) → (o : Option ServedEndpoint) → asks_reset (on_endpoint f o) ≡ false
-by_endpoint f c None = refl
-by_endpoint f c (Some w) = c w
+on_endpoint-harmless : (f : ServedEndpoint → Outcome) → ((w : ServedEndpoint) → asks_reset (f w) ≡ false) → (o : Option ServedEndpoint) → asks_reset (on_endpoint f o) ≡ false
+on_endpoint-harmless f c None = refl
+on_endpoint-harmless f c (Some w) = c w
 
 by_hub : (o : Option Hub) (r : Setup) → asks_reset (asked_hub_descriptor o r) ≡ false
 by_hub None r = refl
@@ -106,14 +106,14 @@ by_feature : (c : Option PortCall) (s : Spec) (g : Registers) (r : Setup) → is
 by_feature c s g r h = both_ways (r.length == 0) (called_at c (port_named s.hub g r.index)) stalled (by_call c (port_named s.hub g r.index) h) refl
 
 -- a branch of which the test is known
-branch : (b : Bool) (x y : Outcome) → (b ≡ true → asks_reset x ≡ false) → asks_reset y ≡ false → asks_reset (if b then x else y) ≡ false
-branch true x y h g = h refl
-branch false x y h g = g
+asks_reset-if : (b : Bool) (x y : Outcome) → (b ≡ true → asks_reset x ≡ false) → asks_reset y ≡ false → asks_reset (if b then x else y) ≡ false
+asks_reset-if true x y h g = h refl
+asks_reset-if false x y h g = g
 
 harmless_set : (x v8 v4 : Bool) → not (x && v4) ≡ true → x ≡ true → (not v8 && v4) ≡ false
-harmless_set true v8 true h e = no h
+harmless_set true v8 true h e = false_true h
 harmless_set true v8 false h e = and_false (not v8)
-harmless_set false v8 v4 h e = no e
+harmless_set false v8 v4 h e = false_true e
 
 harmless_outcome : (s : Spec) (g : Registers) (r : Setup) → is_harmless r ≡ true → asks_reset (outcome s g r) ≡ false
 unfolding outcome
@@ -123,11 +123,11 @@ harmless_outcome s g r h =
     (both_ways (Is r DEVICE_IN GET_CONFIGURATION) (answers (g.configuration ∷ [])) _ refl
     (both_ways (Is r DEVICE_OUT SET_ADDRESS) (unless s.stalls.address (asked_address r)) _ (both_ways s.stalls.address stalled (asked_address r) refl (both_ways (nat_le r.value 127 && r.length == 0) (takes_address r.value) stalled refl refl))
     (both_ways (Is r DEVICE_OUT SET_CONFIGURATION) (unless s.stalls.set_config (asked_configuration s g r)) _ (both_ways s.stalls.set_config stalled (asked_configuration s g r) refl (both_ways (not (g.address == 0) && is_value s.configs r.value && r.length == 0) (takes_configuration r.value) stalled refl refl))
-    (both_ways (Is r ENDPOINT_OUT CLEAR_FEATURE) (on_endpoint unhalts (endpoint_of s g r)) _ (by_endpoint unhalts (λ w. refl) (endpoint_of s g r))
-    (both_ways (Is r ENDPOINT_OUT SET_FEATURE) (on_endpoint halts (endpoint_of s g r)) _ (by_endpoint halts (λ w. refl) (endpoint_of s g r))
+    (both_ways (Is r ENDPOINT_OUT CLEAR_FEATURE) (on_endpoint unhalts (endpoint_of s g r)) _ (on_endpoint-harmless unhalts (λ w. refl) (endpoint_of s g r))
+    (both_ways (Is r ENDPOINT_OUT SET_FEATURE) (on_endpoint halts (endpoint_of s g r)) _ (on_endpoint-harmless halts (λ w. refl) (endpoint_of s g r))
     (both_ways (Is r HUB_IN GET_DESCRIPTOR) (unless s.stalls.hub (asked_hub_descriptor s.hub r)) _ (both_ways s.stalls.hub stalled (asked_hub_descriptor s.hub r) refl (by_hub s.hub r))
     (both_ways (Is r PORT_IN GET_STATUS) (asked_port_status s g r) _ (by_status (port_named s.hub g r.index))
-    (branch (Is r PORT_OUT SET_FEATURE) (port_feature (set_call r.value) s g r) _ (λ e. by_feature (set_call r.value) s g r (set_resets r.value ∙ harmless_set (Is r PORT_OUT SET_FEATURE) (r.value == PORT_POWER) (r.value == PORT_RESET) h e))
+    (asks_reset-if (Is r PORT_OUT SET_FEATURE) (port_feature (set_call r.value) s g r) _ (λ e. by_feature (set_call r.value) s g r (set_resets r.value ∙ harmless_set (Is r PORT_OUT SET_FEATURE) (r.value == PORT_POWER) (r.value == PORT_RESET) h e))
     (both_ways (Is r PORT_OUT CLEAR_FEATURE) (port_feature (clear_call r.value) s g r) stalled (by_feature (clear_call r.value) s g r (clear_resets r.value)) refl))))))))))
 
 -- no call of a reset
@@ -136,7 +136,7 @@ no_reset (Calls c i) = not (is_reset c)
 no_reset e = true
 
 not_false : (x : Bool) → x ≡ false → not x ≡ true
-not_false true h = no (sym h)
+not_false true h = false_true (sym h)
 not_false false h = refl
 
 request_resets : (o : Outcome) → asks_reset o ≡ false → no_reset (effect_of_request o) ≡ true
@@ -175,17 +175,17 @@ no_reset_asked : (q : Sent) → IsHarmlessOut q.content → (deep : Bool) (s : S
 unfolding effect_of
 no_reset_asked q c deep s = elim (hears q deep s) as (λ x. no_reset (if x then asked_by q.content s else Leaves) ≡ true) [ true ↦ content_resets q.content s c | false ↦ refl ]
 
-none_at : (e : Effect) (a : Ports) (j : ℕ) (p : List ℕ) → no_reset e ≡ true → effect_resets e a j p ≡ false
-none_at Leaves a j p h = refl
-none_at PortsOff a j p h = refl
-none_at (Calls c i) a j (n ∷ p) h = refl
-none_at (Calls c i) a j [] h = off (is_reset c) _ h
+effect_resets-none : (e : Effect) (a : Ports) (j : ℕ) (p : List ℕ) → no_reset e ≡ true → effect_resets e a j p ≡ false
+effect_resets-none Leaves a j p h = refl
+effect_resets-none PortsOff a j p h = refl
+effect_resets-none (Calls c i) a j (n ∷ p) h = refl
+effect_resets-none (Calls c i) a j [] h = off (is_reset c) _ h
   where
     off : (x y : Bool) → not x ≡ true → (x && y) ≡ false
-    off true y h = no h
+    off true y h = false_true h
     off false y h = refl
 
 pub harmless_resets : (q : Sent) → IsHarmlessOut q.content → (deep : Bool) (k : Ports) (j : ℕ) (p : List ℕ) → resets_at q deep k j p ≡ false
 harmless_resets q c deep k j p =
-    resets_if q deep k j p (λ e m r t z at dp a. none_at (effect_of q dp t) a m r
+    resets_if q deep k j p (λ e m r t z at dp a. effect_resets-none (effect_of q dp t) a m r
     (no_reset_asked q c dp t))

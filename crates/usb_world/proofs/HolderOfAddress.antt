@@ -1,6 +1,5 @@
 -- Either a reachable device holds an address, or none does.
 use Rattle.std.proofs.Common.{◌≡◌, ℕ, zero, suc, Bool, true, false, ◌&&◌, ◌==◌, [], ◌∷◌, None, Some, ◌⊎◌, inl, inr, refl, sym, ap, ◌∙◌, arith}
-use Rattle.std.proofs.lemmas.Bool.Decides.{nat_tests}
 use Rattle.std.proofs.lemmas.Option.{same_Some}
 use Rattle.usb_port.specs.PortState.{PortState}
 use Rattle.usb_device.specs.Rows.{State}
@@ -8,13 +7,11 @@ use Rattle.usb_device.specs.Tree.{Ports, ended, vacant, taken, reach_at, state_a
 use Rattle.usb_world.specs.Paths.{address_of}
 use Rattle.usb_world.specs.AttemptPackets.{NobodyHolds}
 use Rattle.usb_world.specs.FoundHolder.{Found}
-use Rattle.usb_world.proofs.Booleans.{no}
+use Rattle.usb_world.proofs.Booleans.{false_true}
+use Rattle.usb_device.proofs.Interface.{nat_eq-true_sym}
 
-none_some : {A : Type 0} (t : State) → None ≡ Some t → A
-none_some t h = cc
-
-is_number : (m n : ℕ) → (m == n) ≡ true → n ≡ m
-is_number m n h = grind (arith, nat_tests, h)
+none_not_state : {A : Type 0} (t : State) → None ≡ Some t → A
+none_not_state t h = cc
 
 found_next : (n : ℕ) (b : PortState) (k : Ports) → Found n k → Found n (vacant b k)
 unfolding reach_at place_at
@@ -30,18 +27,18 @@ found_below n b s a k e f = record { spot = record { row = 0; rest = path_to f.s
 
 found_here : (n : ℕ) (b : PortState) (s : State) (a k : Ports) → b.enable ≡ true → (n == address_of s) ≡ true → Found n (taken b s a k)
 unfolding reach_at place_at
-found_here n b s a k e is = record { spot = record { row = 0; rest = [] }; port = b; own = s; below = a; on = e; stands = refl; at = is_number n (address_of s) is }
+found_here n b s a k e is = record { spot = record { row = 0; rest = [] }; port = b; own = s; below = a; on = e; stands = refl; at = nat_eq-true_sym n (address_of s) is }
 
 nobody_next : (n : ℕ) (b : PortState) (k : Ports) → NobodyHolds n k → NobodyHolds n (vacant b k)
 unfolding reach_at state_at
-nobody_next n b k f zero e t h on = none_some t h
+nobody_next n b k f zero e t h on = none_not_state t h
 nobody_next n b k f (suc i) e t h on = f i e t h on
 
 nobody_off : (n : ℕ) (b : PortState) (s : State) (a k : Ports) → b.enable ≡ false → NobodyHolds n k → NobodyHolds n (taken b s a k)
 unfolding reach_at state_at
-nobody_off n b s a k off f zero [] t h on = no (sym off ∙ on)
-nobody_off n b s a k off f zero (zero ∷ e) t h on = none_some t h
-nobody_off n b s a k off f zero (suc j ∷ e) t h on = no (rw off at on)
+nobody_off n b s a k off f zero [] t h on = false_true (sym off ∙ on)
+nobody_off n b s a k off f zero (zero ∷ e) t h on = none_not_state t h
+nobody_off n b s a k off f zero (suc j ∷ e) t h on = false_true (rw off at on)
 nobody_off n b s a k off f (suc i) e t h on = f i e t h on
 
 and_right : (x y : Bool) → x && y ≡ true → y ≡ true
@@ -51,13 +48,13 @@ and_right false y h = cc
 nobody_on : (n : ℕ) (b : PortState) (s : State) (a k : Ports) → (n == address_of s) ≡ false → NobodyHolds n a → NobodyHolds n k → NobodyHolds n (taken b s a k)
 unfolding reach_at state_at
 nobody_on n b s a k other below f zero [] t h on = ap (λ u. n == address_of u) (sym (same_Some s t h)) ∙ other
-nobody_on n b s a k other below f zero (zero ∷ e) t h on = none_some t h
+nobody_on n b s a k other below f zero (zero ∷ e) t h on = none_not_state t h
 nobody_on n b s a k other below f zero (suc j ∷ e) t h on = below j e t h (and_right b.enable (reach_at a j e) on)
 nobody_on n b s a k other below f (suc i) e t h on = f i e t h on
 
 nobody_ended : (n : ℕ) → NobodyHolds n ended
 unfolding reach_at state_at
-nobody_ended n i e t h on = none_some t h
+nobody_ended n i e t h on = none_not_state t h
 
 pub who_holds : (n : ℕ) (k : Ports) → Found n k ⊎ NobodyHolds n k
 who_holds n ended = inr (nobody_ended n)

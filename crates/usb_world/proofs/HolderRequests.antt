@@ -19,22 +19,22 @@ use Rattle.usb_device.specs.Delivery.{effect_of, after_packet}
 use Rattle.usb_world.specs.declared.types.Attempt.{Attempt}
 use Rattle.usb_world.specs.Exchange.{token_out, payload_out}
 use Rattle.usb_world.specs.Paths.{same_number, same_path, is_way}
-use Rattle.usb_world.specs.AttemptPackets.{after_sent, IsTokenFor, IfOut, IsSettled, OneHolds, sent_spares, sent_resets}
-use Rattle.usb_world.specs.WayEffects.{effect_resets, resets_at, spares, effect_spares, leaves_port}
+use Rattle.usb_world.specs.AttemptPackets.{after_sent, IsTokenFor, IfOut, IsSettled, OneHolds, sent_keeps_pending, sent_resets}
+use Rattle.usb_world.specs.WayEffects.{effect_resets, resets_at, keeps_pending, effect_keeps_pending, leaves_port}
 use Rattle.usb_world.specs.World.{World}
-use Rattle.usb_world.specs.Steps.{ready, damage_in, attempt}
-use Rattle.usb_world.specs.Courses.{is_made, made_resets, resets, spares_step}
+use Rattle.usb_world.specs.Steps.{at_attempt, damage_in, attempt}
+use Rattle.usb_world.specs.Courses.{is_made, made_resets, resets, step_keeps_pending}
 use Rattle.usb_world.specs.OneHolder.{IsSetup, HolderIn}
 use Rattle.usb_world.specs.PortRequests.{sent_leaves, leaves_step, AsksNothing, is_port_request, is_sparing, is_above}
-use Rattle.usb_world.proofs.Booleans.{no, both, decided, either_of, and_false, or_left, or_right, not_true}
+use Rattle.usb_world.proofs.Booleans.{false_true, both, decided, either_of, and_false, or_left, or_right, not-true}
 use Rattle.usb_world.proofs.AttemptPackets.{calm_sent, token_out as token_calm}
 use Rattle.usb_world.proofs.OneDevice.{settled_memory, rest_state, rested_effect, token_calls, other_address}
 use Rattle.usb_world.proofs.OneHolder.{holder_holds, Holder}
 use Rattle.usb_world.proofs.OneHolderAttempts.{holder_in}
 use Rattle.usb_world.proofs.Courses.{goes}
-use Rattle.usb_world.proofs.RootResets.{is_same, same_is}
+use Rattle.usb_world.proofs.RootResets.{same_number-is, same_is}
 use Rattle.usb_world.proofs.PortRequests.{Allows, AllowsOut, PayloadAllows, sent_allowed, payload_allowed}
-use Rattle.usb_world.proofs.OnWays.{OnWay, spares_if, leaves_if, resets_if}
+use Rattle.usb_world.proofs.OnWays.{OnWay, spares_if, way_leaves-on_way, resets_if}
 use Rattle.usb_world.proofs.ChangeBits.{left_effect}
 use Rattle.usb_world.proofs.Equality.{equal_same, self_number}
 use Rattle.usb_world.proofs.States.{unreset}
@@ -56,7 +56,7 @@ abbrev Test : Type 0
 Test = ℕ → List ℕ → Effect → Bool
 
 abbrev spare_test : Test
-spare_test m r e = effect_spares e m r
+spare_test m r e = effect_keeps_pending e m r
 
 abbrev leave_test : Test
 leave_test m r e = leaves_port e m
@@ -66,25 +66,25 @@ rest_test a m r e = not (effect_resets e a m r)
 
 -- what each feature leaves pending at its own port
 
-set_spares : (v : ℕ) (c : PortCall) → set_call v ≡ Some c → spares c [] ≡ true
+set_spares : (v : ℕ) (c : PortCall) → set_call v ≡ Some c → keeps_pending c [] ≡ true
 set_spares v c h = split (v == PORT_POWER) (v == PORT_RESET) h
   where
-    split : (x y : Bool) → (if x then Some SetPower else if y then Some SetReset else None) ≡ Some c → spares c [] ≡ true
-    split true y e = ap (λ z. spares z []) (sym (same_Some SetPower c e))
-    split false true e = ap (λ z. spares z []) (sym (same_Some SetReset c e))
-    split false false e = no (ap is_some e)
+    split : (x y : Bool) → (if x then Some SetPower else if y then Some SetReset else None) ≡ Some c → keeps_pending c [] ≡ true
+    split true y e = ap (λ z. keeps_pending z []) (sym (same_Some SetPower c e))
+    split false true e = ap (λ z. keeps_pending z []) (sym (same_Some SetReset c e))
+    split false false e = false_true (ap is_some e)
 
-clear_spares : (v : ℕ) (c : PortCall) → (v == PORT_ENABLE || (v == C_PORT_ENABLE || v == C_PORT_RESET)) ≡ true → clear_call v ≡ Some c → spares c [] ≡ true
-clear_spares v c h e = pick (either_of (v == PORT_ENABLE) (v == C_PORT_ENABLE || v == C_PORT_RESET) h)
+clear_call-spares : (v : ℕ) (c : PortCall) → (v == PORT_ENABLE || (v == C_PORT_ENABLE || v == C_PORT_RESET)) ≡ true → clear_call v ≡ Some c → keeps_pending c [] ≡ true
+clear_call-spares v c h e = pick (either_of (v == PORT_ENABLE) (v == C_PORT_ENABLE || v == C_PORT_RESET) h)
   where
-    found : (x : PortCall) → clear_call v ≡ Some x → spares x [] ≡ true → spares c [] ≡ true
-    found x f g = ap (λ z. spares z []) (sym (same_Some x c (sym f ∙ e))) ∙ g
+    found : (x : PortCall) → clear_call v ≡ Some x → keeps_pending x [] ≡ true → keeps_pending c [] ≡ true
+    found x f g = ap (λ z. keeps_pending z []) (sym (same_Some x c (sym f ∙ e))) ∙ g
 
-    last : ((v == C_PORT_ENABLE) ≡ true) ⊎ ((v == C_PORT_RESET) ≡ true) → spares c [] ≡ true
+    last : ((v == C_PORT_ENABLE) ≡ true) ⊎ ((v == C_PORT_RESET) ≡ true) → keeps_pending c [] ≡ true
     last (inl y) = found ClearEnableChange (ap clear_call (equal_same v 17 y)) refl
     last (inr y) = found ClearResetChange (ap clear_call (equal_same v 20 y)) refl
 
-    pick : ((v == PORT_ENABLE) ≡ true) ⊎ ((v == C_PORT_ENABLE || v == C_PORT_RESET) ≡ true) → spares c [] ≡ true
+    pick : ((v == PORT_ENABLE) ≡ true) ⊎ ((v == C_PORT_ENABLE || v == C_PORT_RESET) ≡ true) → keeps_pending c [] ≡ true
     pick (inl y) = found ClearEnable (ap clear_call (equal_same v 1 y)) refl
     pick (inr y) = last (either_of (v == C_PORT_ENABLE) (v == C_PORT_RESET) y)
 
@@ -102,7 +102,7 @@ sparing_value r h e = pick (either_of (Is r PORT_OUT SET_FEATURE && (r.value == 
     three y = equal_same r.request SET_FEATURE (both (r.request_type == PORT_OUT) (r.request == SET_FEATURE) y).1
 
     pick : ((Is r PORT_OUT SET_FEATURE && (r.value == PORT_RESET || r.value == PORT_POWER)) ≡ true) ⊎ ((Is r PORT_OUT CLEAR_FEATURE && (r.value == PORT_ENABLE || (r.value == C_PORT_ENABLE || r.value == C_PORT_RESET))) ≡ true) → (r.value == PORT_ENABLE || (r.value == C_PORT_ENABLE || r.value == C_PORT_RESET)) ≡ true
-    pick (inl y) = no (ap (λ x. x == 1) (sym (three (both (Is r PORT_OUT SET_FEATURE) (r.value == PORT_RESET || r.value == PORT_POWER) y).0)) ∙ (both (r.request_type == PORT_OUT) (r.request == CLEAR_FEATURE) e).1)
+    pick (inl y) = false_true (ap (λ x. x == 1) (sym (three (both (Is r PORT_OUT SET_FEATURE) (r.value == PORT_RESET || r.value == PORT_POWER) y).0)) ∙ (both (r.request_type == PORT_OUT) (r.request == CLEAR_FEATURE) e).1)
     pick (inr y) = (both (Is r PORT_OUT CLEAR_FEATURE) (r.value == PORT_ENABLE || (r.value == C_PORT_ENABLE || r.value == C_PORT_RESET)) y).1
 
 abbrev tail : List ℕ → List ℕ
@@ -117,14 +117,14 @@ module _ (a : Attempt) (w : World) (h : HolderIn a w) where
   open h use {spot.{row as j, rest as p}}
 
   abbrev k : Ports
-  k = (ready w).roots
+  k = (at_attempt w).roots
 
   -- the tree when the host's data go out
   abbrev heard : Ports
-  heard = after_sent (token_out a (damage_in (ready w))) k
+  heard = after_sent (token_out a (damage_in (at_attempt w))) k
 
   abbrev sent : Option Sent
-  sent = payload_out a (damage_in (ready w))
+  sent = payload_out a (damage_in (at_attempt w))
 
   abbrev one : Holder a.addr k
   one = holder_in a w h
@@ -138,31 +138,31 @@ module _ (a : Attempt) (w : World) (h : HolderIn a w) where
   on_way T l i x q c e m r t z at dp = pick (decided (same_number i j && same_path e p))
     where
       path : (same_number i j ≡ true) × (same_path e p ≡ true) → suc i ∷ x ≡ suc j ∷ (p ++ (suc m ∷ r))
-      path y = ap₂ (λ u v. suc u ∷ v) (sym (is_same i j y.0)) (z ∙ ap (λ v. v ++ (suc m ∷ r)) (sym (same_is e p y.1)))
+      path y = ap₂ (λ u v. suc u ∷ v) (sym (same_number-is i j y.0)) (z ∙ ap (λ v. v ++ (suc m ∷ r)) (sym (same_is e p y.1)))
 
       pick : ((same_number i j && same_path e p) ≡ true) ⊎ ((same_number i j && same_path e p) ≡ false) → T m r (effect_of q dp t) ≡ true
       pick (inl y) = sent_allowed (T m r) (l m r) q (c m r (path (both (same_number i j) (same_path e p) y))) dp t
       pick (inr y) =
-          ap (T m r) (rested_effect q dp t (others_forgot a.addr (token_out a (damage_in (ready w))) (goes a (damage_in (ready w)) k).token k j p one.settled (holder_holds a.addr k one) i e t y at))
+          ap (T m r) (rested_effect q dp t (others_forgot a.addr (token_out a (damage_in (at_attempt w))) (goes a (damage_in (at_attempt w)) k).token k j p one.settled (holder_holds a.addr k one) i e t y at))
           ∙ l m r
 
-  one_spares : (i : ℕ) (x : List ℕ) (o : Option Sent) → Allowed spare_test i x o → sent_spares o heard i x ≡ true
+  one_spares : (i : ℕ) (x : List ℕ) (o : Option Sent) → Allowed spare_test i x o → sent_keeps_pending o heard i x ≡ true
   one_spares i x None c = refl
   one_spares i x (Some q) c = spares_if q false heard i x (on_way spare_test (λ m r. refl) i x q c)
 
   one_leaves : (i : ℕ) (x : List ℕ) (o : Option Sent) → Allowed leave_test i x o → sent_leaves o heard i x ≡ true
   one_leaves i x None c = refl
-  one_leaves i x (Some q) c = leaves_if q false heard i x (on_way leave_test (λ m r. refl) i x q c)
+  one_leaves i x (Some q) c = way_leaves-on_way q false heard i x (on_way leave_test (λ m r. refl) i x q c)
 
   one_rests : (i : ℕ) (x : List ℕ) (o : Option Sent) → ((n : Ports) → Allowed (rest_test n) i x o) → sent_resets o heard i x ≡ false
   one_rests i x None c = refl
-  one_rests i x (Some q) c = resets_if q false heard i x (λ e m r t z at dp n. not_true (effect_resets (effect_of q dp t) n m r) (on_way (rest_test n) (λ m r. refl) i x q (c n) e m r t z at dp))
+  one_rests i x (Some q) c = resets_if q false heard i x (λ e m r t z at dp n. not-true (effect_resets (effect_of q dp t) n m r) (on_way (rest_test n) (λ m r. refl) i x q (c n) e m r t z at dp))
 
   -- no device but the holder asks anything of its ports once the token is gone, whatever comes then
-  pub others_leave : (i : ℕ) (e : List ℕ) (t : State) → (same_number i j && same_path e p) ≡ false → state_at (after_sent (token_out a (damage_in (ready w))) (ready w).roots) i e ≡ Some t
+  pub others_leave : (i : ℕ) (e : List ℕ) (t : State) → (same_number i j && same_path e p) ≡ false → state_at (after_sent (token_out a (damage_in (at_attempt w))) (at_attempt w).roots) i e ≡ Some t
       → (q : Sent) (deep : Bool) → effect_of q deep t ≡ Leaves
   others_leave i e t differ at q deep =
-      rested_effect q deep t (others_forgot a.addr (token_out a (damage_in (ready w))) (goes a (damage_in (ready w)) k).token k j p one.settled (holder_holds a.addr k one) i e t differ at)
+      rested_effect q deep t (others_forgot a.addr (token_out a (damage_in (at_attempt w))) (goes a (damage_in (at_attempt w)) k).token k j p one.settled (holder_holds a.addr k one) i e t differ at)
 
   -- where it is not on the way
 
@@ -174,10 +174,10 @@ module _ (a : Attempt) (w : World) (h : HolderIn a w) where
   is_under m r = ap₂ (λ x y. x && not y) (way_on (suc j ∷ p) (suc m ∷ r)) (below_path (suc j ∷ p) (suc m) r)
 
   not_under : {A : Type 0} (i : ℕ) (x : List ℕ) → is_above (suc j ∷ p) (suc i ∷ x) ≡ false → (m : ℕ) (r : List ℕ) → suc i ∷ x ≡ suc j ∷ (p ++ (suc m ∷ r)) → A
-  not_under i x u m r z = no (sym u ∙ ap (is_above (suc j ∷ p)) z ∙ is_under m r)
+  not_under i x u m r z = false_true (sym u ∙ ap (is_above (suc j ∷ p)) z ∙ is_under m r)
 
   pub elsewhere : (x : List ℕ) → is_above (suc j ∷ p) x ≡ false → AsksNothing (attempt a) w x
-  unfolding spares_step resets leaves_step
+  unfolding step_keeps_pending resets leaves_step
   elsewhere [] u = record { spares = refl; rests = and_false (is_made w.fault w); leaves = refl }
   elsewhere (zero ∷ x) u = record { spares = refl; rests = and_false (is_made w.fault w); leaves = refl }
   elsewhere (suc i ∷ x) u = record {
@@ -193,7 +193,7 @@ module _ (a : Attempt) (w : World) (h : HolderIn a w) where
     r0 = setup_of bytes
 
     data_allows : (T : Effect → Bool) → Allows T r0 → IfOut (AllowsOut T) sent
-    data_allows T c = payload_allowed T c.rests a (damage_in (ready w)) (subst (PayloadAllows T) (sym is.payload) c)
+    data_allows T c = payload_allowed T c.rests a (damage_in (at_attempt w)) (subst (PayloadAllows T) (sym is.payload) c)
 
     module _ (n : ℕ) (names : r0.index ≡ n) where
       abbrev pub port_path : List ℕ
@@ -221,7 +221,7 @@ module _ (a : Attempt) (w : World) (h : HolderIn a w) where
         clear = λ e x i f g. ap not (left_effect (Calls x i) c m [] (ap not (other_number m i (sym (path_number (suc j ∷ p) (suc m)) ∙ d) g)));
       }
 
-      pub other_rests : (x : List ℕ) → same_path port_path x ≡ false → made_resets a (ready w) x ≡ false
+      pub other_rests : (x : List ℕ) → same_path port_path x ≡ false → made_resets a (at_attempt w) x ≡ false
       other_rests [] d = refl
       other_rests (zero ∷ x) d = refl
       other_rests (suc i ∷ x) d = one_rests i x sent (λ c m r z. data_allows (rest_test c m r) (rest_there c m r (ap (same_path port_path) (sym z) ∙ d)))
@@ -235,14 +235,14 @@ module _ (a : Attempt) (w : World) (h : HolderIn a w) where
             pick (inr y) = equal_same r0.request_type PORT_OUT (both (r0.request_type == PORT_OUT) (r0.request == CLEAR_FEATURE) y).0
 
         no_configuration : {A : Type 0} → Is r0 DEVICE_OUT SET_CONFIGURATION ≡ true → A
-        no_configuration y = no (ap (λ x. x == 0) (sym of_port) ∙ (both (r0.request_type == DEVICE_OUT) (r0.request == SET_CONFIGURATION) y).0)
+        no_configuration y = false_true (ap (λ x. x == 0) (sym of_port) ∙ (both (r0.request_type == DEVICE_OUT) (r0.request == SET_CONFIGURATION) y).0)
 
         spare_there : (m : ℕ) (r : List ℕ) → same_number n (suc m) ≡ false → Allows (spare_test m r) r0
         spare_there m r d = record {
           rests = refl;
           off = λ e. no_configuration e;
-          set = λ e x i f g. or_left (not (same_number i m)) (spares x r) (ap not (other_number m i d g));
-          clear = λ e x i f g. or_left (not (same_number i m)) (spares x r) (ap not (other_number m i d g));
+          set = λ e x i f g. or_left (not (same_number i m)) (keeps_pending x r) (ap not (other_number m i d g));
+          clear = λ e x i f g. or_left (not (same_number i m)) (keeps_pending x r) (ap not (other_number m i d g));
         }
 
         leave_there : (m : ℕ) (r : List ℕ) → same_number n (suc m) ≡ false → Allows (leave_test m r) r0
@@ -258,7 +258,7 @@ module _ (a : Attempt) (w : World) (h : HolderIn a w) where
 
         path_apart : (x y : List ℕ) → is_way x y ≡ false → same_path x y ≡ false
         unfolding is_way
-        path_apart [] y d = no (sym d)
+        path_apart [] y d = false_true (sym d)
         path_apart (u ∷ x) [] d = refl
         path_apart (u ∷ x) (v ∷ y) d = split (same_number u v) d (path_apart x y)
           where
@@ -267,7 +267,7 @@ module _ (a : Attempt) (w : World) (h : HolderIn a w) where
             split false d f = refl
 
         pub others_asked_nothing : (x : List ℕ) → is_way port_path x ≡ false → AsksNothing (attempt a) w x
-        unfolding spares_step resets leaves_step
+        unfolding step_keeps_pending resets leaves_step
         others_asked_nothing [] d = record { spares = refl; rests = and_false (is_made w.fault w); leaves = refl }
         others_asked_nothing (zero ∷ x) d = record { spares = refl; rests = and_false (is_made w.fault w); leaves = refl }
         others_asked_nothing (suc i ∷ x) d = record {
@@ -280,14 +280,14 @@ module _ (a : Attempt) (w : World) (h : HolderIn a w) where
         self_there y m = record {
           rests = refl;
           off = λ e. no_configuration e;
-          set = λ e x i f g. or_right (not (same_number i m)) (spares x []) (set_spares r0.value x f);
-          clear = λ e x i f g. or_right (not (same_number i m)) (spares x []) (clear_spares r0.value x (sparing_value r0 y e) f);
+          set = λ e x i f g. or_right (not (same_number i m)) (keeps_pending x []) (set_spares r0.value x f);
+          clear = λ e x i f g. or_right (not (same_number i m)) (keeps_pending x []) (clear_call-spares r0.value x (sparing_value r0 y e) f);
         }
 
-        pub self_spared : is_sparing r0 ≡ true → spares_step (attempt a) w port_path ≡ true
-        unfolding spares_step
+        pub self_spared : is_sparing r0 ≡ true → step_keeps_pending (attempt a) w port_path ≡ true
+        unfolding step_keeps_pending
         self_spared y = one_spares j (p ++ (n ∷ [])) sent (λ m r z. data_allows (spare_test m r) (subst (λ v. Allows (spare_test m v) r0) (sym (ends_there (suc j ∷ p) n (suc m) r z)) (self_there y m)))
 
 pub self_asked : (a : Attempt) (w : World) (h : HolderIn a w) (bytes : List ℕ) → IsSetup a bytes
-    → (n : ℕ) → (setup_of bytes).index ≡ n → is_sparing (setup_of bytes) ≡ true → spares_step (attempt a) w (path_to h.spot ++ (n ∷ [])) ≡ true
+    → (n : ℕ) → (setup_of bytes).index ≡ n → is_sparing (setup_of bytes) ≡ true → step_keeps_pending (attempt a) w (path_to h.spot ++ (n ∷ [])) ≡ true
 self_asked a w h bytes is n names y = self_spared a w h bytes is n names (sparing_asks (setup_of bytes) y) y

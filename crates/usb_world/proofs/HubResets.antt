@@ -13,17 +13,17 @@ use Rattle.usb_world.specs.Paths.{address_of, same_number, same_path, is_way}
 use Rattle.usb_world.specs.WayEffects.{IsNew, reset_if}
 use Rattle.usb_world.specs.AttemptPackets.{deep_at}
 use Rattle.usb_world.specs.World.{World}
-use Rattle.usb_world.specs.Steps.{ready, damage_in, with_attempt, attempt, after}
-use Rattle.usb_world.specs.Courses.{is_made, made_resets, resets, address_at, Own}
+use Rattle.usb_world.specs.Steps.{at_attempt, damage_in, with_attempt, attempt, after}
+use Rattle.usb_world.specs.Courses.{is_made, made_resets, resets, address_at, HoldsMapped}
 use Rattle.usb_world.specs.OneHolder.{IsSetup, HolderIn, token_way, payload_way, answer_way}
 use Rattle.usb_world.specs.Addresses.{after_reset}
-use Rattle.usb_world.proofs.Booleans.{no, both, decided, and_false}
+use Rattle.usb_world.proofs.Booleans.{false_true, both, decided, and_false}
 use Rattle.usb_world.proofs.OneDevice.{state_stands}
 use Rattle.usb_world.proofs.Courses.{made_reach, step_new}
 use Rattle.usb_world.proofs.OneHolder.{replied, holder_holds, Holder}
 use Rattle.usb_world.proofs.OneHolderAttempts.{made_is, made_true, holder_in, setup_in, silent_in, others_in}
 use Rattle.usb_world.proofs.AddressesKept.{ready_own}
-use Rattle.usb_world.proofs.RootResets.{is_same, same_is, new_address, new_below}
+use Rattle.usb_world.proofs.RootResets.{same_number-is, same_is, is_new-zero, new_below}
 use Rattle.usb_world.proofs.HolderRequests.{other_rests}
 
 -- A device that was just reset
@@ -31,7 +31,7 @@ use Rattle.usb_world.proofs.HolderRequests.{other_rests}
 new_there : (k : Ports) (p : List ℕ) → IsNew (place k p) → address_at k p ≡ Some 0
 new_there k [] h = elim h [ ]
 new_there k (zero ∷ p) h = elim h [ ]
-new_there k (suc i ∷ p) h = ap (option_map address_of) (sym (state_stands k i p)) ∙ new_address (place_at k i p) h
+new_there k (suc i ∷ p) h = ap (option_map address_of) (sym (state_stands k i p)) ∙ is_new-zero (place_at k i p) h
 
 -- none is reached below it
 new_under : (k : Ports) (p : List ℕ) (m : ℕ) (r : List ℕ) → IsNew (place k p) → reach k (p ++ (m ∷ r)) ≡ false
@@ -45,15 +45,15 @@ record Beyond (x p : List ℕ) : Type 0 where
   r : List ℕ
   is : p ≡ x ++ (m ∷ r)
 
-beyond : (x p : List ℕ) → is_way x p ≡ true → same_path x p ≡ false → Beyond x p
+is_way-beyond : (x p : List ℕ) → is_way x p ≡ true → same_path x p ≡ false → Beyond x p
 unfolding is_way
-beyond [] [] w d = no (sym d)
-beyond [] (n ∷ p) w d = record { m = n; r = p; is = refl }
-beyond (m ∷ x) [] w d = no w
-beyond (m ∷ x) (n ∷ p) w d =
+is_way-beyond [] [] w d = false_true (sym d)
+is_way-beyond [] (n ∷ p) w d = record { m = n; r = p; is = refl }
+is_way-beyond (m ∷ x) [] w d = false_true w
+is_way-beyond (m ∷ x) (n ∷ p) w d =
     let on : _ = both (same_number m n) (is_way x p) w in
-    let y : Beyond x p = beyond x p on.1 (ap (λ z. z && same_path x p) (sym on.0) ∙ d) in
-    record { m = y.m; r = y.r; is = ap₂ (λ u v. u ∷ v) (is_same m n on.0) y.is }
+    let y : Beyond x p = is_way-beyond x p on.1 (ap (λ z. z && same_path x p) (sym on.0) ∙ d) in
+    record { m = y.m; r = y.r; is = ap₂ (λ u v. u ∷ v) (same_number-is m n on.0) y.is }
 
 -- The address of the hub itself
 
@@ -75,25 +75,25 @@ setup_address s row bytes x y z = split (is_whole x && is_whole y)
     split false = refl
 
 -- a device that is reached stands
-record Standing (k : Ports) (i : ℕ) (e : List ℕ) : Type 0 where
+record PlaceOccupied (k : Ports) (i : ℕ) (e : List ℕ) : Type 0 where
   own : State
   at : state_at k i e ≡ Some own
 
-standing : (k : Ports) (i : ℕ) (e : List ℕ) → reach_at k i e ≡ true → Standing k i e
+reach-occupied : (k : Ports) (i : ℕ) (e : List ℕ) → reach_at k i e ≡ true → PlaceOccupied k i e
 unfolding reach_at state_at
-standing ended i e h = no h
-standing (vacant b k) zero e h = no h
-standing (vacant b k) (suc i) e h = let y : Standing k i e = standing k i e h in record { own = y.own; at = y.at }
-standing (taken b s a k) zero [] h = record { own = s; at = refl }
-standing (taken b s a k) zero (zero ∷ e) h = no h
-standing (taken b s a k) zero (suc j ∷ e) h = let y : Standing a j e = standing a j e (both b.enable (reach_at a j e) h).1 in record { own = y.own; at = y.at }
-standing (taken b s a k) (suc i) e h = let y : Standing k i e = standing k i e h in record { own = y.own; at = y.at }
+reach-occupied ended i e h = false_true h
+reach-occupied (vacant b k) zero e h = false_true h
+reach-occupied (vacant b k) (suc i) e h = let y : PlaceOccupied k i e = reach-occupied k i e h in record { own = y.own; at = y.at }
+reach-occupied (taken b s a k) zero [] h = record { own = s; at = refl }
+reach-occupied (taken b s a k) zero (zero ∷ e) h = false_true h
+reach-occupied (taken b s a k) zero (suc j ∷ e) h = let y : PlaceOccupied a j e = reach-occupied a j e (both b.enable (reach_at a j e) h).1 in record { own = y.own; at = y.at }
+reach-occupied (taken b s a k) (suc i) e h = let y : PlaceOccupied k i e = reach-occupied k i e h in record { own = y.own; at = y.at }
 
-module _ (a : Attempt) (w : World) (h : HolderIn a w) (bytes : List ℕ) (is : IsSetup a bytes) (n : ℕ) (names : (setup_of bytes).index ≡ n) (f : List ℕ → Option ℕ) (own : Own f w) where
+module _ (a : Attempt) (w : World) (h : HolderIn a w) (bytes : List ℕ) (is : IsSetup a bytes) (n : ℕ) (names : (setup_of bytes).index ≡ n) (f : List ℕ → Option ℕ) (own : HoldsMapped f w) where
   open h use {spot.{row as j, rest as p}, own as s, below}
 
   abbrev k : Ports
-  k = (ready w).roots
+  k = (at_attempt w).roots
 
   abbrev target : List ℕ
   target = suc j ∷ (p ++ (n ∷ []))
@@ -112,38 +112,38 @@ module _ (a : Attempt) (w : World) (h : HolderIn a w) (bytes : List ℕ) (is : I
       pick true e = ap (option_map address_of) (silent_in a w h e).state
       pick false e =
           ap (option_map address_of) (setup_in a w h e bytes is).state
-          ∙ ap (λ x. Some x) (setup_address s (row_of below) bytes (token_way a (damage_in (ready w)) (deep_at false p) s) (payload_way a (damage_in (ready w)) (deep_at false p) s) (answer_way a (damage_in (ready w)) k))
+          ∙ ap (λ x. Some x) (setup_address s (row_of below) bytes (token_way a (damage_in (at_attempt w)) (deep_at false p) s) (payload_way a (damage_in (at_attempt w)) (deep_at false p) s) (answer_way a (damage_in (at_attempt w)) k))
 
   hub_stays : Stays j p
   hub_stays = hub_is ∙ ap (λ x. Some x) h.at ∙ sym (holder_holds a.addr k one).at ∙ ready_own f w own (suc j ∷ p) h.on
 
-  other_stays : (i : ℕ) (e : List ℕ) → (same_number i j && same_path e p) ≡ false → made_resets a (ready w) (suc i ∷ e) ≡ false → reach_at k i e ≡ true → Stays i e
+  other_stays : (i : ℕ) (e : List ℕ) → (same_number i j && same_path e p) ≡ false → made_resets a (at_attempt w) (suc i ∷ e) ≡ false → reach_at k i e ≡ true → Stays i e
   unfolding resets
   other_stays i e differ rest on =
-      let v : Standing k i e = standing k i e on in
+      let v : PlaceOccupied k i e = reach-occupied k i e on in
       ap (option_map address_of) (others_in a w h i e v.own differ v.at)
       ∙ ap (λ x. Some (address_of (reset_if x v.own))) (ap (λ x. is_made w.fault w && x) rest ∙ and_false (is_made w.fault w))
       ∙ sym (ap (option_map address_of) v.at) ∙ ready_own f w own (suc i ∷ e) on
 
-  stays : (i : ℕ) (e : List ℕ) → made_resets a (ready w) (suc i ∷ e) ≡ false → reach_at (after (attempt a) w).roots i e ≡ true → Stays i e
+  stays : (i : ℕ) (e : List ℕ) → made_resets a (at_attempt w) (suc i ∷ e) ≡ false → reach_at (after (attempt a) w).roots i e ≡ true → Stays i e
   unfolding with_attempt
   stays i e rest on = pick (decided (same_number i j && same_path e p))
     where
       before : reach_at k i e ≡ true
-      before = made_reach a (ready w) (suc i ∷ e) rest (ap (λ v. reach_at v.roots i e) (sym (made_is a w h.made)) ∙ on)
+      before = made_reach a (at_attempt w) (suc i ∷ e) rest (ap (λ v. reach_at v.roots i e) (sym (made_is a w h.made)) ∙ on)
 
       pick : ((same_number i j && same_path e p) ≡ true) ⊎ ((same_number i j && same_path e p) ≡ false) → Stays i e
       pick (inl y) =
           let at : _ = both (same_number i j) (same_path e p) y in
-          subst (λ u. Stays u e) (is_same i j at.0) (subst (λ x. Stays j x) (same_is e p at.1) hub_stays)
+          subst (λ u. Stays u e) (same_number-is i j at.0) (subst (λ x. Stays j x) (same_is e p at.1) hub_stays)
       pick (inr y) = other_stays i e y rest before
 
-  rests_elsewhere : (x : List ℕ) → same_path target x ≡ false → made_resets a (ready w) x ≡ false
+  rests_elsewhere : (x : List ℕ) → same_path target x ≡ false → made_resets a (at_attempt w) x ≡ false
   rests_elsewhere = other_rests a w h bytes is n names
 
-  own_reset : resets (attempt a) w target ≡ true → Own (after_reset f target) (after (attempt a) w)
-  own_reset y [] on = no on
-  own_reset y (zero ∷ e) on = no on
+  own_reset : resets (attempt a) w target ≡ true → HoldsMapped (after_reset f target) (after (attempt a) w)
+  own_reset y [] on = false_true on
+  own_reset y (zero ∷ e) on = false_true on
   own_reset y (suc i ∷ e) on = pick (decided (same_path target (suc i ∷ e)))
     where
       new : IsNew (place (after (attempt a) w).roots target)
@@ -151,11 +151,11 @@ module _ (a : Attempt) (w : World) (h : HolderIn a w) (bytes : List ℕ) (is : I
 
       unreached : is_way target (suc i ∷ e) ≡ true → same_path target (suc i ∷ e) ≡ false → false ≡ true
       unreached g d =
-          let z : Beyond target (suc i ∷ e) = beyond target (suc i ∷ e) g d in
+          let z : Beyond target (suc i ∷ e) = is_way-beyond target (suc i ∷ e) g d in
           sym (ap (reach (after (attempt a) w).roots) z.is ∙ new_under (after (attempt a) w).roots target z.m z.r new) ∙ on
 
       further : same_path target (suc i ∷ e) ≡ false → (is_way target (suc i ∷ e) ≡ true) ⊎ (is_way target (suc i ∷ e) ≡ false) → address_at (after (attempt a) w).roots (suc i ∷ e) ≡ after_reset f target (suc i ∷ e)
-      further d (inl g) = no (unreached g d)
+      further d (inl g) = false_true (unreached g d)
       further d (inr g) =
           stays i e (rests_elsewhere (suc i ∷ e) d) on
           ∙ ap₂ (λ u v. if u then Some 0 else if v then None else f (suc i ∷ e)) (sym d) (sym g)
@@ -166,24 +166,24 @@ module _ (a : Attempt) (w : World) (h : HolderIn a w) (bytes : List ℕ) (is : I
           ∙ ap (λ u. if u then Some 0 else if is_way target (suc i ∷ e) then None else f (suc i ∷ e)) (sym d)
       pick (inr d) = further d (decided (is_way target (suc i ∷ e)))
 
-  own_rest : resets (attempt a) w target ≡ false → Own f (after (attempt a) w)
+  own_rest : resets (attempt a) w target ≡ false → HoldsMapped f (after (attempt a) w)
   unfolding resets
-  own_rest y [] on = no on
-  own_rest y (zero ∷ e) on = no on
+  own_rest y [] on = false_true on
+  own_rest y (zero ∷ e) on = false_true on
   own_rest y (suc i ∷ e) on = stays i e (pick (decided (same_path target (suc i ∷ e)))) on
     where
-      at_target : made_resets a (ready w) target ≡ false
-      at_target = ap (λ x. x && made_resets a (ready w) target) (sym (made_true a w h.made)) ∙ y
+      at_target : made_resets a (at_attempt w) target ≡ false
+      at_target = ap (λ x. x && made_resets a (at_attempt w) target) (sym (made_true a w h.made)) ∙ y
 
-      pick : (same_path target (suc i ∷ e) ≡ true) ⊎ (same_path target (suc i ∷ e) ≡ false) → made_resets a (ready w) (suc i ∷ e) ≡ false
-      pick (inl d) = ap (made_resets a (ready w)) (same_is target (suc i ∷ e) d) ∙ at_target
+      pick : (same_path target (suc i ∷ e) ≡ true) ⊎ (same_path target (suc i ∷ e) ≡ false) → made_resets a (at_attempt w) (suc i ∷ e) ≡ false
+      pick (inl d) = ap (made_resets a (at_attempt w)) (same_is target (suc i ∷ e) d) ∙ at_target
       pick (inr d) = rests_elsewhere (suc i ∷ e) d
 
 pub hub_reset : (a : Attempt) (w : World) (h : HolderIn a w) (bytes : List ℕ) → IsSetup a bytes
-    → (n : ℕ) → (setup_of bytes).index ≡ n → (f : List ℕ → Option ℕ) → resets (attempt a) w (path_to h.spot ++ (n ∷ [])) ≡ true → Own f w
-    → Own (after_reset f (path_to h.spot ++ (n ∷ []))) (after (attempt a) w)
+    → (n : ℕ) → (setup_of bytes).index ≡ n → (f : List ℕ → Option ℕ) → resets (attempt a) w (path_to h.spot ++ (n ∷ [])) ≡ true → HoldsMapped f w
+    → HoldsMapped (after_reset f (path_to h.spot ++ (n ∷ []))) (after (attempt a) w)
 hub_reset a w h bytes is n names f y own = own_reset a w h bytes is n names f own y
 
 pub hub_rest : (a : Attempt) (w : World) (h : HolderIn a w) (bytes : List ℕ) → IsSetup a bytes
-    → (n : ℕ) → (setup_of bytes).index ≡ n → (f : List ℕ → Option ℕ) → resets (attempt a) w (path_to h.spot ++ (n ∷ [])) ≡ false → Own f w → Own f (after (attempt a) w)
+    → (n : ℕ) → (setup_of bytes).index ≡ n → (f : List ℕ → Option ℕ) → resets (attempt a) w (path_to h.spot ++ (n ∷ [])) ≡ false → HoldsMapped f w → HoldsMapped f (after (attempt a) w)
 hub_rest a w h bytes is n names f y own = own_rest a w h bytes is n names f own y

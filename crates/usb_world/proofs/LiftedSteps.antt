@@ -13,7 +13,7 @@ use Rattle.usb_world.specs.declared.types.BusFault.{BusFault}
 use Rattle.usb_world.specs.declared.types.BusFault.TheVariants.{LimitReached}
 use Rattle.usb_world.specs.Courses.{is_made}
 use Rattle.usb_world.specs.Losses.{after_clearing}
-use Rattle.usb_world.specs.Steps.{with_plugged, happened, way_of, names_path, is_due, took, took_first, due_from, ready, with_attempt, attempted, event_taken, Step, attempt, root_call, event, report, after, Course, here, step, Coming, nothing_yet, next_came}
+use Rattle.usb_world.specs.Steps.{with_plugged, after_change, way_of, names_path, is_due, after_event, after_first_event, after_due_events, at_attempt, with_attempt, attempted, event_taken, Step, attempt, root_call, event, report, after, Course, here, step, Coming, nothing_yet, next_came}
 use Rattle.usb_world.specs.World.{World}
 
 abbrev pub with_limit_told : World → World
@@ -33,13 +33,13 @@ pub record OverEvents (R : World → World → Type 0) : Type 0 where
   pub same : (w : World) → R w w
   pub joined : (w m v : World) → R w m → R m v → R w v
   pub came : (e : Event) (events : List Event) (w : World) → w.left ≡ e ∷ events
-      → R w (took e events w)
+      → R w (after_event e events w)
 
 -- that holds besides over an attempt's packets, a root call, and a refusal at the limit
 pub record OverSteps (K : Step → World → Type 0) (R : World → World → Type 0) : Type 0 where
   pub events : OverEvents R
   pub made : (a : Attempt) (w : World) → is_made w.fault w ≡ true → K (attempt a) w
-      → R (ready w) (with_attempt a (ready w))
+      → R (at_attempt w) (with_attempt a (at_attempt w))
   pub root : (c : PortCall) (n : ℕ) (w : World) → K (root_call c n) w → R w (with_call c n w)
   pub refused : (w : World) → R w (with_limit_told w)
 
@@ -48,7 +48,7 @@ abbrev pub Keeps : (World → Type 0) → World → World → Type 0
 Keeps J w v = J w → J v
 
 pub keeps_events : (J : World → Type 0)
-    → ((e : Event) (es : List Event) (w : World) → w.left ≡ e ∷ es → Keeps J w (took e es w))
+    → ((e : Event) (es : List Event) (w : World) → w.left ≡ e ∷ es → Keeps J w (after_event e es w))
     → OverEvents (Keeps J)
 keeps_events J came = record { same = λ w h. h; joined = λ w m v x y h. y (x h); came = came }
 
@@ -58,7 +58,7 @@ keeps_events J came = record { same = λ w h. h; joined = λ w m v x y h. y (x h
 pub happened_by : (P : Ports → Bool → Type 0) (a : Action) (devices : List Spec) (k : Ports)
     (p : List ℕ)
     → P k false → ((o : Option Spec) (x : List ℕ) → P (changed (replaced o) k x) (way_of x p))
-    → P (happened a devices k) (names_path devices a p)
+    → P (after_change a devices k) (names_path devices a p)
 happened_by P (Change (Plug x device)) devices k p same there = plugged (slice_get devices device)
   where
     plugged : (o : Option Spec) → P (with_plugged o x k) (is_some o && way_of x p)
@@ -68,7 +68,7 @@ happened_by P (Change (Unplug x)) devices k p same there = there None x
 happened_by P (Ask ask) devices k p same there = same
 
 module _ {R : World → World → Type 0} (l : OverEvents R) where
-  pub over_first : (events : List Event) (w : World) → w.left ≡ events → R w (took_first events w)
+  pub over_first : (events : List Event) (w : World) → w.left ≡ events → R w (after_first_event events w)
   over_first [] w e = l.same w
   over_first (x ∷ events) w e = l.came x events w e
 
@@ -76,21 +76,21 @@ module _ {R : World → World → Type 0} (l : OverEvents R) where
   over_taken (Some f) w = l.same w
   over_taken None w = over_first w.left w refl
 
-  pub over_due : (events : List Event) (w : World) → w.left ≡ events → R w (due_from events w)
-  unfolding due_from took
+  pub over_due : (events : List Event) (w : World) → w.left ≡ events → R w (after_due_events events w)
+  unfolding after_due_events after_event
   over_due [] w e = l.same w
   over_due (x ∷ events) w e =
       split (is_due x w)
-      (l.joined w (took x events w) _ (l.came x events w e)
-      (over_due events (took x events w) refl))
+      (l.joined w (after_event x events w) _ (l.came x events w e)
+      (over_due events (after_event x events w) refl))
     where
-      split : (b : Bool) → R w (due_from events (took x events w))
-          → R w (if b then due_from events (took x events w) else w)
+      split : (b : Bool) → R w (after_due_events events (after_event x events w))
+          → R w (if b then after_due_events events (after_event x events w) else w)
       split true h = h
       split false h = l.same w
 
-  pub over_ready : (w : World) → R w (ready w)
-  unfolding ready
+  pub over_ready : (w : World) → R w (at_attempt w)
+  unfolding at_attempt
   over_ready w = over_due w.left w refl
 
   pub over_coming : {w v : World} → Coming w v → R w v
@@ -100,25 +100,25 @@ module _ {R : World → World → Type 0} (l : OverEvents R) where
 -- Attempts
 
 -- an attempt changes nothing, or only tells of the limit, or is made
-pub over_attempt : (P : World → Type 0) (a : Attempt) (w : World)
+pub after-attempt_by : (P : World → Type 0) (a : Attempt) (w : World)
     → (is_made w.fault w ≡ false → P w × P (with_limit_told w))
-    → (is_made w.fault w ≡ true → P (with_attempt a (ready w))) → P (after (attempt a) w)
+    → (is_made w.fault w ≡ true → P (with_attempt a (at_attempt w))) → P (after (attempt a) w)
 unfolding after
-over_attempt P a w rests made = tried w.fault refl
+after-attempt_by P a w rests made = tried w.fault refl
   where
     tried : (f : Option BusFault) → w.fault ≡ f → P (attempted a f w)
     tried (Some f) e = (rests (ap (λ f. is_made f w) e)).0
     tried None e = split (w.attempts == w.limit) refl
       where
         split : (b : Bool) → (w.attempts == w.limit) ≡ b
-            → P (if b then with_limit_told w else with_attempt a (ready w))
+            → P (if b then with_limit_told w else with_attempt a (at_attempt w))
         split true full = (rests (ap (λ f. is_made f w) e ∙ ap not full)).1
         split false room = made (ap (λ f. is_made f w) e ∙ ap not room)
 
 pub made_after : (a : Attempt) (w : World) → is_made w.fault w ≡ true
-    → after (attempt a) w ≡ with_attempt a (ready w)
+    → after (attempt a) w ≡ with_attempt a (at_attempt w)
 made_after a w made =
-    over_attempt (λ v. v ≡ with_attempt a (ready w)) a w (λ none. absurd (cc (made, none)))
+    after-attempt_by (λ v. v ≡ with_attempt a (at_attempt w)) a w (λ none. absurd (cc (made, none)))
     (λ _. refl)
 
 pub made_sound : (w : World) → is_made w.fault w ≡ true → w.fault ≡ None
@@ -132,11 +132,11 @@ made_sound w made = sound w.fault refl
 abbrev pub MadeOrNot : Attempt → World → World → Type 0
 MadeOrNot a w v =
     (record v { fault = w.fault } ≡ w)
-    ⊎ ((is_made w.fault w ≡ true) × (v ≡ with_attempt a (ready w)))
+    ⊎ ((is_made w.fault w ≡ true) × (v ≡ with_attempt a (at_attempt w)))
 
 pub attempt_cases : (a : Attempt) (w : World) → MadeOrNot a w (after (attempt a) w)
 attempt_cases a w =
-    over_attempt (MadeOrNot a w) a w (λ _. (inl refl, inl refl)) (λ made. inr (made, refl))
+    after-attempt_by (MadeOrNot a w) a w (λ _. (inl refl, inl refl)) (λ made. inr (made, refl))
 
 -- Steps
 
@@ -144,8 +144,8 @@ module _ {K : Step → World → Type 0} {R : World → World → Type 0} (l : O
   pub over_step : (s : Step) (w : World) → K s w → R w (after s w)
   unfolding after
   over_step (attempt a) w k =
-      over_attempt (R w) a w (λ _. (l.events.same w, l.refused w))
-      (λ made. l.events.joined w (ready w) _ (over_ready l.events w) (l.made a w made k))
+      after-attempt_by (R w) a w (λ _. (l.events.same w, l.refused w))
+      (λ made. l.events.joined w (at_attempt w) _ (over_ready l.events w) (l.made a w made k))
   over_step (root_call c n) w k = l.root c n w k
   over_step event w k = over_taken l.events w.fault w
   over_step (report line) w k = l.events.same w

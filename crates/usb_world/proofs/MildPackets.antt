@@ -20,7 +20,7 @@ use Rattle.usb_device.specs.Rows.{State, Reply, received, unread, forgotten, pay
 use Rattle.usb_device.specs.Tree.{Ports, row_of}
 use Rattle.usb_device.specs.Delivery.{hears, reply_to, asked_by, answer_of, effect_of}
 use Rattle.usb_world.specs.AttemptPackets.{IsDataOut}
-use Rattle.usb_world.proofs.Booleans.{no}
+use Rattle.usb_world.proofs.Booleans.{false_true}
 use Rattle.usb_world.proofs.AttemptPackets.{silent_calm}
 use Rattle.usb_world.proofs.AlikeTrees.{self_of}
 
@@ -28,9 +28,9 @@ abbrev pub is_nothing : RememberedPacket → Bool
 is_nothing Nothing = true
 is_nothing m = false
 
-abbrev pub no_setup : RememberedPacket → Bool
-no_setup SetupSeen = false
-no_setup m = true
+abbrev pub remembers_no_setup : RememberedPacket → Bool
+remembers_no_setup SetupSeen = false
+remembers_no_setup m = true
 
 abbrev pub no_out : RememberedPacket → Bool
 no_out (OutSeen e) = false
@@ -60,9 +60,9 @@ mild_answer {old} {new} q c deep s a h = record {
 }
 
 -- one row or another
-pub either : (P : Reply → Type 0) (b : Bool) (x y : Reply) → P x → P y → P (if b then x else y)
-either P true x y h g = h
-either P false x y h g = g
+pub reply_if : (P : Reply → Type 0) (b : Bool) (x y : Reply) → P x → P y → P (if b then x else y)
+reply_if P true x y h g = h
+reply_if P false x y h g = g
 
 -- Bytes that spell nothing
 
@@ -77,26 +77,26 @@ mild_broken {old} {new} w n = record {
 
 -- Tokens
 
-pub nothing_no_setup : (m : RememberedPacket) → is_nothing m ≡ true → no_setup m ≡ true
+pub nothing_no_setup : (m : RememberedPacket) → is_nothing m ≡ true → remembers_no_setup m ≡ true
 nothing_no_setup Nothing h = refl
-nothing_no_setup SetupSeen h = no h
+nothing_no_setup SetupSeen h = false_true h
 nothing_no_setup (OutSeen e) h = refl
 nothing_no_setup (AckAwaited g) h = refl
 
 pub nothing_no_out : (m : RememberedPacket) → is_nothing m ≡ true → no_out m ≡ true
 nothing_no_out Nothing h = refl
 nothing_no_out SetupSeen h = refl
-nothing_no_out (OutSeen e) h = no h
+nothing_no_out (OutSeen e) h = false_true h
 nothing_no_out (AckAwaited g) h = refl
 
-pub mild_out : (n e : ℕ) → Mild is_nothing no_setup (Whole (Token OutTok n e))
+pub mild_out : (n e : ℕ) → Mild is_nothing remembers_no_setup (Whole (Token OutTok n e))
 unfolding received asks
 mild_out n e = record {
   wider = nothing_no_setup;
-  own = λ s row h. either (λ x. self_of x.1 ≡ self_of s) s.spec.silent (None, s) _ refl (
-      either (λ x. self_of x.1 ≡ self_of s) (n == s.registers.address) (token_row (forgotten s) row OutTok e) (None, forgotten s) refl refl);
-  after = λ s row h. either (λ x. no_setup x.1.memory ≡ true) s.spec.silent (None, s) _ (nothing_no_setup s.memory h) (
-      either (λ x. no_setup x.1.memory ≡ true) (n == s.registers.address) (token_row (forgotten s) row OutTok e) (None, forgotten s) refl refl);
+  own = λ s row h. reply_if (λ x. self_of x.1 ≡ self_of s) s.spec.silent (None, s) _ refl (
+      reply_if (λ x. self_of x.1 ≡ self_of s) (n == s.registers.address) (token_row (forgotten s) row OutTok e) (None, forgotten s) refl refl);
+  after = λ s row h. reply_if (λ x. remembers_no_setup x.1.memory ≡ true) s.spec.silent (None, s) _ (nothing_no_setup s.memory h) (
+      reply_if (λ x. remembers_no_setup x.1.memory ≡ true) (n == s.registers.address) (token_row (forgotten s) row OutTok e) (None, forgotten s) refl refl);
   calm = λ s h. silent_calm s;
 }
 
@@ -107,11 +107,11 @@ pub mild_setup : (n e : ℕ) → Mild is_nothing no_out (Whole (Token SetupTok n
 unfolding received asks
 mild_setup n e = record {
   wider = nothing_no_out;
-  own = λ s row h. either (λ x. self_of x.1 ≡ self_of s) s.spec.silent (None, s) _ refl (
-      either (λ x. self_of x.1 ≡ self_of s) (n == s.registers.address) (token_row (forgotten s) row SetupTok e) (None, forgotten s)
+  own = λ s row h. reply_if (λ x. self_of x.1 ≡ self_of s) s.spec.silent (None, s) _ refl (
+      reply_if (λ x. self_of x.1 ≡ self_of s) (n == s.registers.address) (token_row (forgotten s) row SetupTok e) (None, forgotten s)
       (setup_row_of (λ x. self_of x ≡ self_of s) (forgotten s) row e refl refl) refl);
-  after = λ s row h. either (λ x. no_out x.1.memory ≡ true) s.spec.silent (None, s) _ (nothing_no_out s.memory h) (
-      either (λ x. no_out x.1.memory ≡ true) (n == s.registers.address) (token_row (forgotten s) row SetupTok e) (None, forgotten s)
+  after = λ s row h. reply_if (λ x. no_out x.1.memory ≡ true) s.spec.silent (None, s) _ (nothing_no_out s.memory h) (
+      reply_if (λ x. no_out x.1.memory ≡ true) (n == s.registers.address) (token_row (forgotten s) row SetupTok e) (None, forgotten s)
       (setup_row_of (λ x. no_out x.memory ≡ true) (forgotten s) row e refl refl) refl);
   calm = λ s h. silent_calm s;
 }
@@ -133,37 +133,37 @@ own_out s (ending x) t b = refl
 own_sink : (s : State) (max : ℕ) (t : Toggle) (b : List ℕ) → self_of (sink_row s max t b).1 ≡ self_of s
 own_sink s max t b =
     let P : Reply → Type 0 = λ x. self_of x.1 ≡ self_of s in
-    either P s.bulk_out.halted (Some answer.Stall, s) _ refl
-    (either P (nat_lt max (length b)) (None, s) _ refl
-    (either P (is_same t s.bulk_out.toggle) (Some answer.Ack, sunk s b) (Some answer.Ack, s) refl refl))
+    reply_if P s.bulk_out.halted (Some answer.Stall, s) _ refl
+    (reply_if P (nat_lt max (length b)) (None, s) _ refl
+    (reply_if P (is_same t s.bulk_out.toggle) (Some answer.Ack, sunk s b) (Some answer.Ack, s) refl refl))
 
 own_bulk : (s : State) (e : ℕ) (o : Option (ℕ × ℕ)) (t : Toggle) (b : List ℕ) → self_of (out_bulk_row s e o t b).1 ≡ self_of s
 own_bulk s e None t b = refl
-own_bulk s e (Some end) t b = either (λ x. self_of x.1 ≡ self_of s) (end.0 == e) (sink_row s end.1 t b) (None, s) (own_sink s end.1 t b) refl
+own_bulk s e (Some end) t b = reply_if (λ x. self_of x.1 ≡ self_of s) (end.0 == e) (sink_row s end.1 t b) (None, s) (own_sink s end.1 t b) refl
 
 own_data : (s : State) (e : ℕ) (t : Toggle) (b : List ℕ) → self_of (data_row s e t b).1 ≡ self_of s
 own_data s e t b =
     let P : Reply → Type 0 = λ x. self_of x.1 ≡ self_of s in
-    either P (e == 0) (unless_busy s (out_row s s.stage t b)) (out_bulk_row s e (bulk_of s false) t b)
-    (either P (is_busy s) (nak_row s) (out_row s s.stage t b) refl (own_out s s.stage t b)) (own_bulk s e (bulk_of s false) t b)
+    reply_if P (e == 0) (unless_busy s (out_row s s.stage t b)) (out_bulk_row s e (bulk_of s false) t b)
+    (reply_if P (is_busy s) (nak_row s) (out_row s s.stage t b) refl (own_out s s.stage t b)) (own_bulk s e (bulk_of s false) t b)
 
-own_payload : (s : State) (row : List PortState) (m : RememberedPacket) (t : Toggle) (b : List ℕ) → no_setup m ≡ true → self_of (payload_row s row m t b).1 ≡ self_of s
+own_payload : (s : State) (row : List PortState) (m : RememberedPacket) (t : Toggle) (b : List ℕ) → remembers_no_setup m ≡ true → self_of (payload_row s row m t b).1 ≡ self_of s
 own_payload s row Nothing t b h = refl
-own_payload s row SetupSeen t b h = no h
+own_payload s row SetupSeen t b h = false_true h
 own_payload s row (OutSeen e) t b h = own_data s e t b
 own_payload s row (AckAwaited g) t b h = refl
 
-calm_data : (s : State) (m : RememberedPacket) (t : Toggle) (b : List ℕ) → no_setup m ≡ true → asked_by_data s m t b ≡ Leaves
+calm_data : (s : State) (m : RememberedPacket) (t : Toggle) (b : List ℕ) → remembers_no_setup m ≡ true → asked_by_data s m t b ≡ Leaves
 calm_data s Nothing t b h = refl
-calm_data s SetupSeen t b h = no h
+calm_data s SetupSeen t b h = false_true h
 calm_data s (OutSeen e) t b h = refl
 calm_data s (AckAwaited g) t b h = refl
 
-pub mild_data : (c : Content) → IsDataOut c → Mild no_setup any_memory c
+pub mild_data : (c : Content) → IsDataOut c → Mild remembers_no_setup any_memory c
 unfolding received asks
 mild_data (Whole (Payload t b)) h = record {
   wider = λ m h. refl;
-  own = λ s row h. either (λ x. self_of x.1 ≡ self_of s) s.spec.silent (None, s) _ refl (own_payload (forgotten s) row s.memory t b.items h);
+  own = λ s row h. reply_if (λ x. self_of x.1 ≡ self_of s) s.spec.silent (None, s) _ refl (own_payload (forgotten s) row s.memory t b.items h);
   after = λ s row h. refl;
   calm = λ s h. elim s.spec.silent as (λ x. (if x then Leaves else asked_by_data s s.memory t b.items) ≡ Leaves) [ true ↦ refl | false ↦ calm_data s s.memory t b.items h ];
 }
@@ -180,12 +180,12 @@ mild_data Broken h = mild_broken (λ m h. refl) refl
 no_sink : (s : State) (m : RememberedPacket) (t : Toggle) (b : List ℕ) → no_out m ≡ true → payload_sinks s m t b ≡ false
 no_sink s Nothing t b h = refl
 no_sink s SetupSeen t b h = refl
-no_sink s (OutSeen e) t b h = no h
+no_sink s (OutSeen e) t b h = false_true h
 no_sink s (AckAwaited g) t b h = refl
 
 no_growth : (b x : Bool) → x ≡ false → (not b && x) ≡ true → ⊥
-no_growth true x h g = no g
-no_growth false x h g = no (sym h ∙ g)
+no_growth true x h g = false_true g
+no_growth false x h g = false_true (sym h ∙ g)
 
 pub grows_after_out : (s : State) (p : Packet) → no_out s.memory ≡ true → sink_grows s p ≡ true → ⊥
 grows_after_out s (Payload t b) h g = no_growth s.spec.silent (payload_sinks s s.memory t b.items) (no_sink s s.memory t b.items h) g

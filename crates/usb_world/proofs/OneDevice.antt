@@ -11,21 +11,21 @@ use Rattle.usb_device.specs.declared.effect.Effect.TheVariants.{Leaves}
 use Rattle.usb_device.specs.declared.transfer.RememberedPacket.TheVariants.{Nothing}
 use Rattle.usb_device.specs.Rows.{State, forgotten, reset_state}
 use Rattle.usb_device.specs.Effect.{asks, asked_by_packet}
-use Rattle.usb_device.specs.Tree.{Ports, ended, vacant, taken, Place, empty, full, acted, reach_at, state_at, place_at, Spot, place_on, reach_on}
+use Rattle.usb_device.specs.Tree.{Ports, ended, vacant, taken, Place, empty, full, acted, reach_at, state_at, place_at, Location, place_on, reach_on}
 use Rattle.usb_device.specs.Delivery.{hears, asked_by, answer_of, effect_of, after_packet, answers, listed, all_forgotten}
 use Rattle.usb_world.specs.Paths.{address_of, same_number, same_path}
 use Rattle.usb_world.specs.WayEffects.{resets_at, reset_if}
 use Rattle.usb_device.specs.View.{forgotten_place}
 use Rattle.usb_world.specs.AttemptPackets.{after_sent, answers_to, after_attempt, deep_at, calls_on, IsTokenFor, IsDataOut, IsAckOut, IfOut, IsAttemptAt, sent_resets, attempt_resets, IsSettled, NobodyHolds, OneHolds}
 use Rattle.usb_world.specs.LonePackets.{OthersForgot, OthersUncalled}
-use Rattle.usb_world.proofs.Booleans.{no, both, and_of, decided}
-use Rattle.usb_world.proofs.Holders.{one_path}
+use Rattle.usb_world.proofs.Booleans.{false_true, both, and_of, decided}
+use Rattle.usb_world.proofs.Holders.{is_twice-one_path}
 use Rattle.usb_world.proofs.PacketEffects.{packet_state, true_deep, heard_state}
 use Rattle.usb_world.proofs.AttemptPackets.{token_out, ack_out, calm_sent, rested_answer}
 use Rattle.usb_world.proofs.AttemptPackets.{forgotten_state, forgotten_at, ack_calls}
 use Rattle.usb_world.proofs.PacketPlaces.{way_place, way_reach, is_left, way_rests, heard_place, place_after_sent}
 use Rattle.usb_world.proofs.Equality.{equal_same, self_number, self_path}
-use Rattle.usb_world.proofs.States.{kept_state}
+use Rattle.usb_world.proofs.States.{reset_if-false}
 
 -- a device's answer
 abbrev pub answer_at : Sent → Bool → Option Place → List Answer
@@ -33,9 +33,9 @@ answer_at q deep None = []
 answer_at q deep (Some (empty b)) = []
 answer_at q deep (Some (full b s a)) = listed (answer_of q deep s a).0 []
 
-abbrev pub told_at : Option Sent → Bool → Option Place → List Answer
-told_at None deep x = []
-told_at (Some q) deep x = answer_at q deep x
+abbrev pub answers_at : Option Sent → Bool → Option Place → List Answer
+answers_at None deep x = []
+answers_at (Some q) deep x = answer_at q deep x
 
 -- a reached device with its ports after an attempt, where no other holds the address
 abbrev pub place_after : Option Sent → Option Sent → Option Sent → Bool → Place → Place
@@ -43,9 +43,9 @@ place_after token payload reply deep x = forgotten_place (place_after_sent reply
 
 -- What an attempt does where one device holds its address: that device's answers are heard, and it is then as one
 -- device alone would be; another is reset by it, or as it was.
-pub record OneActs (t d r : Option Sent) (k : Ports) (x : Spot) : Type 0 where
-  pub first : answers_to t k ≡ told_at t (deep_at false x.rest) (place_on k x)
-  pub second : answers_to d (after_sent t k) ≡ told_at d (deep_at false x.rest) (option_map (place_after_sent t (deep_at false x.rest)) (place_on k x))
+pub record OneActs (t d r : Option Sent) (k : Ports) (x : Location) : Type 0 where
+  pub first : answers_to t k ≡ answers_at t (deep_at false x.rest) (place_on k x)
+  pub second : answers_to d (after_sent t k) ≡ answers_at d (deep_at false x.rest) (option_map (place_after_sent t (deep_at false x.rest)) (place_on k x))
   pub place : place_on (after_attempt t d r k) x ≡ option_map (place_after t d r (deep_at false x.rest)) (place_on k x)
   pub on : reach_on (after_sent r (after_sent d (after_sent t k))) x ≡ true
   pub others : (i : ℕ) (e : List ℕ) (s : State) → (same_number i x.row && same_path e x.rest) ≡ false → state_at k i e ≡ Some s
@@ -141,12 +141,12 @@ append_nil (x ∷ xs) = ap (λ y. x ∷ y) (append_nil xs)
 pub others_answer : (q : Sent) (deep : Bool) (k : Ports) (j : ℕ) (p : List ℕ) → reach_at k j p ≡ true → OthersRest q k j p
     → answers q deep k ≡ answer_at q (deep_at deep p) (place_at k j p)
 unfolding answers state_at reach_at place_at
-others_answer q deep ended j p h c = no h
-others_answer q deep (vacant b k) zero p h c = no h
+others_answer q deep ended j p h c = false_true h
+others_answer q deep (vacant b k) zero p h c = false_true h
 others_answer q deep (vacant b k) (suc j) p h c = others_answer q deep k j p h (λ i e. c (suc i) e)
 others_answer q deep (taken b s a k) zero [] h c =
     rw (h, rest_answers q true a (λ i e t f on. c zero (suc i ∷ e) t refl f (and_of b.enable _ h on)), rest_answers q deep k (λ i e t f on. c (suc i) e t refl f on)) refl
-others_answer q deep (taken b s a k) zero (zero ∷ p) h c = no h
+others_answer q deep (taken b s a k) zero (zero ∷ p) h c = false_true h
 others_answer q deep (taken b s a k) zero (suc j ∷ p) h c =
     let on : _ = both b.enable (reach_at a j p) h in
     found on.0 (others_answer q true a j p on.1 (λ i e t d f o. c zero (suc i ∷ e) t d f (and_of b.enable _ on.0 o)))
@@ -218,7 +218,7 @@ other_address n k j p o i e t d h on = pick (decided (n == address_of t))
     same_place w = rw (w.0, w.1) (and_of (same_number j j) _ (self_number j) (self_path p))
 
     pick : ((n == address_of t) ≡ true) ⊎ ((n == address_of t) ≡ false) → (n == address_of t) ≡ false
-    pick (inl y) = no (sym d ∙ same_place (one_path k i e j p n o.single on (ap (option_map address_of) h ∙ ap (λ x. Some x) (sym (equal_same n (address_of t) y))) o.on o.at))
+    pick (inl y) = false_true (sym d ∙ same_place (is_twice-one_path k i e j p n o.single on (ap (option_map address_of) h ∙ ap (λ x. Some x) (sym (equal_same n (address_of t) y))) o.on o.at))
     pick (inr y) = y
 
 abbrev pub stands : Option Place → Option State
@@ -255,15 +255,15 @@ rest_state q deep k i e c =
 
 reset_forgot : (b : Bool) (o : Option State) (t : State) → ((s : State) → o ≡ Some s → s.memory ≡ Nothing) → option_map (reset_if b) o ≡ Some t → t.memory ≡ Nothing
 unfolding reset_state
-reset_forgot b None t c h = no (ap is_some h)
+reset_forgot b None t c h = false_true (ap is_some h)
 reset_forgot true (Some s) t c h = ap (λ x. x.memory) (sym (same_Some (reset_state s) t h))
 reset_forgot false (Some s) t c h = ap (λ x. x.memory) (sym (same_Some s t h)) ∙ c s refl
 
 -- what one packet does then
-pub record SentToOne (o : Option Sent) (k : Ports) (x : Spot) : Type 0 where
+pub record SentToOne (o : Option Sent) (k : Ports) (x : Location) : Type 0 where
   pub place : place_on (after_sent o k) x ≡ option_map (place_after_sent o (deep_at false x.rest)) (place_on k x)
   pub on : reach_on (after_sent o k) x ≡ true
-  pub answer : answers_to o k ≡ told_at o (deep_at false x.rest) (place_on k x)
+  pub answer : answers_to o k ≡ answers_at o (deep_at false x.rest) (place_on k x)
   pub forgot : OthersForgot (after_sent o k) x
   pub others : (i : ℕ) (e : List ℕ) → (same_number i x.row && same_path e x.rest) ≡ false → state_at (after_sent o k) i e ≡ option_map (reset_if (sent_resets o k i e)) (state_at k i e)
 
@@ -271,8 +271,8 @@ unsent : (x : Option Place) (d : Bool) → x ≡ option_map (place_after_sent No
 unsent None d = refl
 unsent (Some x) d = refl
 
-pub sent_to_one : (o : Option Sent) (k : Ports) (x : Spot) → reach_on k x ≡ true → OthersForgot k x → OthersUncalled o k x → SentToOne o k x
-sent_to_one None k x on f c = record { place = unsent (place_on k x) (deep_at false x.rest); on = on; answer = refl; forgot = f; others = λ i e d. kept_state (state_at k i e) }
+pub sent_to_one : (o : Option Sent) (k : Ports) (x : Location) → reach_on k x ≡ true → OthersForgot k x → OthersUncalled o k x → SentToOne o k x
+sent_to_one None k x on f c = record { place = unsent (place_on k x) (deep_at false x.rest); on = on; answer = refl; forgot = f; others = λ i e d. reset_if-false (state_at k i e) }
 sent_to_one (Some q) k x on f c = record {
   place = way_place q false k x.row x.rest way ∙ ap (λ y. option_map (heard_place q (deep_at false x.rest) y) (place_on k x)) on;
   on = way_reach q false k x.row x.rest way ∙ on;
@@ -294,19 +294,19 @@ thrice : (f g h i : Place → Place) (o : Option Place) → option_map f (option
 thrice f g h i None = refl
 thrice f g h i (Some x) = refl
 
-pub one_device : (n : ℕ) (t d r : Option Sent) → IsAttemptAt n t d r → (k : Ports) (at : Spot) → IsSettled k → OneHolds n k at → OneActs t d r k at
+pub one_device : (n : ℕ) (t d r : Option Sent) → IsAttemptAt n t d r → (k : Ports) (at : Location) → IsSettled k → OneHolds n k at → OneActs t d r k at
 unfolding reset_state
 one_device n t d r is k at s o = record {
   first = x.answer;
-  second = y.answer ∙ ap (told_at d (deep_at false at.rest)) x.place;
+  second = y.answer ∙ ap (answers_at d (deep_at false at.rest)) x.place;
   place = forgotten_at (after_sent r (after_sent d (after_sent t k))) at.row at.rest
       ∙ ap (option_map forgotten_place) (z.place ∙ ap (option_map (place_after_sent r (deep_at false at.rest))) (y.place ∙ ap (option_map (place_after_sent d (deep_at false at.rest))) x.place))
       ∙ thrice forgotten_place (place_after_sent r (deep_at false at.rest)) (place_after_sent d (deep_at false at.rest)) (place_after_sent t (deep_at false at.rest)) (place_on k at);
   on = z.on;
   others = λ i e v w h.
       forgotten_state (after_sent r (after_sent d (after_sent t k))) i e
-      ∙ ap (option_map forgotten) (z.others i e w ∙ ap (λ b. option_map (reset_if b) (state_at (after_sent d (after_sent t k)) i e)) (calm_sent r (ack_out r is.reply) (after_sent d (after_sent t k)) i e) ∙ sym (kept_state (state_at (after_sent d (after_sent t k)) i e))
-      ∙ y.others i e w ∙ ap (option_map (reset_if (attempt_resets t d k i e))) (x.others i e w ∙ ap (λ b. option_map (reset_if b) (state_at k i e)) (calm_sent t (token_out n t is.token) k i e) ∙ sym (kept_state (state_at k i e)) ∙ h))
+      ∙ ap (option_map forgotten) (z.others i e w ∙ ap (λ b. option_map (reset_if b) (state_at (after_sent d (after_sent t k)) i e)) (calm_sent r (ack_out r is.reply) (after_sent d (after_sent t k)) i e) ∙ sym (reset_if-false (state_at (after_sent d (after_sent t k)) i e))
+      ∙ y.others i e w ∙ ap (option_map (reset_if (attempt_resets t d k i e))) (x.others i e w ∙ ap (λ b. option_map (reset_if b) (state_at k i e)) (calm_sent t (token_out n t is.token) k i e) ∙ sym (reset_if-false (state_at k i e)) ∙ h))
       ∙ ap (λ u. Some u) (forgot_reset (attempt_resets t d k i e) v (settled_memory k i e v s h));
 }
   where

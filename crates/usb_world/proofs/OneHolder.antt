@@ -20,7 +20,7 @@ use Rattle.usb_device.specs.Transfer.{Stage, idle, refused, reading, read, endin
 use Rattle.usb_device.specs.Rows.{State, Reply, received, unread, forgotten, accepted, is_busy, nak_row, unless_busy, out_row, status_row, sink_row, sunk, out_bulk_row, bulk_of, data_row}
 use Rattle.usb_device.specs.Attempt.{Way, whole, broken, lost, is_whole, through, heard, is_good, sends, acked, setup_exchange, out_exchange, in_exchange, setup_law, out_law, in_law}
 use Rattle.usb_device.specs.Tree.{Ports, full, acted, row_of, state_at, place_at, state_on}
-use Rattle.usb_device.specs.Delivery.{is_heard, answer_of, effect_of, after_packet, listed, held, is_twice}
+use Rattle.usb_device.specs.Delivery.{is_heard, answer_of, effect_of, after_packet, listed, held_addresses, repeats}
 use Rattle.usb_device.proofs.Interface.{in_is, keeps-received, out_is, row_of-after, setup_is}
 use Rattle.usb_world.specs.declared.types.Attempt.{Attempt}
 use Rattle.usb_world.specs.declared.types.Outcome.TheVariants as outcome
@@ -35,9 +35,9 @@ use Rattle.usb_device.specs.View.{forgotten_place}
 use Rattle.usb_world.specs.Exchange.{token_of, payload_of, reply_of, outcome_heard, outcome_of, sent_as, goes_out, heard_all, token_out, payload_out, reply_out, heard_in, mark_in, place_of_answer, ports_in}
 use Rattle.usb_world.specs.AttemptPackets.{after_sent, answers_to, heard_by, deep_at, IsSettled, NobodyHolds, OneHolds}
 use Rattle.usb_world.specs.OneHolder.{content_way, way_to, way_back, got, token_way, payload_way, answer_way, reply_way, out_alone, in_alone, IsSetup, IsOut, IsIn}
-use Rattle.usb_world.proofs.Booleans.{no}
+use Rattle.usb_world.proofs.Booleans.{false_true}
 use Rattle.usb_world.proofs.AttemptPackets.{CalmOut, token_out as token_calm}
-use Rattle.usb_world.proofs.OneDevice.{settled_memory, nobody_answers, one_device, stands, state_stands, append_nil, told_at, place_after, OneActs}
+use Rattle.usb_world.proofs.OneDevice.{settled_memory, nobody_answers, one_device, stands, state_stands, append_nil, answers_at, place_after, OneActs}
 use Rattle.usb_world.proofs.Courses.{goes}
 use Rattle.usb_world.specs.FoundHolder.{Found}
 use Rattle.usb_world.proofs.PacketPlaces.{place_after_sent}
@@ -49,7 +49,7 @@ setup_alone a damage k deep s row bytes = setup_law s row bytes (token_way a dam
 -- between attempts a reachable device holds the address, and no address is held twice
 pub record Holder (n : ℕ) (k : Ports) : Type 0 where
   pub settled : IsSettled k
-  pub single : is_twice (held k) ≡ false
+  pub single : repeats (held_addresses k) ≡ false
   pub found : Found n k
   pub open found use *
 
@@ -103,7 +103,7 @@ module _ (deep : Bool) (b : PortState) where
   sent_stands None s a = refl
   sent_stands (Some q) s a = refl
 
-  told_stands : (o : Option Sent) (s : State) (a : Ports) → told_at o deep (Some (full b s a)) ≡ listed (heard_by o deep s (row_of a)).0 []
+  told_stands : (o : Option Sent) (s : State) (a : Ports) → answers_at o deep (Some (full b s a)) ≡ listed (heard_by o deep s (row_of a)).0 []
   unfolding answer_of
   told_stands None s a = refl
   told_stands (Some q) s a = refl
@@ -190,18 +190,18 @@ reply_told (Some (answer.Data t bytes)) mark.PreLost max = refl
 reply_told (Some (answer.Data t bytes)) (mark.Flipped bit) max = refl
 
 -- the answer is no data
-abbrev no_data : Option Answer → Bool
-no_data (Some (answer.Data t bytes)) = false
-no_data o = true
+abbrev gives_no_data : Option Answer → Bool
+gives_no_data (Some (answer.Data t bytes)) = false
+gives_no_data o = true
 
-no_data_good : (o : Option Answer) → no_data o ≡ true → (w : Way) (max : ℕ) → is_good max (heard w o) ≡ false
+no_data_good : (o : Option Answer) → gives_no_data o ≡ true → (w : Way) (max : ℕ) → is_good max (heard w o) ≡ false
 no_data_good None h whole max = refl
 no_data_good None h broken max = refl
 no_data_good None h lost max = refl
 no_data_good (Some answer.Ack) h whole max = refl
 no_data_good (Some answer.Nak) h whole max = refl
 no_data_good (Some answer.Stall) h whole max = refl
-no_data_good (Some (answer.Data t bytes)) h whole max = no h
+no_data_good (Some (answer.Data t bytes)) h whole max = false_true h
 no_data_good (Some x) h broken max = refl
 no_data_good (Some x) h lost max = refl
 
@@ -250,10 +250,10 @@ module _ (a : Attempt) (d : Option Damage) (k : Ports) (h : Holder a.addr k) whe
   second_place = sent_stands is_deep b (payload_out a d) first.1 first_below ∙ ap (λ r. full b (heard_by (payload_out a d) is_deep first.1 r).1 second_below) first_row
 
   first_told : answers_to (token_out a d) k ≡ listed first.0 []
-  first_told = acts.first ∙ ap (told_at (token_out a d) is_deep) h.stands ∙ told_stands is_deep b (token_out a d) s below
+  first_told = acts.first ∙ ap (answers_at (token_out a d) is_deep) h.stands ∙ told_stands is_deep b (token_out a d) s below
 
   second_told : answers_to (payload_out a d) (after_sent (token_out a d) k) ≡ listed second.0 []
-  second_told = acts.second ∙ ap (told_at (payload_out a d) is_deep) first_place ∙ told_stands is_deep b (payload_out a d) first.1 first_below
+  second_told = acts.second ∙ ap (answers_at (payload_out a d) is_deep) first_place ∙ told_stands is_deep b (payload_out a d) first.1 first_below
       ∙ ap (λ r. listed (heard_by (payload_out a d) is_deep first.1 r).0 []) first_row
 
   pub is_heard_in : heard_in a d k ≡ heard_all (listed first.0 [] ++ listed second.0 [])
@@ -288,16 +288,16 @@ module _ (a : Attempt) (d : Option Damage) (k : Ports) (h : Holder a.addr k) whe
     pub sent_heard : heard_in a d k ≡ heard_all (listed to_data.0 [])
     sent_heard = is_heard_in ∙ ap₂ (λ x y. heard_all (listed x.0 [] ++ listed y.0 [])) first_sent second_sent ∙ ap (λ x. heard_all (listed x [] ++ listed to_data.0 [])) (quiet (token_way a d is_deep s))
 
-    sent_reply : no_data to_data.0 ≡ true → reply_of (heard_in a d k) (mark_in a d k) a.max ≡ None
+    sent_reply : gives_no_data to_data.0 ≡ true → reply_of (heard_in a d k) (mark_in a d k) a.max ≡ None
     sent_reply n =
         ap (λ x. reply_of x (mark_in a d k) a.max) sent_heard
         ∙ reply_told to_data.0 (mark_in a d k) a.max
         ∙ ap (λ g. if g then Some packet.Ack else None) (no_data_good to_data.0 n (way_back (mark_in a d k)) a.max)
 
-    sent_third : no_data to_data.0 ≡ true → third.1 ≡ second.1
+    sent_third : gives_no_data to_data.0 ≡ true → third.1 ≡ second.1
     sent_third n = reply_comes a d (place_of_answer a d + 1) (reply_of (heard_in a d k) (mark_in a d k) a.max) false is_deep second.1 (row_of second_below) (sent_reply n)
 
-    pub sent : no_data to_data.0 ≡ true → ExchangedWithHolder a d k h (sends s own_row T X (token_way a d is_deep s) (payload_way a d is_deep s) (answer_way a d k))
+    pub sent : gives_no_data to_data.0 ≡ true → ExchangedWithHolder a d k h (sends s own_row T X (token_way a d is_deep s) (payload_way a d is_deep s) (answer_way a d k))
     sent n = record {
       outcome = ap (λ x. outcome_of x (mark_in a d k) a.max) sent_heard ∙ outcome_got to_data.0 (mark_in a d k) a.max;
       state = is_state ∙ ap (λ x. Some (forgotten x)) (sent_third n ∙ ap (λ r. r.1) second_sent);
@@ -340,9 +340,9 @@ module _ (a : Attempt) (d : Option Damage) (k : Ports) (h : Holder a.addr k) whe
 
 -- The three kinds
 
-pub token_is : (a : Attempt) (t : TokenKind) (n e : ℕ) → a.kind ≡ t → a.addr ≡ n → a.ep ≡ e → token_of a ≡ Token t n e
+pub token_of-fields : (a : Attempt) (t : TokenKind) (n e : ℕ) → a.kind ≡ t → a.addr ≡ n → a.ep ≡ e → token_of a ≡ Token t n e
 unfolding token_of
-token_is a t n e x y z = rw (x, y, z) refl
+token_of-fields a t n e x y z = rw (x, y, z) refl
 
 pub data_is : (a : Attempt) (t : Toggle) (bytes : ArrayVec ℕ) → a.payload ≡ Some (t, bytes) → payload_of a ≡ Some (packet.Payload t bytes)
 unfolding payload_of
@@ -374,33 +374,33 @@ out_quiet s row n e lost = refl
 
 -- setup data and OUT data are not answered by data
 
-if_no_data : (x : Bool) (r q : Reply) → no_data r.0 ≡ true → no_data q.0 ≡ true → no_data (if x then r else q).0 ≡ true
+if_no_data : (x : Bool) (r q : Reply) → gives_no_data r.0 ≡ true → gives_no_data q.0 ≡ true → gives_no_data (if x then r else q).0 ≡ true
 if_no_data true r q h g = h
 if_no_data false r q h g = g
 
-status_no_data : (s : State) (t : Toggle) (bytes : List ℕ) → no_data (status_row s t bytes).0 ≡ true
+status_no_data : (s : State) (t : Toggle) (bytes : List ℕ) → gives_no_data (status_row s t bytes).0 ≡ true
 status_no_data s Zero bytes = refl
 status_no_data s Data1 [] = refl
 status_no_data s Data1 (x ∷ bytes) = refl
 
-out_no_data : (s : State) (x : Stage) (t : Toggle) (bytes : List ℕ) → no_data (out_row s x t bytes).0 ≡ true
+out_no_data : (s : State) (x : Stage) (t : Toggle) (bytes : List ℕ) → gives_no_data (out_row s x t bytes).0 ≡ true
 out_no_data s idle t bytes = refl
 out_no_data s refused t bytes = refl
 out_no_data s (reading text wanted n) t bytes = status_no_data s t bytes
 out_no_data s read t bytes = status_no_data s t bytes
 out_no_data s (ending n) t bytes = refl
 
-sink_no_data : (s : State) (max : ℕ) (t : Toggle) (bytes : List ℕ) → no_data (sink_row s max t bytes).0 ≡ true
+sink_no_data : (s : State) (max : ℕ) (t : Toggle) (bytes : List ℕ) → gives_no_data (sink_row s max t bytes).0 ≡ true
 sink_no_data s max t bytes =
     if_no_data s.bulk_out.halted (replied (Some answer.Stall) s) (if nat_lt max (length bytes) then replied None s else if is_same t s.bulk_out.toggle then replied (Some answer.Ack) (sunk s bytes) else replied (Some answer.Ack) s) refl
     (if_no_data (nat_lt max (length bytes)) (replied None s) (if is_same t s.bulk_out.toggle then replied (Some answer.Ack) (sunk s bytes) else replied (Some answer.Ack) s) refl
     (if_no_data (is_same t s.bulk_out.toggle) (replied (Some answer.Ack) (sunk s bytes)) (replied (Some answer.Ack) s) refl refl))
 
-bulk_no_data : (s : State) (e : ℕ) (end : Option (ℕ × ℕ)) (t : Toggle) (bytes : List ℕ) → no_data (out_bulk_row s e end t bytes).0 ≡ true
+bulk_no_data : (s : State) (e : ℕ) (end : Option (ℕ × ℕ)) (t : Toggle) (bytes : List ℕ) → gives_no_data (out_bulk_row s e end t bytes).0 ≡ true
 bulk_no_data s e None t bytes = refl
 bulk_no_data s e (Some end) t bytes = if_no_data (end.0 == e) (sink_row s end.1 t bytes) (replied None s) (sink_no_data s end.1 t bytes) refl
 
-data_no_data : (s : State) (e : ℕ) (t : Toggle) (bytes : List ℕ) → no_data (data_row s e t bytes).0 ≡ true
+data_no_data : (s : State) (e : ℕ) (t : Toggle) (bytes : List ℕ) → gives_no_data (data_row s e t bytes).0 ≡ true
 data_no_data s e t bytes =
     if_no_data (e == 0) (unless_busy s (out_row s s.stage t bytes)) (out_bulk_row s e (bulk_of s false) t bytes)
     (if_no_data (is_busy s) (nak_row s) (out_row s s.stage t bytes) refl (out_no_data s s.stage t bytes))
@@ -441,37 +441,37 @@ module _ (a : Attempt) (d : Option Damage) (k : Ports) (h : Holder a.addr k) whe
     setup_one bytes i =
         subst (ExchangedWithHolder a d k h) (setup_same bytes i.whole t1 t2 t3)
         (sent a d k h (Token SetupTok s.registers.address 0) (packet.Payload Zero (record { items = bytes }))
-        (token_is a SetupTok s.registers.address 0 i.kind (sym h.at) i.ep) (data_is a Zero (record { items = bytes }) i.payload) (setup_quiet s (row_of below) s.registers.address 0)
-        (ap (λ r. no_data r.0) (setup_same bytes i.whole t1 t2 whole)
+        (token_of-fields a SetupTok s.registers.address 0 i.kind (sym h.at) i.ep) (data_is a Zero (record { items = bytes }) i.payload) (setup_quiet s (row_of below) s.registers.address 0)
+        (ap (λ r. gives_no_data r.0) (setup_same bytes i.whole t1 t2 whole)
         ∙ if_no_data (is_whole t1 && is_whole t2) (replied (Some answer.Ack) (accepted s (row_of below) (setup_of bytes))) (replied None s) refl refl))
 
     pub out_one : (t : Toggle) (bytes : List ℕ) → IsOut a t bytes → ExchangedWithHolder a d k h (out_alone a d k (deep_at false p) s t bytes)
     out_one t bytes i =
         subst (ExchangedWithHolder a d k h) (out_same a.ep t bytes t1 t2 t3)
         (sent a d k h (Token OutTok s.registers.address a.ep) (packet.Payload t (record { items = bytes }))
-        (token_is a OutTok s.registers.address a.ep i.kind (sym h.at) refl) (data_is a t (record { items = bytes }) i.payload) (out_quiet s (row_of below) s.registers.address a.ep)
-        (ap (λ r. no_data r.0) (out_same a.ep t bytes t1 t2 whole)
+        (token_of-fields a OutTok s.registers.address a.ep i.kind (sym h.at) refl) (data_is a t (record { items = bytes }) i.payload) (out_quiet s (row_of below) s.registers.address a.ep)
+        (ap (λ r. gives_no_data r.0) (out_same a.ep t bytes t1 t2 whole)
         ∙ if_no_data (is_whole t1 && is_whole t2) (replied (data_row s a.ep t bytes).0 (forgotten (data_row s a.ep t bytes).1)) (replied None s) (data_no_data s a.ep t bytes) refl))
 
     pub in_one : IsIn a → ExchangedWithHolder a d k h (in_alone a d k (deep_at false p) s (row_of below))
     in_one i =
         subst (ExchangedWithHolder a d k h) (in_same a.ep a.max t1 t3 t4)
-        (asked a d k h (Token InTok s.registers.address a.ep) (token_is a InTok s.registers.address a.ep i.kind (sym h.at) refl) (none_is a i.payload))
+        (asked a d k h (Token InTok s.registers.address a.ep) (token_of-fields a InTok s.registers.address a.ep i.kind (sym h.at) refl) (none_is a i.payload))
 
     -- what is heard of the device
     pub setup_heard : (bytes : List ℕ) → IsSetup a bytes → heard_in a d k ≡ heard_all (listed (setup_law s (row_of below) bytes t1 t2 whole).0 [])
     setup_heard bytes i =
         sent_heard a d k h (Token SetupTok s.registers.address 0) (packet.Payload Zero (record { items = bytes }))
-        (token_is a SetupTok s.registers.address 0 i.kind (sym h.at) i.ep) (data_is a Zero (record { items = bytes }) i.payload) (setup_quiet s (row_of below) s.registers.address 0)
+        (token_of-fields a SetupTok s.registers.address 0 i.kind (sym h.at) i.ep) (data_is a Zero (record { items = bytes }) i.payload) (setup_quiet s (row_of below) s.registers.address 0)
         ∙ ap (λ r. heard_all (listed r.0 [])) (setup_same bytes i.whole t1 t2 whole)
 
     pub out_heard : (t : Toggle) (bytes : List ℕ) → IsOut a t bytes → heard_in a d k ≡ heard_all (listed (out_law s a.ep t bytes t1 t2 whole).0 [])
     out_heard t bytes i =
         sent_heard a d k h (Token OutTok s.registers.address a.ep) (packet.Payload t (record { items = bytes }))
-        (token_is a OutTok s.registers.address a.ep i.kind (sym h.at) refl) (data_is a t (record { items = bytes }) i.payload) (out_quiet s (row_of below) s.registers.address a.ep)
+        (token_of-fields a OutTok s.registers.address a.ep i.kind (sym h.at) refl) (data_is a t (record { items = bytes }) i.payload) (out_quiet s (row_of below) s.registers.address a.ep)
         ∙ ap (λ r. heard_all (listed r.0 [])) (out_same a.ep t bytes t1 t2 whole)
 
     pub in_heard : IsIn a → heard_in a d k ≡ heard_all (listed (in_law s (row_of below) a.ep a.max t1 whole whole).0 [])
     in_heard i =
-        asked_heard a d k h (Token InTok s.registers.address a.ep) (token_is a InTok s.registers.address a.ep i.kind (sym h.at) refl) (none_is a i.payload)
+        asked_heard a d k h (Token InTok s.registers.address a.ep) (token_of-fields a InTok s.registers.address a.ep i.kind (sym h.at) refl) (none_is a i.payload)
         ∙ ap (λ r. heard_all (listed r.0 [])) (in_same a.ep a.max t1 whole whole)

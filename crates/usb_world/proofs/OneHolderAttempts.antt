@@ -15,7 +15,7 @@ use Rattle.usb_device.specs.declared.delivery.Sent.{Sent}
 use Rattle.usb_device.specs.Rows.{State, Reply, forgotten, accepted, data_row}
 use Rattle.usb_device.specs.Attempt.{Way, whole, lost, through, heard, is_good, acked, setup_law, out_law, in_law}
 use Rattle.usb_device.specs.Tree.{Ports, row_of, state_at, state_on}
-use Rattle.usb_device.specs.Delivery.{hears, reply_to, listed, held, is_twice}
+use Rattle.usb_device.specs.Delivery.{hears, reply_to, listed, held_addresses, repeats}
 use Rattle.usb_device.proofs.Interface.{silent-stays, silent-unread}
 use Rattle.usb_world.specs.declared.types.Attempt.{Attempt}
 use Rattle.usb_world.specs.declared.types.BusFault.TheVariants.{LimitReached}
@@ -31,12 +31,12 @@ use Rattle.usb_world.specs.Exchange.{token_of, payload_of, reply_of, answer_mark
 use Rattle.usb_world.specs.AttemptPackets.{heard_by, deep_at, attempt_resets, IsSettled, NobodyHolds}
 use Rattle.usb_world.specs.World.{World, Made}
 use Rattle.usb_world.specs.Courses.{is_made, resets}
-use Rattle.usb_world.specs.Steps.{AnyStep, ready, damage_in, with_attempt, outcome_in, attempt, after}
+use Rattle.usb_world.specs.Steps.{AnyStep, at_attempt, damage_in, with_attempt, outcome_in, attempt, after}
 use Rattle.usb_world.specs.OneHolder.{way_to, way_back, token_way, answer_way, reply_way, out_alone, in_alone, IsSetup, IsOut, IsIn, hears_attempt, IsMade, HolderIn, payload_way, got}
-use Rattle.usb_world.proofs.Booleans.{no, neither}
+use Rattle.usb_world.proofs.Booleans.{false_true, neither}
 use Rattle.usb_world.proofs.StepInvariants.{settled_steps}
 use Rattle.usb_world.proofs.LiftedSteps.{over_ready, made_sound}
-use Rattle.usb_world.proofs.OneHolder.{replied, outcome_unread, remembers, acts, rests, first, second, third, second_below, is_heard_in, is_state, token_is, none_is, in_same, asked, asked_reply, nobody, setup_one, out_one, in_one, setup_alone, Holder, ExchangedWithHolder}
+use Rattle.usb_world.proofs.OneHolder.{replied, outcome_unread, remembers, acts, rests, first, second, third, second_below, is_heard_in, is_state, token_of-fields, none_is, in_same, asked, asked_reply, nobody, setup_one, out_one, in_one, setup_alone, Holder, ExchangedWithHolder}
 use Rattle.usb_world.proofs.Equality.{unequal, same_equal}
 use Rattle.usb_world.proofs.DueEvents.{ready_beside}
 
@@ -97,7 +97,7 @@ sound_packet a n p deep s h = ap (λ x. if x then whole else lost) h
 
 sound_some : (a : Attempt) (n : ℕ) (o : Option Packet) (deep : Bool) (s : State) → hears_attempt a deep s ≡ true → is_some o ≡ true → way_to deep s (goes_out a (marked_some None n a.pre o)) ≡ whole
 unfolding marked_some
-sound_some a n None deep s h g = no g
+sound_some a n None deep s h g = false_true g
 sound_some a n (Some p) deep s h g = sound_packet a n p deep s h
 
 payload_some : (a : Attempt) → is_some a.payload ≡ true → is_some (payload_of a) ≡ true
@@ -166,7 +166,7 @@ module _ (a : Attempt) (k : Ports) (h : Holder a.addr k) (loud : h.own.spec.sile
       own = through (token_way a None (deep_at false p) s) s (row_of below) (Token InTok s.registers.address a.ep)
 
       of_token : token_of a ≡ Token InTok s.registers.address a.ep
-      of_token = token_is a InTok s.registers.address a.ep i.kind (sym h.at) refl
+      of_token = token_of-fields a InTok s.registers.address a.ep i.kind (sym h.at) refl
 
       due_of : (g : Bool) → g ≡ true → is_some (if g then Some packet.Ack else None) ≡ true
       due_of true c = refl
@@ -179,20 +179,20 @@ module _ (a : Attempt) (k : Ports) (h : Holder a.addr k) (loud : h.own.spec.sile
 
 -- Worlds
 
-pub ready_settled : (w : World) → IsSettled w.roots → IsSettled (ready w).roots
+pub ready_settled : (w : World) → IsSettled w.roots → IsSettled (at_attempt w).roots
 ready_settled = over_ready (settled_steps {K = AnyStep}).events
 
-pub made_is : (a : Attempt) (w : World) → IsMade a w → after (attempt a) w ≡ with_attempt a (ready w)
+pub made_is : (a : Attempt) (w : World) → IsMade a w → after (attempt a) w ≡ with_attempt a (at_attempt w)
 unfolding after
 made_is a w m = rw (m.sound, unequal w.attempts w.limit m.within) refl
 
-pub at_limit : (a : Attempt) (w : World) → w.fault ≡ None → w.attempts ≡ w.limit → (after (attempt a) w).fault ≡ Some LimitReached
+pub after-limit_fault : (a : Attempt) (w : World) → w.fault ≡ None → w.attempts ≡ w.limit → (after (attempt a) w).fault ≡ Some LimitReached
 unfolding after
-at_limit a w s e = rw (s, same_equal w.attempts w.limit e) refl
+after-limit_fault a w s e = rw (s, same_equal w.attempts w.limit e) refl
 
 -- an attempt that ends well was made
 pub made_of : (a : Attempt) (w : World) → IsSettled w.roots → Made w (after (attempt a) w) → IsMade a w
-made_of a w h m = record { sound = m.sound; within = λ e. no (ap is_some (sym m.still ∙ at_limit a w m.sound e)); settled = h }
+made_of a w h m = record { sound = m.sound; within = λ e. false_true (ap is_some (sym m.still ∙ after-limit_fault a w m.sound e)); settled = h }
 
 pub made_true : (a : Attempt) (w : World) → IsMade a w → is_made w.fault w ≡ true
 made_true a w m = rw (m.sound, unequal w.attempts w.limit m.within) refl
@@ -208,67 +208,67 @@ made_here a w made settled = record {
   settled = settled;
 }
 
-pub damage_ready : (w : World) → damage_in (ready w) ≡ damage_in w
+pub damage_ready : (w : World) → damage_in (at_attempt w) ≡ damage_in w
 damage_ready w = ap damage_in (ready_beside w)
 
-pub nobody_in : (a : Attempt) (w : World) → IsMade a w → NobodyHolds a.addr (ready w).roots → (outcome_in a w ≡ outcome.Nothing) × ((after (attempt a) w).roots ≡ (ready w).roots)
+pub nobody_in : (a : Attempt) (w : World) → IsMade a w → NobodyHolds a.addr (at_attempt w).roots → (outcome_in a w ≡ outcome.Nothing) × ((after (attempt a) w).roots ≡ (at_attempt w).roots)
 unfolding outcome_in with_attempt
 nobody_in a w m n =
-    let r : _ = nobody a (damage_in (ready w)) (ready w).roots (ready_settled w m.settled) n in
+    let r : _ = nobody a (damage_in (at_attempt w)) (at_attempt w).roots (ready_settled w m.settled) n in
     (r.0, ap (λ v. v.roots) (made_is a w m) ∙ r.1)
 
 module _ (a : Attempt) (w : World) (h : HolderIn a w) where
   open h use {spot.{row as j, rest as p}, own as s, below}
 
-  pub unshared : is_twice (held (ready w).roots) ≡ false
+  pub unshared : repeats (held_addresses (at_attempt w).roots) ≡ false
   unfolding with_attempt
-  unshared = (neither (ready w).shared (is_twice (held (ready w).roots)) (sym (ap (λ v. v.shared) (made_is a w h.made)) ∙ h.single)).1
+  unshared = (neither (at_attempt w).shared (repeats (held_addresses (at_attempt w).roots)) (sym (ap (λ v. v.shared) (made_is a w h.made)) ∙ h.single)).1
 
-  abbrev pub holder_in : Holder a.addr (ready w).roots
+  abbrev pub holder_in : Holder a.addr (at_attempt w).roots
   holder_in = record { settled = ready_settled w h.made.settled; single = unshared; found = h.found }
 
-  pub exchanged_in : (r : Reply) → ExchangedWithHolder a (damage_in (ready w)) (ready w).roots holder_in r → ExchangedIn a w h r
+  pub exchanged_in : (r : Reply) → ExchangedWithHolder a (damage_in (at_attempt w)) (at_attempt w).roots holder_in r → ExchangedIn a w h r
   unfolding outcome_in with_attempt
   exchanged_in r x = record { outcome = x.outcome; state = ap (λ v. state_at v.roots j p) (made_is a w h.made) ∙ x.state }
 
   pub setup_in : s.spec.silent ≡ false → (bytes : List ℕ) → IsSetup a bytes
-      → ExchangedIn a w h (setup_alone a (damage_in (ready w)) (ready w).roots (deep_at false p) s (row_of below) bytes)
+      → ExchangedIn a w h (setup_alone a (damage_in (at_attempt w)) (at_attempt w).roots (deep_at false p) s (row_of below) bytes)
   setup_in loud bytes i =
-      exchanged_in (setup_alone a (damage_in (ready w)) (ready w).roots (deep_at false p) s (row_of below) bytes)
-      (setup_one a (damage_in (ready w)) (ready w).roots holder_in loud bytes i)
+      exchanged_in (setup_alone a (damage_in (at_attempt w)) (at_attempt w).roots (deep_at false p) s (row_of below) bytes)
+      (setup_one a (damage_in (at_attempt w)) (at_attempt w).roots holder_in loud bytes i)
 
   pub out_in : s.spec.silent ≡ false → (t : Toggle) (bytes : List ℕ) → IsOut a t bytes
-      → ExchangedIn a w h (out_alone a (damage_in (ready w)) (ready w).roots (deep_at false p) s t bytes)
+      → ExchangedIn a w h (out_alone a (damage_in (at_attempt w)) (at_attempt w).roots (deep_at false p) s t bytes)
   out_in loud t bytes i =
-      exchanged_in (out_alone a (damage_in (ready w)) (ready w).roots (deep_at false p) s t bytes)
-      (out_one a (damage_in (ready w)) (ready w).roots holder_in loud t bytes i)
+      exchanged_in (out_alone a (damage_in (at_attempt w)) (at_attempt w).roots (deep_at false p) s t bytes)
+      (out_one a (damage_in (at_attempt w)) (at_attempt w).roots holder_in loud t bytes i)
 
-  pub in_in : s.spec.silent ≡ false → IsIn a → ExchangedIn a w h (in_alone a (damage_in (ready w)) (ready w).roots (deep_at false p) s (row_of below))
+  pub in_in : s.spec.silent ≡ false → IsIn a → ExchangedIn a w h (in_alone a (damage_in (at_attempt w)) (at_attempt w).roots (deep_at false p) s (row_of below))
   in_in loud i =
-      exchanged_in (in_alone a (damage_in (ready w)) (ready w).roots (deep_at false p) s (row_of below))
-      (in_one a (damage_in (ready w)) (ready w).roots holder_in loud i)
+      exchanged_in (in_alone a (damage_in (at_attempt w)) (at_attempt w).roots (deep_at false p) s (row_of below))
+      (in_one a (damage_in (at_attempt w)) (at_attempt w).roots holder_in loud i)
 
   pub silent_in : s.spec.silent ≡ true → ExchangedIn a w h (None, s)
-  silent_in silent = exchanged_in (None, s) (silent_one a (damage_in (ready w)) (ready w).roots holder_in silent)
+  silent_in silent = exchanged_in (None, s) (silent_one a (damage_in (at_attempt w)) (at_attempt w).roots holder_in silent)
 
-  pub others_in : (i : ℕ) (e : List ℕ) (v : State) → (same_number i j && same_path e p) ≡ false → state_at (ready w).roots i e ≡ Some v
+  pub others_in : (i : ℕ) (e : List ℕ) (v : State) → (same_number i j && same_path e p) ≡ false → state_at (at_attempt w).roots i e ≡ Some v
       → state_at (after (attempt a) w).roots i e ≡ Some (reset_if (resets (attempt a) w (suc i ∷ e)) v)
   unfolding with_attempt resets
   others_in i e v differ stands_there =
       ap (λ x. state_at x.roots i e) (made_is a w h.made)
-      ∙ others_one a (damage_in (ready w)) (ready w).roots holder_in i e v differ stands_there
-      ∙ ap (λ x. Some (reset_if (x && attempt_resets (token_out a (damage_in (ready w))) (payload_out a (damage_in (ready w))) (ready w).roots i e) v)) (sym (made_true a w h.made))
+      ∙ others_one a (damage_in (at_attempt w)) (at_attempt w).roots holder_in i e v differ stands_there
+      ∙ ap (λ x. Some (reset_if (x && attempt_resets (token_out a (damage_in (at_attempt w))) (payload_out a (damage_in (at_attempt w))) (at_attempt w).roots i e) v)) (sym (made_true a w h.made))
 
   module _ (loud : s.spec.silent ≡ false) (hears_it : hears_attempt a (deep_at false p) s ≡ true) (none : damage_in w ≡ None) where
-    undamaged_in : (r : Reply) → ExchangedWithHolder a None (ready w).roots holder_in r → ExchangedIn a w h r
-    undamaged_in r x = exchanged_in r (subst (λ d. ExchangedWithHolder a d (ready w).roots holder_in r) (sym (damage_ready w ∙ none)) x)
+    undamaged_in : (r : Reply) → ExchangedWithHolder a None (at_attempt w).roots holder_in r → ExchangedIn a w h r
+    undamaged_in r x = exchanged_in r (subst (λ d. ExchangedWithHolder a d (at_attempt w).roots holder_in r) (sym (damage_ready w ∙ none)) x)
 
     pub setup_sound_in : (bytes : List ℕ) → IsSetup a bytes → ExchangedIn a w h (Some answer.Ack, accepted s (row_of below) (setup_of bytes))
-    setup_sound_in bytes i = undamaged_in (Some answer.Ack, accepted s (row_of below) (setup_of bytes)) (setup_sound a (ready w).roots holder_in loud hears_it bytes i)
+    setup_sound_in bytes i = undamaged_in (Some answer.Ack, accepted s (row_of below) (setup_of bytes)) (setup_sound a (at_attempt w).roots holder_in loud hears_it bytes i)
 
     pub out_sound_in : (t : Toggle) (bytes : List ℕ) → IsOut a t bytes → ExchangedIn a w h ((data_row s a.ep t bytes).0, forgotten (data_row s a.ep t bytes).1)
     out_sound_in t bytes i =
-        undamaged_in ((data_row s a.ep t bytes).0, forgotten (data_row s a.ep t bytes).1) (out_sound a (ready w).roots holder_in loud hears_it t bytes i)
+        undamaged_in ((data_row s a.ep t bytes).0, forgotten (data_row s a.ep t bytes).1) (out_sound a (at_attempt w).roots holder_in loud hears_it t bytes i)
 
     pub in_sound_in : IsIn a → ExchangedIn a w h (in_law s (row_of below) a.ep a.max whole whole whole)
-    in_sound_in i = undamaged_in (in_law s (row_of below) a.ep a.max whole whole whole) (in_sound a (ready w).roots holder_in loud hears_it i)
+    in_sound_in i = undamaged_in (in_law s (row_of below) a.ep a.max whole whole whole) (in_sound a (at_attempt w).roots holder_in loud hears_it i)

@@ -33,16 +33,16 @@ use Rattle.usb_world.specs.Paths.{address_of}
 use Rattle.usb_world.specs.Exchange.{token_of, payload_of, reply_of, sent_as, goes_out, token_out, payload_out, reply_out, heard_in, mark_in, place_of_answer, ports_in}
 use Rattle.usb_world.specs.AttemptPackets.{deep_at, IsSettled, NobodyHolds, OneHolds}
 use Rattle.usb_world.specs.World.{World}
-use Rattle.usb_world.specs.Steps.{ready, damage_in, with_attempt, attempt, after}
+use Rattle.usb_world.specs.Steps.{at_attempt, damage_in, with_attempt, attempt, after}
 use Rattle.usb_world.specs.OneHolder.{way_to, token_way, payload_way, IsSetup, IsOut, IsIn, HolderIn, out_alone, in_alone, setup_asked}
-use Rattle.usb_world.proofs.Booleans.{no, both, and_of, decided}
-use Rattle.usb_world.proofs.Holders.{one_path}
+use Rattle.usb_world.proofs.Booleans.{false_true, both, and_of, decided}
+use Rattle.usb_world.proofs.Holders.{is_twice-one_path}
 use Rattle.usb_world.proofs.AttemptPackets.{CalmOut, token_out as token_calm, ack_out as ack_calm}
 use Rattle.usb_world.proofs.AttemptPackets.{forgotten_at, forgotten_off}
 use Rattle.usb_world.proofs.StepInvariants.{settled_called}
 use Rattle.usb_world.proofs.OneDevice.{rest_packet, settled_memory, stands, place_after}
 use Rattle.usb_world.proofs.Courses.{goes}
-use Rattle.usb_world.proofs.OneHolder.{holder_holds, acts, rests, ports_by, sent_stands, first, first_below, second, second_below, third, second_place, is_state, token_is, data_is, none_is, token_comes, no_payload, through_spec, way_same, setup_one, out_one, in_one, setup_alone, Holder, ExchangedWithHolder}
+use Rattle.usb_world.proofs.OneHolder.{holder_holds, acts, rests, ports_by, sent_stands, first, first_below, second, second_below, third, second_place, is_state, token_of-fields, data_is, none_is, token_comes, no_payload, through_spec, way_same, setup_one, out_one, in_one, setup_alone, Holder, ExchangedWithHolder}
 use Rattle.usb_world.proofs.OneHolderAttempts.{first_silent, silent_one, made_is, holder_in}
 use Rattle.usb_world.proofs.Equality.{equal_same}
 use Rattle.usb_device.proofs.Interface.{same_number}
@@ -50,35 +50,35 @@ use Rattle.usb_world.proofs.PacketPlaces.{place_after_sent}
 
 -- What stands below the holder
 
-abbrev ports_there : Option Place → Ports
-ports_there None = ended
-ports_there (Some (empty b)) = ended
-ports_there (Some (full b s a)) = a
+abbrev ports_below_place : Option Place → Ports
+ports_below_place None = ended
+ports_below_place (Some (empty b)) = ended
+ports_below_place (Some (full b s a)) = a
 
 below_settled : (k : Ports) (j : ℕ) (p : List ℕ) (b : PortState) (s : State) (below : Ports) → IsSettled k → place_at k j p ≡ Some (full b s below) → IsSettled below
 below_settled k j p b s below h e =
-    ap ports_there (sym (ap (option_map forgotten_place) e) ∙ sym (forgotten_at k j p) ∙ ap (λ x. place_at x j p) h ∙ e)
+    ap ports_below_place (sym (ap (option_map forgotten_place) e) ∙ sym (forgotten_at k j p) ∙ ap (λ x. place_at x j p) h ∙ e)
 
 deeper_state : (k : Ports) (j : ℕ) (p : List ℕ) (b : PortState) (s : State) (below : Ports) → place_at k j p ≡ Some (full b s below) → (i : ℕ) (e : List ℕ)
     → state_at k j (p ++ (suc i ∷ e)) ≡ state_at below i e
 unfolding place_at state_at
-deeper_state ended j p b s below h i e = no (ap is_some h)
-deeper_state (vacant c k) zero [] b s below h i e = no (ap (λ x. is_some (stands x)) h)
-deeper_state (vacant c k) zero (n ∷ p) b s below h i e = no (ap is_some h)
+deeper_state ended j p b s below h i e = false_true (ap is_some h)
+deeper_state (vacant c k) zero [] b s below h i e = false_true (ap (λ x. is_some (stands x)) h)
+deeper_state (vacant c k) zero (n ∷ p) b s below h i e = false_true (ap is_some h)
 deeper_state (vacant c k) (suc j) p b s below h i e = deeper_state k j p b s below h i e
-deeper_state (taken c t a k) zero [] b s below h i e = ap (λ x. state_at (ports_there x) i e) h
-deeper_state (taken c t a k) zero (zero ∷ p) b s below h i e = no (ap is_some h)
+deeper_state (taken c t a k) zero [] b s below h i e = ap (λ x. state_at (ports_below_place x) i e) h
+deeper_state (taken c t a k) zero (zero ∷ p) b s below h i e = false_true (ap is_some h)
 deeper_state (taken c t a k) zero (suc j ∷ p) b s below h i e = deeper_state a j p b s below h i e
 deeper_state (taken c t a k) (suc j) p b s below h i e = deeper_state k j p b s below h i e
 
 deeper_reach : (k : Ports) (j : ℕ) (p : List ℕ) (b : PortState) (s : State) (below : Ports) → place_at k j p ≡ Some (full b s below) → (i : ℕ) (e : List ℕ)
     → reach_at k j p ≡ true → reach_at below i e ≡ true → reach_at k j (p ++ (suc i ∷ e)) ≡ true
 unfolding place_at reach_at
-deeper_reach ended j p b s below h i e on o = no (ap is_some h)
-deeper_reach (vacant c k) zero p b s below h i e on o = no on
+deeper_reach ended j p b s below h i e on o = false_true (ap is_some h)
+deeper_reach (vacant c k) zero p b s below h i e on o = false_true on
 deeper_reach (vacant c k) (suc j) p b s below h i e on o = deeper_reach k j p b s below h i e on o
-deeper_reach (taken c t a k) zero [] b s below h i e on o = and_of c.enable _ on (ap (λ x. reach_at (ports_there x) i e) h ∙ o)
-deeper_reach (taken c t a k) zero (zero ∷ p) b s below h i e on o = no on
+deeper_reach (taken c t a k) zero [] b s below h i e on o = and_of c.enable _ on (ap (λ x. reach_at (ports_below_place x) i e) h ∙ o)
+deeper_reach (taken c t a k) zero (zero ∷ p) b s below h i e on o = false_true on
 deeper_reach (taken c t a k) zero (suc j ∷ p) b s below h i e on o =
     let x : _ = both c.enable (reach_at a j p) on in
     and_of c.enable _ x.0 (deeper_reach a j p b s below h i e x.1 o)
@@ -92,18 +92,18 @@ abbrev rest_of : List ℕ → List ℕ
 rest_of [] = []
 rest_of (n ∷ p) = p
 
-longer : (p : List ℕ) (n : ℕ) (e : List ℕ) → p ≡ p ++ (n ∷ e) → ⊥
-longer [] n e h = no (ap is_longer h)
-longer (m ∷ p) n e h = longer p n e (ap rest_of h)
+path_not_longer : (p : List ℕ) (n : ℕ) (e : List ℕ) → p ≡ p ++ (n ∷ e) → ⊥
+path_not_longer [] n e h = false_true (ap is_longer h)
+path_not_longer (m ∷ p) n e h = path_not_longer p n e (ap rest_of h)
 
 below_nobody : (n : ℕ) (k : Ports) (j : ℕ) (p : List ℕ) (b : PortState) (s : State) (below : Ports) → OneHolds n k (record { row = j; rest = p }) → place_at k j p ≡ Some (full b s below) → NobodyHolds n below
 below_nobody n k j p b s below o h i e t at on = pick (decided (n == address_of t))
   where
     pick : ((n == address_of t) ≡ true) ⊎ ((n == address_of t) ≡ false) → (n == address_of t) ≡ false
     pick (inl y) =
-        let same : _ = one_path k j (p ++ (suc i ∷ e)) j p n o.single (deeper_reach k j p b s below h i e o.on on)
+        let same : _ = is_twice-one_path k j (p ++ (suc i ∷ e)) j p n o.single (deeper_reach k j p b s below h i e o.on on)
         (ap (option_map address_of) (deeper_state k j p b s below h i e ∙ at) ∙ ap (λ x. Some x) (sym (equal_same n (address_of t) y))) o.on o.at in
-        elim (longer p (suc i) e (sym same.1)) [ ]
+        elim (path_not_longer p (suc i) e (sym same.1)) [ ]
     pick (inr y) = y
 
 -- Packets that are not for those below
@@ -137,7 +137,7 @@ no_token (Some (Token kind n e)) = false
 no_token o = true
 
 no_token_rests : (o : Option Packet) → no_token o ≡ true → (x : Ports) → (p : Packet) → o ≡ Some p → ForNobody p x
-no_token_rests o h x (Token kind n e) is i u t at on = no (sym (ap no_token is) ∙ h)
+no_token_rests o h x (Token kind n e) is i u t at on = false_true (sym (ap no_token is) ∙ h)
 no_token_rests o h x (packet.Payload toggle bytes) is i u t at on = refl
 no_token_rests o h x packet.Ack is i u t at on = refl
 no_token_rests o h x (packet.Sof f) is i u t at on = refl
@@ -225,9 +225,9 @@ silent_asked (Some q) deep s h = elim (is_heard q deep s.spec.low) as (λ x. (if
 -- data after a token
 
 -- a device that remembers nothing asks nothing
-quiet_asks : (s : State) (t : Toggle) (bytes : ArrayVec ℕ) → s.memory ≡ memory.Nothing → asks s (packet.Payload t bytes) ≡ Leaves
+payload_asks-leaves : (s : State) (t : Toggle) (bytes : ArrayVec ℕ) → s.memory ≡ memory.Nothing → asks s (packet.Payload t bytes) ≡ Leaves
 unfolding asks
-quiet_asks s t bytes n = elim s.spec.silent as (λ x. (if x then Leaves else asked_by_packet s (packet.Payload t bytes)) ≡ Leaves) [ true ↦ refl | false ↦ rw n refl ]
+payload_asks-leaves s t bytes n = elim s.spec.silent as (λ x. (if x then Leaves else asked_by_packet s (packet.Payload t bytes)) ≡ Leaves) [ true ↦ refl | false ↦ rw n refl ]
 
 unread_rests : (s : State) → s.memory ≡ memory.Nothing → (unread s).memory ≡ memory.Nothing
 unfolding unread
@@ -254,20 +254,20 @@ asked_setup : (s : State) (row : List PortState) → s.spec.silent ≡ false →
 asked_setup s row loud n bytes len whole whole = ap (λ r. asks r.1 (packet.Payload Zero (record { items = bytes }))) (setup_seen s row loud) ∙ setup_asks s bytes loud len
 asked_setup s row loud n bytes len whole broken = refl
 asked_setup s row loud n bytes len whole lost = refl
-asked_setup s row loud n bytes len broken whole = quiet_asks (unread s) Zero (record { items = bytes }) (unread_rests s n)
+asked_setup s row loud n bytes len broken whole = payload_asks-leaves (unread s) Zero (record { items = bytes }) (unread_rests s n)
 asked_setup s row loud n bytes len broken broken = refl
 asked_setup s row loud n bytes len broken lost = refl
-asked_setup s row loud n bytes len lost whole = quiet_asks s Zero (record { items = bytes }) n
+asked_setup s row loud n bytes len lost whole = payload_asks-leaves s Zero (record { items = bytes }) n
 asked_setup s row loud n bytes len lost broken = refl
 asked_setup s row loud n bytes len lost lost = refl
 
-asked_out : (s : State) (row : List PortState) → s.spec.silent ≡ false → s.memory ≡ memory.Nothing → (e : ℕ) (t : Toggle) (bytes : List ℕ) → (x y : Way)
+asked_through-out : (s : State) (row : List PortState) → s.spec.silent ≡ false → s.memory ≡ memory.Nothing → (e : ℕ) (t : Toggle) (bytes : List ℕ) → (x y : Way)
     → asked_through y (through x s row (Token OutTok s.registers.address e)).1 (packet.Payload t (record { items = bytes })) ≡ Leaves
-asked_out s row loud n e t bytes whole whole = ap (λ r. asks r.1 (packet.Payload t (record { items = bytes }))) (out_seen s row e loud) ∙ out_asks s e t bytes loud
-asked_out s row loud n e t bytes broken whole = quiet_asks (unread s) t (record { items = bytes }) (unread_rests s n)
-asked_out s row loud n e t bytes lost whole = quiet_asks s t (record { items = bytes }) n
-asked_out s row loud n e t bytes x broken = refl
-asked_out s row loud n e t bytes x lost = refl
+asked_through-out s row loud n e t bytes whole whole = ap (λ r. asks r.1 (packet.Payload t (record { items = bytes }))) (out_seen s row e loud) ∙ out_asks s e t bytes loud
+asked_through-out s row loud n e t bytes broken whole = payload_asks-leaves (unread s) t (record { items = bytes }) (unread_rests s n)
+asked_through-out s row loud n e t bytes lost whole = payload_asks-leaves s t (record { items = bytes }) n
+asked_through-out s row loud n e t bytes x broken = refl
+asked_through-out s row loud n e t bytes x lost = refl
 
 module _ (a : Attempt) (d : Option Damage) (k : Ports) (h : Holder a.addr k) where
   open h use {spot.{row as j, rest as p}, port as b, own as s, below}
@@ -341,13 +341,13 @@ module _ (a : Attempt) (d : Option Damage) (k : Ports) (h : Holder a.addr k) whe
 
   setup_effect : s.spec.silent ≡ false → (bytes : List ℕ) → IsSetup a bytes → effect ≡ setup_asked a d (deep_at false p) s bytes
   setup_effect loud bytes i =
-      sent_effect (Token SetupTok s.registers.address 0) (packet.Payload Zero (record { items = bytes })) (token_is a SetupTok s.registers.address 0 i.kind (sym h.at) i.ep) (data_is a Zero (record { items = bytes }) i.payload)
+      sent_effect (Token SetupTok s.registers.address 0) (packet.Payload Zero (record { items = bytes })) (token_of-fields a SetupTok s.registers.address 0 i.kind (sym h.at) i.ep) (data_is a Zero (record { items = bytes }) i.payload)
       ∙ asked_setup s row loud remembers_nothing bytes i.whole t1 t2
 
   out_effect : s.spec.silent ≡ false → (t : Toggle) (bytes : List ℕ) → IsOut a t bytes → effect ≡ Leaves
   out_effect loud t bytes i =
-      sent_effect (Token OutTok s.registers.address a.ep) (packet.Payload t (record { items = bytes })) (token_is a OutTok s.registers.address a.ep i.kind (sym h.at) refl) (data_is a t (record { items = bytes }) i.payload)
-      ∙ asked_out s row loud remembers_nothing a.ep t bytes t1 t2
+      sent_effect (Token OutTok s.registers.address a.ep) (packet.Payload t (record { items = bytes })) (token_of-fields a OutTok s.registers.address a.ep i.kind (sym h.at) refl) (data_is a t (record { items = bytes }) i.payload)
+      ∙ asked_through-out s row loud remembers_nothing a.ep t bytes t1 t2
 
   in_effect : IsIn a → effect ≡ Leaves
   in_effect i = ap (λ o. asked_of o (deep_at false p) (first a d k h).1) (no_payload a d (none_is a i.payload))
@@ -378,31 +378,31 @@ module _ (a : Attempt) (d : Option Damage) (k : Ports) (h : Holder a.addr k) whe
 module _ (a : Attempt) (w : World) (h : HolderIn a w) where
   open h use {spot.{row as j, rest as p}, port as b, own as s, below}
 
-  abbrev there : Holder a.addr (ready w).roots
+  abbrev there : Holder a.addr (at_attempt w).roots
   there = holder_in a w h
 
-  world_place : (x : Option Place) → place_at (ports_in a (damage_in (ready w)) (ready w).roots) j p ≡ x → place_at (after (attempt a) w).roots j p ≡ x
+  world_place : (x : Option Place) → place_at (ports_in a (damage_in (at_attempt w)) (at_attempt w).roots) j p ≡ x → place_at (after (attempt a) w).roots j p ≡ x
   unfolding with_attempt
   world_place x e = ap (λ v. place_at v.roots j p) (made_is a w h.made) ∙ e
 
   pub setup_place_in : s.spec.silent ≡ false → (bytes : List ℕ) → IsSetup a bytes
       → place_at (after (attempt a) w).roots j p
-      ≡ Some (full b (setup_alone a (damage_in (ready w)) (ready w).roots (deep_at false p) s (row_of below) bytes).1 (acted (setup_asked a (damage_in (ready w)) (deep_at false p) s bytes) below))
+      ≡ Some (full b (setup_alone a (damage_in (at_attempt w)) (at_attempt w).roots (deep_at false p) s (row_of below) bytes).1 (acted (setup_asked a (damage_in (at_attempt w)) (deep_at false p) s bytes) below))
   setup_place_in loud bytes i =
-      world_place (Some (full b (setup_alone a (damage_in (ready w)) (ready w).roots (deep_at false p) s (row_of below) bytes).1 (acted (setup_asked a (damage_in (ready w)) (deep_at false p) s bytes) below)))
-      (setup_place a (damage_in (ready w)) (ready w).roots there loud bytes i)
+      world_place (Some (full b (setup_alone a (damage_in (at_attempt w)) (at_attempt w).roots (deep_at false p) s (row_of below) bytes).1 (acted (setup_asked a (damage_in (at_attempt w)) (deep_at false p) s bytes) below)))
+      (setup_place a (damage_in (at_attempt w)) (at_attempt w).roots there loud bytes i)
 
   pub out_place_in : s.spec.silent ≡ false → (t : Toggle) (bytes : List ℕ) → IsOut a t bytes
-      → place_at (after (attempt a) w).roots j p ≡ Some (full b (out_alone a (damage_in (ready w)) (ready w).roots (deep_at false p) s t bytes).1 below)
+      → place_at (after (attempt a) w).roots j p ≡ Some (full b (out_alone a (damage_in (at_attempt w)) (at_attempt w).roots (deep_at false p) s t bytes).1 below)
   out_place_in loud t bytes i =
-      world_place (Some (full b (out_alone a (damage_in (ready w)) (ready w).roots (deep_at false p) s t bytes).1 below))
-      (out_place a (damage_in (ready w)) (ready w).roots there loud t bytes i)
+      world_place (Some (full b (out_alone a (damage_in (at_attempt w)) (at_attempt w).roots (deep_at false p) s t bytes).1 below))
+      (out_place a (damage_in (at_attempt w)) (at_attempt w).roots there loud t bytes i)
 
   pub in_place_in : s.spec.silent ≡ false → IsIn a
-      → place_at (after (attempt a) w).roots j p ≡ Some (full b (in_alone a (damage_in (ready w)) (ready w).roots (deep_at false p) s (row_of below)).1 below)
+      → place_at (after (attempt a) w).roots j p ≡ Some (full b (in_alone a (damage_in (at_attempt w)) (at_attempt w).roots (deep_at false p) s (row_of below)).1 below)
   in_place_in loud i =
-      world_place (Some (full b (in_alone a (damage_in (ready w)) (ready w).roots (deep_at false p) s (row_of below)).1 below))
-      (in_place a (damage_in (ready w)) (ready w).roots there loud i)
+      world_place (Some (full b (in_alone a (damage_in (at_attempt w)) (at_attempt w).roots (deep_at false p) s (row_of below)).1 below))
+      (in_place a (damage_in (at_attempt w)) (at_attempt w).roots there loud i)
 
   pub silent_place_in : s.spec.silent ≡ true → place_at (after (attempt a) w).roots j p ≡ Some (full b s below)
-  silent_place_in silent = world_place (Some (full b s below)) (silent_place a (damage_in (ready w)) (ready w).roots there silent)
+  silent_place_in silent = world_place (Some (full b s below)) (silent_place a (damage_in (at_attempt w)) (at_attempt w).roots there silent)

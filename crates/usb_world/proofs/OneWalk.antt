@@ -14,7 +14,7 @@ use Rattle.usb_device.specs.Tree.{Ports, ended, vacant, taken, Plugged, Place, e
 use Rattle.usb_device.specs.Delivery.{taken_sent, all_forgotten, heard_of, heard_from, both, has_loss, asks_clearing}
 use Rattle.usb_device.specs.Holders.{keeps_others}
 use Rattle.usb_device.specs.Route.{answer_by, effect_by, RefusedBy, forgotten_in, address_by}
-use Rattle.usb_device.specs.AloneAttempts.{token_sent, ack_sent, sent_to, answer_from, asked_from, RefusedFrom, is_taken, after_token, after_data, heard_of_both, acknowledges, after_reply, side_of, heard_at, side_at, RefusedAt, left_in, cut_in}
+use Rattle.usb_device.specs.AloneAttempts.{token_sent, ack_sent, after_packet_at, answer_from, asked_from, RefusedFrom, takes_data, after_token, after_data, heard_of_both, acknowledges, after_reply, side_of, heard_at, side_at, RefusedAt, left_in, cut_in}
 use Rattle.usb_device.proofs.Interface.{changed_at-twice, heard_of-append, figure-after, row_of-after}
 use Rattle.usb_world.specs.declared.types.Attempt.{Attempt}
 use Rattle.usb_world.specs.declared.exchange.Exchange.{Exchange}
@@ -31,7 +31,7 @@ use Rattle.usb_world.specs.HeardAnswers.{heard_above}
 use Rattle.usb_world.specs.HostSides.{host_side, keeps_address}
 use Rattle.usb_world.specs.LonePackets.{Alone, AloneAt, IsQuiet, KeptAt, is_whole_tree, is_deep}
 use Rattle.usb_world.specs.Steps.{IsCut}
-use Rattle.usb_world.proofs.Booleans.{no, both as both_true}
+use Rattle.usb_world.proofs.Booleans.{false_true, both as both_true}
 use Rattle.usb_world.proofs.Exchanges.{heard_all_of, plugged_further, over_plugged, over_settled}
 use Rattle.usb_world.proofs.OneDevice.{others_answer}
 use Rattle.usb_world.proofs.Routes.{plugged_on, plugged_place, heard_place_by, others_clear, others_loss, others_forget, others_rest, others_stop, loss_by, alone_sent}
@@ -57,38 +57,38 @@ changed_at-there f g (taken b s a k) (suc j) p x at e =
 
 -- ---- one packet at the device
 
-abbrev place_of : PortState → Plugged → Place
-place_of b t = full b t.own t.ports
+abbrev place_plugged : PortState → Plugged → Place
+place_plugged b t = full b t.own t.ports
 
-step_is : (o : Option Sent) (deep : Bool) (b : PortState) (t : Plugged)
-    → step_in o deep (place_of b t) ≡ place_of b (sent_to o deep t)
-step_is None deep b t = refl
-step_is (Some q) deep b t = refl
+step_in-plugged : (o : Option Sent) (deep : Bool) (b : PortState) (t : Plugged)
+    → step_in o deep (place_plugged b t) ≡ place_plugged b (after_packet_at o deep t)
+step_in-plugged None deep b t = refl
+step_in-plugged (Some q) deep b t = refl
 
 module _ (o : Option Sent) (k : Ports) (j : ℕ) (p : List ℕ) (b : PortState) (t : Plugged)
-    (alone : Alone o k (record { row = j; rest = p })) (at : place_at k j p ≡ Some (place_of b t))
+    (alone : Alone o k (record { row = j; rest = p })) (at : place_at k j p ≡ Some (place_plugged b t))
   where
-    there_then : place_at (after_sent o k) j p ≡ Some (place_of b (sent_to o (deep_at false p) t))
+    there_then : place_at (after_sent o k) j p ≡ Some (place_plugged b (after_packet_at o (deep_at false p) t))
     there_then =
         ap (λ x. place_at x j p) (sent_one o k j p alone)
         ∙ place_at-changed (step_in o (deep_at false p)) k j p
         ∙ ap (option_map (step_in o (deep_at false p))) at
-        ∙ ap (λ x. Some x) (step_is o (deep_at false p) b t)
+        ∙ ap (λ x. Some x) (step_in-plugged o (deep_at false p) b t)
 
     plugged_there : plugged_at k j p ≡ Some t
     plugged_there = sym (plugged_place k j p) ∙ ap plugged_on at
 
-heard_one : (o : Option Sent) (k : Ports) (j : ℕ) (p : List ℕ) (b : PortState) (t : Plugged)
-    → Alone o k (record { row = j; rest = p }) → place_at k j p ≡ Some (place_of b t)
+heard_of-alone : (o : Option Sent) (k : Ports) (j : ℕ) (p : List ℕ) (b : PortState) (t : Plugged)
+    → Alone o k (record { row = j; rest = p }) → place_at k j p ≡ Some (place_plugged b t)
     → heard_of (answers_to o k) ≡ heard_from (answer_from o (deep_at false p) t)
-heard_one None k j p b t alone at = refl
-heard_one (Some q) k j p b t alone at =
+heard_of-alone None k j p b t alone at = refl
+heard_of-alone (Some q) k j p b t alone at =
     ap heard_of (others_answer q false k j p alone.on (others_rest q k j p alone))
     ∙ heard_place_by q (deep_at false p) (place_at k j p)
     ∙ ap (λ x. heard_from (answer_by q (deep_at false p) (plugged_on x))) at
 
 clears_one : (o : Option Sent) (k : Ports) (j : ℕ) (p : List ℕ) (b : PortState) (t : Plugged)
-    → Alone o k (record { row = j; rest = p }) → place_at k j p ≡ Some (place_of b t)
+    → Alone o k (record { row = j; rest = p }) → place_at k j p ≡ Some (place_plugged b t)
     → clears_at o k ≡ asks_clearing (asked_from o (deep_at false p) t)
 clears_one None k j p b t alone at = refl
 clears_one (Some q) k j p b t alone at =
@@ -98,7 +98,7 @@ clears_one (Some q) k j p b t alone at =
 
 quiet_one : (port : ℕ) (o : Option Sent) (k : Ports) (j : ℕ) (p : List ℕ) (b : PortState)
     (t : Plugged)
-    → Alone o k (record { row = j; rest = p }) → place_at k j p ≡ Some (place_of b t)
+    → Alone o k (record { row = j; rest = p }) → place_at k j p ≡ Some (place_plugged b t)
     → keeps_others port (asked_from o (deep_at false p) t) ≡ true → IsQuiet port o k (suc j ∷ p)
 quiet_one port None k j p b t alone at h = tt
 quiet_one port (Some q) k j p b t alone at h =
@@ -107,7 +107,7 @@ quiet_one port (Some q) k j p b t alone at h =
     ∙ h
 
 stopped_one : (o : Option Sent) (k : Ports) (j : ℕ) (p : List ℕ) (b : PortState) (t : Plugged)
-    → Alone o k (record { row = j; rest = p }) → place_at k j p ≡ Some (place_of b t)
+    → Alone o k (record { row = j; rest = p }) → place_at k j p ≡ Some (place_plugged b t)
     → RefusedFrom o (deep_at false p) t → IsStopped o k k
 stopped_one None k j p b t alone at h = absurd h
 stopped_one (Some q) k j p b t alone at h =
@@ -120,9 +120,9 @@ stopped_one (Some q) k j p b t alone at h =
           (subst (RefusedBy q (deep_at false p)) (sym there) h);
     }
 
-sent_plugged : (o : Option Sent) (k : Ports) → StaysPlugged k (after_sent o k)
-sent_plugged None k = record { row = refl; figure = refl }
-sent_plugged (Some q) k = record { row = row_of-after q false k; figure = figure-after q false k }
+after_sent-plugged : (o : Option Sent) (k : Ports) → StaysPlugged k (after_sent o k)
+after_sent-plugged None k = record { row = refl; figure = refl }
+after_sent-plugged (Some q) k = record { row = row_of-after q false k; figure = figure-after q false k }
 
 -- ---- no damage
 
@@ -132,7 +132,7 @@ whole_answer n Nothing = refl
 whole_answer n (One p) = refl
 whole_answer n Collision = refl
 
-reply_taken : (g : Heard) (max : ℕ) → reply_of (heard_above g) Whole max ≡ ack_if (is_taken max g)
+reply_taken : (g : Heard) (max : ℕ) → reply_of (heard_above g) Whole max ≡ ack_if (takes_data max g)
 unfolding reply_of is_read
 reply_taken below.NoAnswer max = refl
 reply_taken below.Collision max = refl
@@ -141,15 +141,15 @@ reply_taken (below.One answer.Nak) max = refl
 reply_taken (below.One answer.Stall) max = refl
 reply_taken (below.One (answer.Data toggle bytes)) max = refl
 
-token_is : (a : Attempt) → token_out a None ≡ Some (token_sent (host_side a))
+token_out-undamaged : (a : Attempt) → token_out a None ≡ Some (token_sent (host_side a))
 unfolding token_of marked harm_to mark_of
-token_is a = refl
+token_out-undamaged a = refl
 
-abbrev ack_out : HostSide → Bool → Option Sent
-ack_out y w = if w then Some (ack_sent y) else None
+abbrev walk_ack : HostSide → Bool → Option Sent
+walk_ack y w = if w then Some (ack_sent y) else None
 
 ack_is : (a : Attempt) (n : ℕ) (w : Bool)
-    → goes_out a (marked_some None n a.pre (ack_if w)) ≡ ack_out (host_side a) w
+    → goes_out a (marked_some None n a.pre (ack_if w)) ≡ walk_ack (host_side a) w
 unfolding marked_some marked harm_to mark_of
 ack_is a n true = refl
 ack_is a n false = refl
@@ -157,15 +157,15 @@ ack_is a n false = refl
 lost_if : (a : Attempt) (n : ℕ) (k : Ports) (w : Bool)
     → is_lost (marked_some None n a.pre (ack_if w))
     (goes_out a (marked_some None n a.pre (ack_if w))) k ≡
-    (w && has_loss (after_sent (ack_out (host_side a) w) k))
+    (w && has_loss (after_sent (walk_ack (host_side a) w) k))
 unfolding marked_some marked harm_to mark_of
 lost_if a n k true = refl
 lost_if a n k false = refl
 
-acked : (y : HostSide) (deep : Bool) (t : Plugged) (w : Bool)
-    → sent_to (ack_out y w) deep t ≡ (if w then (taken_sent (ack_sent y) deep t).1 else t)
-acked y deep t true = refl
-acked y deep t false = refl
+sent_to-ack : (y : HostSide) (deep : Bool) (t : Plugged) (w : Bool)
+    → after_packet_at (walk_ack y w) deep t ≡ (if w then (taken_sent (ack_sent y) deep t).1 else t)
+sent_to-ack y deep t true = refl
+sent_to-ack y deep t false = refl
 
 -- ---- the attempt
 
@@ -198,19 +198,19 @@ module _ (a : Attempt) (k : Ports) (j : ℕ) (p : List ℕ)
   abbrev w : Bool
   w = acknowledges y q deep_there device
 
-  stands : place_at k j p ≡ Some (place_of b device)
+  stands : place_at k j p ≡ Some (place_plugged b device)
   stands = (here a None k j p one).at
 
   pub there : plugged_at k j p ≡ Some device
   there = plugged_there t k j p b device one stands
 
-  first_at : place_at (after_sent t k) j p ≡ Some (place_of b (after_token y deep_there device))
+  first_at : place_at (after_sent t k) j p ≡ Some (place_plugged b (after_token y deep_there device))
   first_at =
       there_then t k j p b device one stands
-      ∙ ap (λ o. Some (place_of b (sent_to o deep_there device))) (token_is a)
+      ∙ ap (λ o. Some (place_plugged b (after_packet_at o deep_there device))) (token_out-undamaged a)
 
   second_at :
-      place_at (answered_in a None k) j p ≡ Some (place_of b (after_data y q deep_there device))
+      place_at (answered_in a None k) j p ≡ Some (place_plugged b (after_data y q deep_there device))
   second_at =
       there_then q (after_sent t k) j p b (after_token y deep_there device) (two a None k j p one)
       first_at
@@ -222,9 +222,9 @@ module _ (a : Attempt) (k : Ports) (j : ℕ) (p : List ℕ)
       ∙ ap heard_above
       (heard_of-append (answers_to t k) (answers_to q (after_sent t k))
       ∙ ap₂ both
-      (heard_one t k j p b device one stands
-      ∙ ap (λ o. heard_from (answer_from o deep_there device)) (token_is a))
-      (heard_one q (after_sent t k) j p b (after_token y deep_there device)
+      (heard_of-alone t k j p b device one stands
+      ∙ ap (λ o. heard_from (answer_from o deep_there device)) (token_out-undamaged a))
+      (heard_of-alone q (after_sent t k) j p b (after_token y deep_there device)
       (two a None k j p one) first_at))
 
   pub mark_is : mark_in a None k ≡ Whole
@@ -235,21 +235,21 @@ module _ (a : Attempt) (k : Ports) (j : ℕ) (p : List ℕ)
       ap₂ (λ h m. marked_some None n a.pre (reply_of h m a.max)) heard_is mark_is
       ∙ ap (marked_some None n a.pre) (reply_taken (heard_of_both y q deep_there device) a.max)
 
-  reply_out_is : r ≡ ack_out y w
+  reply_out_is : r ≡ walk_ack y w
   reply_out_is = ap (goes_out a) reply_is ∙ ack_is a n w
 
   replied :
-      sent_to r deep_there (after_data y q deep_there device) ≡ after_reply y q deep_there device
+      after_packet_at r deep_there (after_data y q deep_there device) ≡ after_reply y q deep_there device
   unfolding after_reply
   replied =
-      ap (λ o. sent_to o deep_there (after_data y q deep_there device)) reply_out_is
-      ∙ acked y deep_there (after_data y q deep_there device) w
+      ap (λ o. after_packet_at o deep_there (after_data y q deep_there device)) reply_out_is
+      ∙ sent_to-ack y deep_there (after_data y q deep_there device) w
 
-  end_at : place_at (ended_in a None k) j p ≡ Some (place_of b (after_reply y q deep_there device))
+  end_at : place_at (ended_in a None k) j p ≡ Some (place_plugged b (after_reply y q deep_there device))
   end_at =
       there_then r (answered_in a None k) j p b (after_data y q deep_there device)
       (three a None k j p one) second_at
-      ∙ ap (λ x. Some (place_of b x)) replied
+      ∙ ap (λ x. Some (place_plugged b x)) replied
 
   pub end_there : plugged_at (ended_in a None k) j p ≡ Some (after_reply y q deep_there device)
   end_there =
@@ -280,49 +280,49 @@ module _ (a : Attempt) (k : Ports) (j : ℕ) (p : List ℕ)
       (two a None k j p one) first_at h
 
   till_end_is :
-      till_end a None k j p one (place_of b device) ≡ place_of b (after_reply y q deep_there device)
+      till_end a None k j p one (place_plugged b device) ≡ place_plugged b (after_reply y q deep_there device)
   till_end_is =
       ap (λ x. step_in r deep_there (step_in q deep_there x))
-      (step_is t deep_there b device
-      ∙ ap (λ o. place_of b (sent_to o deep_there device)) (token_is a))
-      ∙ ap (step_in r deep_there) (step_is q deep_there b (after_token y deep_there device))
-      ∙ step_is r deep_there b (after_data y q deep_there device)
-      ∙ ap (place_of b) replied
+      (step_in-plugged t deep_there b device
+      ∙ ap (λ o. place_plugged b (after_packet_at o deep_there device)) (token_out-undamaged a))
+      ∙ ap (step_in r deep_there) (step_in-plugged q deep_there b (after_token y deep_there device))
+      ∙ step_in-plugged r deep_there b (after_data y q deep_there device)
+      ∙ ap (place_plugged b) replied
 
   pub left_is : changed_at (left_in y q deep_there) k j p ≡ ports_in a None k
   left_is =
       changed_at-there (left_in y q deep_there) (λ x. forgotten_in (till_end a None k j p one x)) k
-      j p (place_of b device) stands
+      j p (place_plugged b device) stands
       (λ x e. same_place x e (ap forgotten_in (sym till_end_is))) ∙ sym (all_is a None k j p one)
     where
-      same_place : (x : Place) → Some x ≡ Some (place_of b device)
-          → left_in y q deep_there (place_of b device)
-          ≡ forgotten_in (till_end a None k j p one (place_of b device))
+      same_place : (x : Place) → Some x ≡ Some (place_plugged b device)
+          → left_in y q deep_there (place_plugged b device)
+          ≡ forgotten_in (till_end a None k j p one (place_plugged b device))
           → left_in y q deep_there x ≡ forgotten_in (till_end a None k j p one x)
       same_place x e h =
           subst (λ z. left_in y q deep_there z ≡ forgotten_in (till_end a None k j p one z))
-          (sym (same_Some x (place_of b device) e)) h
+          (sym (same_Some x (place_plugged b device) e)) h
 
   pub cut_is : changed_at (cut_in y deep_there) k j p ≡ all_forgotten (after_sent t k)
   cut_is =
       let after : _ = alone_sent t k (suc j ∷ p) one in
       changed_at-there (cut_in y deep_there) (λ x. forgotten_in (step_in t deep_there x)) k j p
-      (place_of b device) stands
+      (place_plugged b device) stands
       (λ x e. same_place x e (ap forgotten_in (sym
-      (step_is t deep_there b device
-      ∙ ap (λ o. place_of b (sent_to o deep_there device)) (token_is a)))))
+      (step_in-plugged t deep_there b device
+      ∙ ap (λ o. place_plugged b (after_packet_at o deep_there device)) (token_out-undamaged a)))))
       ∙ sym
       (others_forget (after_sent t k) j p after.on after.forgot
       ∙ ap (λ x. changed_at forgotten_in x j p) (sent_one t k j p one)
       ∙ changed_at-twice forgotten_in (step_in t deep_there) k j p)
     where
-      same_place : (x : Place) → Some x ≡ Some (place_of b device)
-          → cut_in y deep_there (place_of b device)
-          ≡ forgotten_in (step_in t deep_there (place_of b device))
+      same_place : (x : Place) → Some x ≡ Some (place_plugged b device)
+          → cut_in y deep_there (place_plugged b device)
+          ≡ forgotten_in (step_in t deep_there (place_plugged b device))
           → cut_in y deep_there x ≡ forgotten_in (step_in t deep_there x)
       same_place x e h =
           subst (λ z. cut_in y deep_there z ≡ forgotten_in (step_in t deep_there z))
-          (sym (same_Some x (place_of b device) e)) h
+          (sym (same_Some x (place_plugged b device) e)) h
 
   pub stopped_is : RefusedFrom q deep_there (after_token y deep_there device)
       → IsStopped q (after_sent t k) (after_sent t k)
@@ -353,9 +353,9 @@ pub record Walked (a : Attempt) (k m : Ports) (p : List ℕ) (x : Exchange) (g :
   pub lost : x.address_lost ≡ side.address_lost
   pub cleared : x.change_cleared ≡ asks_clearing side.effect
 
-over_attempt : (a : Attempt) (k : Ports) → ports_in a None k ≡ all_forgotten (ended_in a None k)
+ports_in-undamaged : (a : Attempt) (k : Ports) → ports_in a None k ≡ all_forgotten (ended_in a None k)
 unfolding ports_in
-over_attempt a k = refl
+ports_in-undamaged a k = refl
 
 module _ (a : Attempt) (k m : Ports) (j : ℕ) (p : List ℕ) (x : Exchange) (g : Heard)
     (side : DeviceSide) (one : Alone (token_out a None) k (record { row = j; rest = p }))
@@ -426,12 +426,12 @@ module _ (a : Attempt) (k m : Ports) (j : ℕ) (p : List ℕ) (x : Exchange) (g 
   kept_there port quiet same =
       kept_at port a None k (ended_in a None k) m (suc j ∷ p) side.address same
       (quiet_is a k j p one port (ap (λ s. keeps_others port s.effect) (sym side_is) ∙ quiet)) refl
-      (ports_there ∙ over_attempt a k) (λ h. address_is)
+      (ports_there ∙ ports_in-undamaged a k) (λ h. address_is)
 
 pub walked_made : (a : Attempt) (k m : Ports) (p : List ℕ) (x : Exchange) (g : Heard)
     (side : DeviceSide) → is_whole_tree p ≡ false → AloneAt (token_out a None) k p
     → Walked a k m p x g side → Exchanged a None k m x
-walked_made a k m [] x g side f h w = no (sym f)
+walked_made a k m [] x g side f h w = false_true (sym f)
 walked_made a k m (zero ∷ p) x g side f h w = absurd h
 walked_made a k m (suc j ∷ p) x g side f h w =
     record
@@ -441,7 +441,7 @@ pub walked_kept : (port : ℕ) (a : Attempt) (k m : Ports) (p : List ℕ) (x : E
     (side : DeviceSide) → is_whole_tree p ≡ false → AloneAt (token_out a None) k p
     → Walked a k m p x g side
     → keeps_address port side a.addr ≡ true → KeptAt a.addr port k m p
-walked_kept port a k m [] x g side f h w kept = no (sym f)
+walked_kept port a k m [] x g side f h w kept = false_true (sym f)
 walked_kept port a k m (zero ∷ p) x g side f h w kept = absurd h
 walked_kept port a k m (suc j ∷ p) x g side f h w kept =
     let same : Bool = option_eq nat_eq side.address (Some a.addr) in
@@ -490,14 +490,14 @@ module _ (a : Attempt) (k m : Ports) (j : ℕ) (p : List ℕ) (o : Option Outgoi
 pub walk_over : (a : Attempt) (k m : Ports) (p : List ℕ) (o : Option Outgoing)
     → is_whole_tree p ≡ false → AloneAt (token_out a None) k p → CutShort a k m p o
     → m ≡ all_forgotten (after_sent (token_out a None) k)
-walk_over a k m [] o f h w = no (sym f)
+walk_over a k m [] o f h w = false_true (sym f)
 walk_over a k m (zero ∷ p) o f h w = absurd h
 walk_over a k m (suc j ∷ p) o f h w = cut_there a k m j p o h w
 
 pub walk_cut : (a : Attempt) (k m : Ports) (p : List ℕ) (o : Option Outgoing)
     → is_whole_tree p ≡ false → AloneAt (token_out a None) k p → CutShort a k m p o
     → IsCut a None k m
-walk_cut a k m [] o f h w = no (sym f)
+walk_cut a k m [] o f h w = false_true (sym f)
 walk_cut a k m (zero ∷ p) o f h w = absurd h
 walk_cut a k m (suc j ∷ p) o f h w =
     let s : _ = stopped_there a k m j p o h w in
@@ -517,15 +517,15 @@ made_plugged a k m e =
     let second = after_sent (payload_out a None) first in
     let r = reply_out a None k in
     let till_second : StaysPlugged k second =
-    plugged_further k first second (sent_plugged (token_out a None) k)
-    (sent_plugged (payload_out a None) first) in
-    over_plugged k (ended_in a None k) m (e ∙ over_attempt a k)
-    (plugged_further k second (ended_in a None k) till_second (sent_plugged r second))
+    plugged_further k first second (after_sent-plugged (token_out a None) k)
+    (after_sent-plugged (payload_out a None) first) in
+    over_plugged k (ended_in a None k) m (e ∙ ports_in-undamaged a k)
+    (plugged_further k second (ended_in a None k) till_second (after_sent-plugged r second))
 
 pub cut_plugged : (a : Attempt) (k m : Ports) → m ≡ all_forgotten (after_sent (token_out a None) k)
     → StaysPlugged k m
 cut_plugged a k m e =
-    over_plugged k (after_sent (token_out a None) k) m e (sent_plugged (token_out a None) k)
+    over_plugged k (after_sent (token_out a None) k) m e (after_sent-plugged (token_out a None) k)
 
 pub made_settled : (a : Attempt) (k m : Ports) → m ≡ ports_in a None k → IsSettled m
-made_settled a k m e = over_settled (ended_in a None k) m (e ∙ over_attempt a k)
+made_settled a k m e = over_settled (ended_in a None k) m (e ∙ ports_in-undamaged a k)

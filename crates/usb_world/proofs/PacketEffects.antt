@@ -10,15 +10,15 @@ use Rattle.usb_device.specs.Tree.{Ports, ended, vacant, taken, full, reach_at, s
 use Rattle.usb_device.specs.Tree.{acted, Place, empty}
 use Rattle.usb_device.specs.Delivery.{answer_of, effect_of, after_packet}
 use Rattle.usb_device.specs.declared.delivery.Sent.{Sent}
-use Rattle.usb_world.specs.Paths.{live_at, pend_at}
+use Rattle.usb_world.specs.Paths.{has_power_at, pending_at}
 use Rattle.usb_world.specs.WayEffects.{IsNew, takes_reset, effect_resets, resets_at, reset_if}
-use Rattle.usb_world.specs.WayEffects.{effect_spares, packet_spares}
+use Rattle.usb_world.specs.WayEffects.{effect_keeps_pending, packet_keeps_pending}
 use Rattle.usb_world.specs.AttemptPackets.{deep_at}
-use Rattle.usb_world.proofs.Booleans.{both, and_kept, or_kept, either_of, neither, no}
+use Rattle.usb_world.proofs.Booleans.{both, and_kept, or-rises, either_of, neither, false_true}
 use Rattle.usb_world.proofs.PortCalls.{off_way, ResetIf, same_reset, call_way, KeepsPending}
 use Rattle.usb_world.proofs.PortCalls.{pending_kept, call_kept}
-use Rattle.usb_world.proofs.WayChanges.{same_head}
-use Rattle.usb_world.proofs.States.{kept_state}
+use Rattle.usb_world.proofs.WayChanges.{same_way-behind}
+use Rattle.usb_world.proofs.States.{reset_if-false}
 
 -- a device's own state after a packet, which reaches it or does not
 abbrev pub heard_state : Sent → Bool → Bool → Option Place → Option State
@@ -46,13 +46,13 @@ acted_way Leaves x j p = same_reset false x j p refl
 acted_way (Calls c i) x j p = call_way c x i j p
 acted_way PortsOff x j p =
     let off : _ = off_way x j p in
-    (off.1 ∙ kept_state (state_at x j p), λ f h. no (sym off.0 ∙ h), λ f. no f, off.2)
+    (off.1 ∙ reset_if-false (state_at x j p), λ f h. false_true (sym off.0 ∙ h), λ f. false_true f, off.2)
 
-acted_kept : (e : Effect) (x : Ports) (j : ℕ) (p : List ℕ) → effect_spares e j p ≡ true
+acted_kept : (e : Effect) (x : Ports) (j : ℕ) (p : List ℕ) → effect_keeps_pending e j p ≡ true
     → KeepsPending x (acted e x) j p
 acted_kept Leaves x j p h = (λ g. g, λ g. g)
 acted_kept (Calls c i) x j p h = call_kept c x i j p h
-acted_kept PortsOff x j p h = no h
+acted_kept PortsOff x j p h = false_true h
 
 -- Where a reset falls
 
@@ -83,16 +83,16 @@ packet_asks PortsOff q deep k j p = refl
 
 spared : (x y z : Bool) → x ≡ true → (not x || (y && z)) ≡ true → (y ≡ true) × (z ≡ true)
 spared true y z e h = both y z h
-spared false y z e h = no e
+spared false y z e h = false_true e
 
 -- what is live or pending, and spared, is so after a packet
 pub packet_kept : (q : Sent) (deep : Bool) (k : Ports) (j : ℕ) (p : List ℕ)
-    → packet_spares q deep k j p ≡ true → KeepsPending k (after_packet q deep k) j p
-unfolding after_packet live_at pend_at packet_spares
+    → packet_keeps_pending q deep k j p ≡ true → KeepsPending k (after_packet q deep k) j p
+unfolding after_packet has_power_at pending_at packet_keeps_pending
 packet_kept q deep ended j p h = (λ g. g, λ g. g)
 packet_kept q deep (vacant b k) zero p h =
     pending_kept (vacant b k) (vacant b (after_packet q deep k)) zero p
-    (same_head (empty b) k (after_packet q deep k) p).0
+    (same_way-behind (empty b) k (after_packet q deep k) p).0
 packet_kept q deep (vacant b k) (suc j) p h = packet_kept q deep k j p h
 packet_kept q deep (taken b s a k) zero [] h =
     met_either (λ m. KeepsPending (taken b s a k) m zero [])
@@ -104,14 +104,14 @@ packet_kept q deep (taken b s a k) zero (suc j ∷ p) h =
     split b.enable refl (packet_kept q true a j p)
   where
     split : (x : Bool) → b.enable ≡ x
-        → (packet_spares q true a j p ≡ true → KeepsPending a (after_packet q true a) j p)
+        → (packet_keeps_pending q true a j p ≡ true → KeepsPending a (after_packet q true a) j p)
         → KeepsPending (taken b s a k) (met x q deep b s a (after_packet q deep k)) zero (suc j ∷ p)
     split true e ih =
-        let on : _ = spared b.enable (effect_spares (effect_of q deep s) j p) (packet_spares q true a j p) e h in
+        let on : _ = spared b.enable (effect_keeps_pending (effect_of q deep s) j p) (packet_keeps_pending q true a j p) e h in
         let asked : _ = acted_kept (effect_of q deep s) (after_packet q true a) j p on.0 in (
           and_kept b.power _ _ (λ g. asked.0 ((ih on.1).0 g)),
           and_kept b.power _ _
-              (or_kept b.connection_changed (pend_at a j p) _ (λ g. asked.1 ((ih on.1).1 g))),
+              (or-rises b.connection_changed (pending_at a j p) _ (λ g. asked.1 ((ih on.1).1 g))),
         )
     split false e ih = (λ g. g, λ g. g)
 packet_kept q deep (taken b s a k) (suc j) p h =
@@ -119,16 +119,16 @@ packet_kept q deep (taken b s a k) (suc j) p h =
     b.enable q deep b s a (after_packet q deep k) (packet_kept q deep k j p h)
     (packet_kept q deep k j p h)
 
-pub unheard : (q : Sent) (d : Bool) (k : Ports) (j : ℕ) (p : List ℕ) → state_at k j p ≡ heard_state q d false (place_at k j p)
+pub heard_state-unheard : (q : Sent) (d : Bool) (k : Ports) (j : ℕ) (p : List ℕ) → state_at k j p ≡ heard_state q d false (place_at k j p)
 unfolding state_at place_at
-unheard q d ended j p = refl
-unheard q d (vacant b k) zero [] = refl
-unheard q d (vacant b k) zero (n ∷ p) = refl
-unheard q d (vacant b k) (suc j) p = unheard q d k j p
-unheard q d (taken b s a k) zero [] = refl
-unheard q d (taken b s a k) zero (zero ∷ p) = refl
-unheard q d (taken b s a k) zero (suc j ∷ p) = unheard q d a j p
-unheard q d (taken b s a k) (suc j) p = unheard q d k j p
+heard_state-unheard q d ended j p = refl
+heard_state-unheard q d (vacant b k) zero [] = refl
+heard_state-unheard q d (vacant b k) zero (n ∷ p) = refl
+heard_state-unheard q d (vacant b k) (suc j) p = heard_state-unheard q d k j p
+heard_state-unheard q d (taken b s a k) zero [] = refl
+heard_state-unheard q d (taken b s a k) zero (zero ∷ p) = refl
+heard_state-unheard q d (taken b s a k) zero (suc j ∷ p) = heard_state-unheard q d a j p
+heard_state-unheard q d (taken b s a k) (suc j) p = heard_state-unheard q d k j p
 
 pub true_deep : (p : List ℕ) → deep_at true p ≡ true
 true_deep [] = refl
@@ -136,16 +136,16 @@ true_deep (n ∷ p) = refl
 
 reset_then : (x y : Bool) (o : Option State) → (x ≡ true → y ≡ false) → option_map (reset_if x) (option_map (reset_if y) o) ≡ option_map (reset_if (x || y)) o
 reset_then x y None f = refl
-reset_then true true (Some s) f = no (sym (f refl))
+reset_then true true (Some s) f = false_true (sym (f refl))
 reset_then true false (Some s) f = refl
 reset_then false y (Some s) f = refl
 
 -- a device asks for no reset but on its own ports
 asks_here : (e : Effect) (q : Sent) (a : Ports) (j : ℕ) (p : List ℕ) → effect_resets e a j p ≡ true → resets_at q true a j p ≡ false
 asks_here e q a j [] h = resets_nil q true a j
-asks_here Leaves q a j (n ∷ p) h = no h
-asks_here (Calls c i) q a j (n ∷ p) h = no h
-asks_here PortsOff q a j (n ∷ p) h = no h
+asks_here Leaves q a j (n ∷ p) h = false_true h
+asks_here (Calls c i) q a j (n ∷ p) h = false_true h
+asks_here PortsOff q a j (n ∷ p) h = false_true h
 
 -- the device at a path hears a packet or not, and is then reset or not
 abbrev HeardIf : Sent → Bool → Bool → Bool → Ports → Ports → ℕ → List ℕ → Type 0
@@ -158,20 +158,20 @@ pub packet_way : (q : Sent) (deep : Bool) (k : Ports) (j : ℕ) (p : List ℕ)
     → HeardIf q (deep_at deep p) (reach_at k j p) (resets_at q deep k j p) k
     (after_packet q deep k) j p
 unfolding after_packet reach_at place_at resets_at state_at
-packet_way q deep ended j p = (refl, λ f h. h, λ f. no f)
-packet_way q deep (vacant b k) zero [] = (refl, λ f h. h, λ f. no f)
-packet_way q deep (vacant b k) zero (n ∷ p) = (refl, λ f h. h, λ f. no f)
+packet_way q deep ended j p = (refl, λ f h. h, λ f. false_true f)
+packet_way q deep (vacant b k) zero [] = (refl, λ f h. h, λ f. false_true f)
+packet_way q deep (vacant b k) zero (n ∷ p) = (refl, λ f h. h, λ f. false_true f)
 packet_way q deep (vacant b k) (suc j) p = packet_way q deep k j p
 packet_way q deep (taken b s a k) zero [] = split b.enable
   where
     split : (x : Bool) → HeardIf q deep x false (taken b s a k)
         (met x q deep b s a (after_packet q deep k)) zero []
-    split true = (refl, λ f h. h, λ f. no f)
-    split false = (refl, λ f h. h, λ f. no f)
+    split true = (refl, λ f h. h, λ f. false_true f)
+    split false = (refl, λ f h. h, λ f. false_true f)
 packet_way q deep (taken b s a k) zero (zero ∷ p) =
     met_either (λ m. HeardIf q true false false (taken b s a k) m zero (zero ∷ p))
-    b.enable q deep b s a (after_packet q deep k) (refl, λ f h. h, λ f. no f)
-    (refl, λ f h. h, λ f. no f)
+    b.enable q deep b s a (after_packet q deep k) (refl, λ f h. h, λ f. false_true f)
+    (refl, λ f h. h, λ f. false_true f)
 packet_way q deep (taken b s a k) zero (suc j ∷ p) = split b.enable (packet_way q true a j p)
   where
     split : (x : Bool) → HeardIf q (deep_at true p) (reach_at a j p) (resets_at q true a j p) a
@@ -200,10 +200,10 @@ packet_way q deep (taken b s a k) zero (suc j ∷ p) = split b.enable (packet_wa
               [ inl y ↦ asked.2 (same ∙ y) | inr y ↦ asked.3 (ih.2 y) ],
         )
     split false ih = (
-      unheard q true a j p
-          ∙ kept_state (heard_state q true false (place_at a j p)),
+      heard_state-unheard q true a j p
+          ∙ reset_if-false (heard_state q true false (place_at a j p)),
       λ f h. h,
-      λ f. no f,
+      λ f. false_true f,
     )
 packet_way q deep (taken b s a k) (suc j) p =
     met_either

@@ -5,12 +5,12 @@ use Rattle.usb_device.specs.declared.effect.Effect.{Effect}
 use Rattle.usb_device.specs.declared.effect.Effect.TheVariants.{Leaves, Calls, PortsOff}
 use Rattle.usb_device.specs.Tree.{Ports, ended, vacant, taken, Place, empty, full, acted, reach_at, port_at, place_at}
 use Rattle.usb_device.specs.Delivery.{effect_of, after_packet, answer_of}
-use Rattle.usb_world.specs.Paths.{live_at, pend_at}
+use Rattle.usb_world.specs.Paths.{has_power_at, pending_at}
 use Rattle.usb_world.specs.WayEffects.{leaves_port, way_leaves}
 use Rattle.usb_world.specs.AttemptPackets.{deep_at}
-use Rattle.usb_world.proofs.Booleans.{no, both}
+use Rattle.usb_world.proofs.Booleans.{false_true, both}
 use Rattle.usb_world.proofs.PacketEffects.{true_deep, met, met_either}
-use Rattle.usb_world.proofs.WayChanges.{SamePorts, same_head, same_ports, passed_ports}
+use Rattle.usb_world.proofs.WayChanges.{SamePorts, same_way-behind, same_ports, passed_ports}
 use Rattle.usb_world.proofs.WayChanges.{called_apart}
 
 -- a device with its ports after a packet that reaches it or does not, where no device above it asks anything
@@ -37,15 +37,15 @@ way_rests q deep (taken b s a k) zero (zero ∷ p) = true
 way_rests q deep (taken b s a k) zero (suc j ∷ p) = not b.enable || (is_left (effect_of q deep s) && way_rests q true a j p)
 way_rests q deep (taken b s a k) (suc i) p = way_rests q deep k i p
 
-unmoved : (q : Sent) (d : Bool) (o : Option Place) → o ≡ option_map (heard_place q d false) o
-unmoved q d None = refl
-unmoved q d (Some (empty b)) = refl
-unmoved q d (Some (full b s a)) = refl
+heard_place-unheard : (q : Sent) (d : Bool) (o : Option Place) → o ≡ option_map (heard_place q d false) o
+heard_place-unheard q d None = refl
+heard_place-unheard q d (Some (empty b)) = refl
+heard_place-unheard q d (Some (full b s a)) = refl
 
 pub left_is : (e : Effect) → is_left e ≡ true → e ≡ Leaves
 left_is Leaves h = refl
-left_is (Calls c i) h = no h
-left_is PortsOff h = no h
+left_is (Calls c i) h = false_true h
+left_is PortsOff h = false_true h
 
 acted_left : (e : Effect) (x : Ports) → is_left e ≡ true → acted e x ≡ x
 acted_left e x h = rw (left_is e h) refl
@@ -88,7 +88,7 @@ heard_way q deep (taken b s a k) zero (suc j ∷ p) h = split b.enable h (heard_
               (true_deep p),
           ap (λ x. b.enable && x) (ap (λ x. reach_at x j p) same ∙ (ih on.1).1),
         )
-    split false h ih = (unmoved q true (place_at a j p), refl)
+    split false h ih = (heard_place-unheard q true (place_at a j p), refl)
 heard_way q deep (taken b s a k) (suc j) p h =
     met_either (λ m. HeardWay q (deep_at deep p) (taken b s a k) m (suc j) p)
     b.enable q deep b s a (after_packet q deep k) (heard_way q deep k j p h)
@@ -110,15 +110,15 @@ left_acted : (e : Effect) (x : Ports) (j : ℕ) (p : List ℕ) → leaves_port e
     → SamePorts x (acted e x) j p
 left_acted Leaves x j p h = same_ports x j p
 left_acted (Calls c i) x j p h = (called_apart c x i j p h).0
-left_acted PortsOff x j p h = no h
+left_acted PortsOff x j p h = false_true h
 
 -- and those on the way to them
 pub way_ports : (q : Sent) (deep : Bool) (k : Ports) (j : ℕ) (p : List ℕ)
     → way_leaves q deep k j p ≡ true
     → SamePorts k (after_packet q deep k) j p
-unfolding after_packet reach_at live_at pend_at port_at way_leaves
+unfolding after_packet reach_at has_power_at pending_at port_at way_leaves
 way_ports q deep ended j p h = same_ports ended j p
-way_ports q deep (vacant b k) zero p h = (same_head (empty b) k (after_packet q deep k) p).0
+way_ports q deep (vacant b k) zero p h = (same_way-behind (empty b) k (after_packet q deep k) p).0
 way_ports q deep (vacant b k) (suc j) p h = way_ports q deep k j p h
 way_ports q deep (taken b s a k) zero [] h =
     met_either (λ m. SamePorts (taken b s a k) m zero []) b.enable q deep b s a

@@ -17,34 +17,34 @@ use Rattle.usb_world.specs.PluggedDevices.{PluggedMap, plugged_by, plugged_after
 use Rattle.usb_world.specs.PlanCourses.{FollowsPlan, AtPorts, PlugsAtPort, spec_of}
 use Rattle.usb_world.specs.World.{World}
 use Rattle.usb_world.specs.Courses.{NoneNames, Undisturbed}
-use Rattle.usb_world.specs.Steps.{names_path, way_of, happened, with_plugged, took, ready, damage_in, with_attempt, AnyStep, Course, opening}
+use Rattle.usb_world.specs.Steps.{names_path, way_of, after_change, with_plugged, after_event, at_attempt, damage_in, with_attempt, AnyStep, Course, opening}
 use Rattle.usb_world.specs.Exchange.{ports_in}
 use Rattle.usb_world.specs.Paths.{is_way}
-use Rattle.usb_world.proofs.Booleans.{no, both}
+use Rattle.usb_world.proofs.Booleans.{false_true, both}
 use Rattle.usb_world.proofs.LiftedSteps.{OverSteps, Keeps, keeps_events, happened_by, over_course}
 use Rattle.usb_world.proofs.Ways.{undisturbed_on_way}
-use Rattle.usb_world.proofs.PluggedShapes.{Shape, Fits, spec_there, has_there, put_there, there_other, gaps, empty_gaps, fits_gaps, fits_there}
+use Rattle.usb_world.proofs.PluggedShapes.{Shape, ShapeFits, spec_there, has_there, shape_with, there_other, gaps, empty_gaps, fits_gaps, fits_there}
 use Rattle.usb_world.proofs.PluggedPorts.{shape, described_there, shape_root, shape_attempt, shape_new, shape_event}
-use Rattle.usb_world.proofs.PluggedTrees.{Told, told_of, Agrees, agrees_plug, agrees_unplug, port_stands}
+use Rattle.usb_world.proofs.PluggedTrees.{PlugAgrees, told_of, Agrees, agrees_plug, agrees_unplug, has_port-there}
 
 -- the same devices stand at the same ports, and the same events are left
-record Alike (w v : World) : Type 0 where
+record SameShape (w v : World) : Type 0 where
   left : v.left ≡ w.left
   taken : v.taken ≡ w.taken
   devices : v.devices ≡ w.devices
   shape : shape v.roots ≡ shape w.roots
 
 -- What each event keeps, and what hangs only on what is plugged and left, each course keeps
-module _ (J : World → Type 0) (by_event : (e : Event) (events : List Event) (w : World) → w.left ≡ e ∷ events → J w → J (took e events w))
-    (by_rest : (w v : World) → Alike w v → J w → J v) where
+module _ (J : World → Type 0) (by_event : (e : Event) (events : List Event) (w : World) → w.left ≡ e ∷ events → J w → J (after_event e events w))
+    (by_rest : (w v : World) → SameShape w v → J w → J v) where
   plan_steps : OverSteps AnyStep (Keeps J)
   unfolding with_attempt
   plan_steps = record {
     events = keeps_events J by_event;
     made = λ a w made k.
-        let same : shape (ports_in a (damage_in (ready w)) (ready w).roots) ≡ shape (ready w).roots =
-        shape_attempt a (damage_in (ready w)) (ready w).roots in
-        by_rest (ready w) _ (record { left = refl; taken = refl; devices = refl; shape = same });
+        let same : shape (ports_in a (damage_in (at_attempt w)) (at_attempt w).roots) ≡ shape (at_attempt w).roots =
+        shape_attempt a (damage_in (at_attempt w)) (at_attempt w).roots in
+        by_rest (at_attempt w) _ (record { left = refl; taken = refl; devices = refl; shape = same });
     root = λ c n w k.
         let same : shape (changed (called c) w.roots (n ∷ [])) ≡ shape w.roots =
         shape_root c w.roots (n ∷ []) in
@@ -63,15 +63,15 @@ record Went (plan : PlanData) (past : List Event) (w : World) : Type 0 where
   count : w.taken ≡ length past
   devices : w.devices ≡ plan.devices
 
-went_next : (plan : PlanData) (past : List Event) (e : Event) (events : List Event) (w : World) → w.left ≡ e ∷ events → Went plan past w → Went plan (past ++ e ∷ []) (took e events w)
-unfolding took
+went_next : (plan : PlanData) (past : List Event) (e : Event) (events : List Event) (w : World) → w.left ≡ e ∷ events → Went plan past w → Went plan (past ++ e ∷ []) (after_event e events w)
+unfolding after_event
 went_next plan past e events w s h = record {
   split = h.split ∙ ap (λ l. past ++ l) s ∙ sym (append_assoc past (e ∷ []) events);
   count = ap (λ n. n + 1) h.count ∙ sym (length-append past (e ∷ []));
   devices = h.devices;
 }
 
-went_rest : (plan : PlanData) (past : List Event) (w v : World) → Alike w v → Went plan past w → Went plan past v
+went_rest : (plan : PlanData) (past : List Event) (w v : World) → SameShape w v → Went plan past w → Went plan past v
 went_rest plan past w v a h = record { split = h.split ∙ ap (λ l. past ++ l) (sym a.left); count = a.taken ∙ h.count; devices = a.devices ∙ h.devices }
 
 went_opening : (plan : PlanData) → Went plan [] (opening plan)
@@ -94,42 +94,42 @@ events_went plan w c =
 
 -- What is plugged
 
-pub plugged_next : (tree : PluggedMap) (past : List Event) (e : Event) → plugged_by tree (past ++ e ∷ []) ≡ plugged_after e.action (plugged_by tree past)
+pub plugged_by-next : (tree : PluggedMap) (past : List Event) (e : Event) → plugged_by tree (past ++ e ∷ []) ≡ plugged_after e.action (plugged_by tree past)
 unfolding plugged_by
-plugged_next tree [] e = refl
-plugged_next tree (x ∷ past) e = plugged_next (plugged_after x.action tree) past e
+plugged_by-next tree [] e = refl
+plugged_by-next tree (x ∷ past) e = plugged_by-next (plugged_after x.action tree) past e
 
-record Standing (ds : List Spec) (n : ℕ) (x : Shape) (tree : PluggedMap) : Type 0 where
-  fits : Fits x n
+record ShapeAgrees (ds : List Spec) (n : ℕ) (x : Shape) (tree : PluggedMap) : Type 0 where
+  fits : ShapeFits x n
   agrees : Agrees ds x tree
 
-free_of : (tree : PluggedMap) (e : List ℕ) → not (is_taken tree e) ≡ true → index_at tree e ≡ None
-free_of tree e h = split (index_at tree e) h
+index_at-free : (tree : PluggedMap) (e : List ℕ) → not (is_taken tree e) ≡ true → index_at tree e ≡ None
+index_at-free tree e h = split (index_at tree e) h
   where
     split : (o : Option ℕ) → not (is_some o) ≡ true → o ≡ None
     split None h = refl
-    split (Some d) h = no h
+    split (Some d) h = false_true h
 
-standing_plug : (ds : List Spec) (n : ℕ) (k : Ports) (tree : PluggedMap) (e : List ℕ) (d : ℕ) → action_fits n ds tree (Change (Plug e d)) ≡ true → PlugsAtPort (Change (Plug e d)) → Standing ds n (shape k) tree
-    → Standing ds n (shape (happened (Change (Plug e d)) ds k)) (plugged_after (Change (Plug e d)) tree)
+standing_plug : (ds : List Spec) (n : ℕ) (k : Ports) (tree : PluggedMap) (e : List ℕ) (d : ℕ) → action_fits n ds tree (Change (Plug e d)) ≡ true → PlugsAtPort (Change (Plug e d)) → ShapeAgrees ds n (shape k) tree
+    → ShapeAgrees ds n (shape (after_change (Change (Plug e d)) ds k)) (plugged_after (Change (Plug e d)) tree)
 standing_plug ds n k tree e d h is s =
     let parts = both (has_port n ds tree e && not (is_taken tree e)) (nat_lt d (length ds)) h in
     let place = both (has_port n ds tree e) (not (is_taken tree e)) parts.0 in
-    split (slice_get ds d) refl (ltb-true d (length ds) parts.1) (port_stands ds (shape k) n tree e s.fits s.agrees is place.0) (free_of tree e place.1)
+    split (slice_get ds d) refl (ltb-true d (length ds) parts.1) (has_port-there ds (shape k) n tree e s.fits s.agrees is place.0) (index_at-free tree e place.1)
   where
-    split : (o : Option Spec) → slice_get ds d ≡ o → d < length ds → has_there (shape k) e ≡ true → index_at tree e ≡ None → Standing ds n (shape (with_plugged o e k)) (plugged_after (Change (Plug e d)) tree)
-    split None g l p f = ⊎_elim (λ y. no (ap is_some (sym g ∙ y.2))) (λ y. absurd (omega (arith, l, y.0))) (slice_get_cases ds d).1
+    split : (o : Option Spec) → slice_get ds d ≡ o → d < length ds → has_there (shape k) e ≡ true → index_at tree e ≡ None → ShapeAgrees ds n (shape (with_plugged o e k)) (plugged_after (Change (Plug e d)) tree)
+    split None g l p f = ⊎_elim (λ y. false_true (ap is_some (sym g ∙ y.2))) (λ y. absurd (omega (arith, l, y.0))) (slice_get_cases ds d).1
     split (Some t) g l p f =
-        let same : shape (changed (replaced (Some t)) k e) ≡ put_there (Some t) (shape k) e = shape_event (Some t) k e in
+        let same : shape (changed (replaced (Some t)) k e) ≡ shape_with (Some t) (shape k) e = shape_event (Some t) k e in
         rw same (record { fits = fits_there (Some t) (shape k) n e s.fits; agrees = agrees_plug ds (shape k) tree e d t g p f s.agrees })
 
-standing_unplug : (ds : List Spec) (n : ℕ) (k : Ports) (tree : PluggedMap) (e : List ℕ) → action_fits n ds tree (Change (Unplug e)) ≡ true → Standing ds n (shape k) tree
-    → Standing ds n (shape (happened (Change (Unplug e)) ds k)) (plugged_after (Change (Unplug e)) tree)
+standing_unplug : (ds : List Spec) (n : ℕ) (k : Ports) (tree : PluggedMap) (e : List ℕ) → action_fits n ds tree (Change (Unplug e)) ≡ true → ShapeAgrees ds n (shape k) tree
+    → ShapeAgrees ds n (shape (after_change (Change (Unplug e)) ds k)) (plugged_after (Change (Unplug e)) tree)
 standing_unplug ds n k tree e h s =
-    let same : shape (changed (replaced None) k e) ≡ put_there None (shape k) e = shape_event None k e in
+    let same : shape (changed (replaced None) k e) ≡ shape_with None (shape k) e = shape_event None k e in
     rw same (record { fits = fits_there None (shape k) n e s.fits; agrees = agrees_unplug ds (shape k) tree e (both (is_rooted n e) (is_taken tree e) h).1 s.agrees })
 
-standing_next : (a : Action) (ds : List Spec) (n : ℕ) (k : Ports) (tree : PluggedMap) → action_fits n ds tree a ≡ true → PlugsAtPort a → Standing ds n (shape k) tree → Standing ds n (shape (happened a ds k)) (plugged_after a tree)
+standing_next : (a : Action) (ds : List Spec) (n : ℕ) (k : Ports) (tree : PluggedMap) → action_fits n ds tree a ≡ true → PlugsAtPort a → ShapeAgrees ds n (shape k) tree → ShapeAgrees ds n (shape (after_change a ds k)) (plugged_after a tree)
 standing_next (Change (Plug e d)) ds n k tree h is s = standing_plug ds n k tree e d h is s
 standing_next (Change (Unplug e)) ds n k tree h is s = standing_unplug ds n k tree e h s
 standing_next (Ask ask) ds n k tree h is s = s
@@ -137,12 +137,12 @@ standing_next (Ask ask) ds n k tree h is s = s
 -- what stands is what the events that came left, and those that are left may come
 record Left (plan : PlanData) (past : List Event) (w : World) : Type 0 where
   went : Went plan past w
-  stands : Standing plan.devices plan.roots (shape w.roots) (plugged_by [] past)
+  stands : ShapeAgrees plan.devices plan.roots (shape w.roots) (plugged_by [] past)
   rest : events_fit plan.roots plan.devices (plugged_by [] past) w.left ≡ true
   paths : AtPorts w.left
 
-left_next : (plan : PlanData) (past : List Event) (e : Event) (events : List Event) (w : World) → w.left ≡ e ∷ events → Left plan past w → Left plan (past ++ e ∷ []) (took e events w)
-unfolding took
+left_next : (plan : PlanData) (past : List Event) (e : Event) (events : List Event) (w : World) → w.left ≡ e ∷ events → Left plan past w → Left plan (past ++ e ∷ []) (after_event e events w)
+unfolding after_event
 left_next plan past e events w s h =
     let tree = plugged_by [] past in
     let rest : events_fit plan.roots plan.devices tree (e ∷ events) ≡ true = ap (events_fit plan.roots plan.devices tree) (sym s) ∙ h.rest in
@@ -152,32 +152,32 @@ left_next plan past e events w s h =
     let stands = standing_next e.action plan.devices plan.roots w.roots tree fits.1 (All-head (λ x. PlugsAtPort x.action) e events paths) h.stands in
     record {
       went = went_next plan past e events w s h.went;
-      stands = rw (plugged_next [] past e, h.went.devices) stands;
-      rest = ap (λ t. events_fit plan.roots plan.devices t events) (plugged_next [] past e) ∙ parts.1;
+      stands = rw (plugged_by-next [] past e, h.went.devices) stands;
+      rest = ap (λ t. events_fit plan.roots plan.devices t events) (plugged_by-next [] past e) ∙ parts.1;
       paths = All-tail (λ x. PlugsAtPort x.action) e events paths;
     }
 
-left_rest : (plan : PlanData) (past : List Event) (w v : World) → Alike w v → Left plan past w → Left plan past v
+left_rest : (plan : PlanData) (past : List Event) (w v : World) → SameShape w v → Left plan past w → Left plan past v
 left_rest plan past w v a h = record {
   went = went_rest plan past w v a h.went;
-  stands = subst (λ x. Standing plan.devices plan.roots x (plugged_by [] past)) (sym a.shape) h.stands;
+  stands = subst (λ x. ShapeAgrees plan.devices plan.roots x (plugged_by [] past)) (sym a.shape) h.stands;
   rest = ap (events_fit plan.roots plan.devices (plugged_by [] past)) a.left ∙ h.rest;
   paths = subst AtPorts (sym a.left) h.paths;
 }
 
-nothing_there : (ds : List Spec) (n : ℕ) → Agrees ds (gaps n) []
-nothing_there ds n q = told q
+gaps_agree : (ds : List Spec) (n : ℕ) → Agrees ds (gaps n) []
+gaps_agree ds n q = told q
   where
-    told : (q : List ℕ) → Told ds (spec_there (gaps n) q) None
+    told : (q : List ℕ) → PlugAgrees ds (spec_there (gaps n) q) None
     told [] = tt
     told (zero ∷ q) = tt
-    told (suc i ∷ q) = subst (λ o. Told ds o None) (sym (empty_gaps n i q)) tt
+    told (suc i ∷ q) = subst (λ o. PlugAgrees ds o None) (sym (empty_gaps n i q)) tt
 
 left_opening : (plan : PlanData) → IsPlan plan → AtPorts plan.events → Left plan [] (opening plan)
 unfolding plugged_by
 left_opening plan is paths = record {
   went = went_opening plan;
-  stands = rw (shape_new plan.roots) (record { fits = fits_gaps plan.roots; agrees = nothing_there plan.devices plan.roots });
+  stands = rw (shape_new plan.roots) (record { fits = fits_gaps plan.roots; agrees = gaps_agree plan.devices plan.roots });
   rest = is.events;
   paths = paths;
 }
@@ -198,11 +198,11 @@ devices_left plan is paths w c path =
 
 -- What no event named
 
-way_away : (o : Option Spec) (x : Shape) (e p : List ℕ) → way_of e p ≡ false → spec_there (put_there o x e) p ≡ spec_there x p
+way_away : (o : Option Spec) (x : Shape) (e p : List ℕ) → way_of e p ≡ false → spec_there (shape_with o x e) p ≡ spec_there x p
 way_away o x [] p h = refl
 way_away o x (m ∷ e) p h = there_other o x (m ∷ e) p h
 
-happened_away : (a : Action) (ds : List Spec) (k : Ports) (p : List ℕ) → names_path ds a p ≡ false → spec_there (shape (happened a ds k)) p ≡ spec_there (shape k) p
+happened_away : (a : Action) (ds : List Spec) (k : Ports) (p : List ℕ) → names_path ds a p ≡ false → spec_there (shape (after_change a ds k)) p ≡ spec_there (shape k) p
 happened_away a ds k p =
     happened_by (λ v named. named ≡ false → spec_there (shape v) p ≡ spec_there (shape k) p) a ds k
     p (λ h. refl)
@@ -217,8 +217,8 @@ record Unnamed (w : World) (p : List ℕ) (past : List Event) (u : World) : Type
   devices : u.devices ≡ w.devices
   so : NoneNames w.devices past p → spec_there (shape u.roots) p ≡ spec_there (shape w.roots) p
 
-unnamed_next : (w : World) (p : List ℕ) (past : List Event) (e : Event) (events : List Event) (u : World) → u.left ≡ e ∷ events → Unnamed w p past u → Unnamed w p (past ++ e ∷ []) (took e events u)
-unfolding took
+unnamed_next : (w : World) (p : List ℕ) (past : List Event) (e : Event) (events : List Event) (u : World) → u.left ≡ e ∷ events → Unnamed w p past u → Unnamed w p (past ++ e ∷ []) (after_event e events u)
+unfolding after_event
 unnamed_next w p past e events u s h = record {
   split = h.split ∙ ap (λ l. past ++ l) s ∙ sym (append_assoc past (e ∷ []) events);
   devices = h.devices;
@@ -226,7 +226,7 @@ unnamed_next w p past e events u s h = record {
       happened_away e.action u.devices u.roots p (ap (λ ds. names_path ds e.action p) h.devices ∙ parts.1) ∙ h.so parts.0;
 }
 
-unnamed_rest : (w : World) (p : List ℕ) (past : List Event) (u v : World) → Alike u v → Unnamed w p past u → Unnamed w p past v
+unnamed_rest : (w : World) (p : List ℕ) (past : List Event) (u v : World) → SameShape u v → Unnamed w p past u → Unnamed w p past v
 unnamed_rest w p past u v a h = record {
   split = h.split ∙ ap (λ l. past ++ l) (sym a.left);
   devices = a.devices ∙ h.devices;

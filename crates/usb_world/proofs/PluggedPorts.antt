@@ -17,7 +17,7 @@ use Rattle.usb_world.specs.Exchange.{ports_in, token_out, payload_out, reply_out
 use Rattle.usb_world.specs.AttemptPackets.{after_sent, after_attempt}
 use Rattle.usb_world.specs.PluggedDevices.{hub_ports}
 use Rattle.usb_world.specs.PlanCourses.{spec_of}
-use Rattle.usb_world.proofs.PluggedShapes.{Shape, bare, gap, stands, spec_at, spec_there, gaps, put_first, put_at, put_there}
+use Rattle.usb_world.proofs.PluggedShapes.{Shape, bare, gap, stands, spec_at, spec_there, gaps, put_first, put_at, shape_with}
 use Rattle.usb_device.proofs.Interface.{answer-spec}
 
 unfoldable pub shape : Ports → Shape
@@ -35,20 +35,20 @@ unfolding shape
 over_before (empty b) k = refl
 over_before (full b s a) k = refl
 
-described : (k : Ports) (i : ℕ) (p : List ℕ) → option_map spec_of (state_at k i p) ≡ spec_at (shape k) i p
+spec_of-shape : (k : Ports) (i : ℕ) (p : List ℕ) → option_map spec_of (state_at k i p) ≡ spec_at (shape k) i p
 unfolding shape state_at spec_at
-described ended i p = refl
-described (vacant b k) zero p = refl
-described (vacant b k) (suc i) p = described k i p
-described (taken b s a k) zero [] = refl
-described (taken b s a k) zero (zero ∷ p) = refl
-described (taken b s a k) zero (suc j ∷ p) = described a j p
-described (taken b s a k) (suc i) p = described k i p
+spec_of-shape ended i p = refl
+spec_of-shape (vacant b k) zero p = refl
+spec_of-shape (vacant b k) (suc i) p = spec_of-shape k i p
+spec_of-shape (taken b s a k) zero [] = refl
+spec_of-shape (taken b s a k) zero (zero ∷ p) = refl
+spec_of-shape (taken b s a k) zero (suc j ∷ p) = spec_of-shape a j p
+spec_of-shape (taken b s a k) (suc i) p = spec_of-shape k i p
 
 pub described_there : (k : Ports) (p : List ℕ) → option_map spec_of (state_there k p) ≡ spec_there (shape k) p
 described_there k [] = refl
 described_there k (zero ∷ p) = refl
-described_there k (suc i ∷ p) = described k i p
+described_there k (suc i ∷ p) = spec_of-shape k i p
 
 -- What changes no device
 
@@ -147,7 +147,7 @@ shape_replaced o (taken b s a k) zero (zero ∷ p) = refl
 shape_replaced o (taken b s a k) zero (suc j ∷ p) = ap (λ z. stands s.spec z (shape k)) (shape_replaced o a j p)
 shape_replaced o (taken b s a k) (suc i) p = ap (stands s.spec (shape a)) (shape_replaced o k i p)
 
-pub shape_event : (o : Option Spec) (k : Ports) (p : List ℕ) → shape (changed (replaced o) k p) ≡ put_there o (shape k) p
+pub shape_event : (o : Option Spec) (k : Ports) (p : List ℕ) → shape (changed (replaced o) k p) ≡ shape_with o (shape k) p
 shape_event o k [] = refl
 shape_event o k (zero ∷ p) = refl
 shape_event o k (suc i ∷ p) = shape_replaced o k i p

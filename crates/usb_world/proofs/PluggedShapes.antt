@@ -4,7 +4,7 @@ use Rattle.std.specs.Prelude.{⊤}
 use Rattle.usb_device.specs.Spec.{Spec}
 use Rattle.usb_world.specs.Paths.{same_number, same_path, is_way, on_way}
 use Rattle.usb_world.specs.PluggedDevices.{hub_ports}
-use Rattle.usb_world.proofs.Booleans.{no}
+use Rattle.usb_world.proofs.Booleans.{false_true}
 
 -- a row of ports: no port more, an empty port, or a port with a device and that device's ports
 pub data Shape : Type 0 where
@@ -44,13 +44,13 @@ has_there x (zero ∷ p) = false
 has_there x (suc i ∷ p) = has_at x i p
 
 -- so many ports, and each device has as many as its description says
-unfoldable pub Fits : Shape → ℕ → Type 0
-Fits bare zero = ⊤
-Fits bare (suc n) = ⊥
-Fits (gap x) zero = ⊥
-Fits (gap x) (suc n) = Fits x n
-Fits (stands t a x) zero = ⊥
-Fits (stands t a x) (suc n) = Fits a (hub_ports t.hub) × Fits x n
+unfoldable pub ShapeFits : Shape → ℕ → Type 0
+ShapeFits bare zero = ⊤
+ShapeFits bare (suc n) = ⊥
+ShapeFits (gap x) zero = ⊥
+ShapeFits (gap x) (suc n) = ShapeFits x n
+ShapeFits (stands t a x) zero = ⊥
+ShapeFits (stands t a x) (suc n) = ShapeFits a (hub_ports t.hub) × ShapeFits x n
 
 -- so many empty ports
 unfoldable pub gaps : ℕ → Shape
@@ -72,10 +72,10 @@ put_at o (stands t a x) zero (zero ∷ p) = stands t a x
 put_at o (stands t a x) zero (suc j ∷ p) = stands t (put_at o a j p) x
 put_at o (stands t a x) (suc i) p = stands t a (put_at o x i p)
 
-abbrev pub put_there : Option Spec → Shape → List ℕ → Shape
-put_there o x [] = x
-put_there o x (zero ∷ p) = x
-put_there o x (suc i ∷ p) = put_at o x i p
+abbrev pub shape_with : Option Spec → Shape → List ℕ → Shape
+shape_with o x [] = x
+shape_with o x (zero ∷ p) = x
+shape_with o x (suc i ∷ p) = put_at o x i p
 
 -- What stands there
 
@@ -90,27 +90,27 @@ below_none : (x : Shape) (i : ℕ) (e : List ℕ) (j : ℕ) (p : List ℕ) → o
 unfolding spec_at is_way
 below_none bare i e j p w h = refl
 below_none (gap x) zero e zero p w h = refl
-below_none (gap x) zero e (suc j) p w h = no w
+below_none (gap x) zero e (suc j) p w h = false_true w
 below_none (gap x) (suc i) e zero p w h = refl
 below_none (gap x) (suc i) e (suc j) p w h = below_none x i e j p w h
 below_none (stands t a x) zero [] zero p w h = cc
-below_none (stands t a x) zero (n ∷ e) zero [] w h = no w
+below_none (stands t a x) zero (n ∷ e) zero [] w h = false_true w
 below_none (stands t a x) zero (n ∷ e) zero (zero ∷ p) w h = refl
-below_none (stands t a x) zero (zero ∷ e) zero (suc j ∷ p) w h = no w
+below_none (stands t a x) zero (zero ∷ e) zero (suc j ∷ p) w h = false_true w
 below_none (stands t a x) zero (suc i ∷ e) zero (suc j ∷ p) w h = below_none a i e j p w h
-below_none (stands t a x) zero [] (suc j) p w h = no w
-below_none (stands t a x) zero (n ∷ e) (suc j) p w h = no w
-below_none (stands t a x) (suc i) e zero p w h = no w
+below_none (stands t a x) zero [] (suc j) p w h = false_true w
+below_none (stands t a x) zero (n ∷ e) (suc j) p w h = false_true w
+below_none (stands t a x) (suc i) e zero p w h = false_true w
 below_none (stands t a x) (suc i) e (suc j) p w h = below_none x i e j p w h
 
 put_here : (t : Spec) (x : Shape) (i : ℕ) (e : List ℕ) → has_at x i e ≡ true → spec_at (put_at (Some t) x i e) i e ≡ Some t
 unfolding spec_at put_at has_at
-put_here t bare i e h = no h
+put_here t bare i e h = false_true h
 put_here t (gap x) zero [] h = refl
-put_here t (gap x) zero (n ∷ e) h = no h
+put_here t (gap x) zero (n ∷ e) h = false_true h
 put_here t (gap x) (suc i) e h = put_here t x i e h
 put_here t (stands s a x) zero [] h = refl
-put_here t (stands s a x) zero (zero ∷ e) h = no h
+put_here t (stands s a x) zero (zero ∷ e) h = false_true h
 put_here t (stands s a x) zero (suc i ∷ e) h = put_here t a i e h
 put_here t (stands s a x) (suc i) e h = put_here t x i e h
 
@@ -118,27 +118,27 @@ put_here t (stands s a x) (suc i) e h = put_here t x i e h
 put_below : (t : Spec) (x : Shape) (i : ℕ) (e : List ℕ) (j : ℕ) (p : List ℕ) → on_way i e j p ≡ true → (same_number i j && same_path e p) ≡ false → spec_at (put_at (Some t) x i e) j p ≡ None
 unfolding spec_at put_at is_way
 put_below t bare i e j p w h = refl
-put_below t (gap x) zero [] zero [] w h = no (sym h)
+put_below t (gap x) zero [] zero [] w h = false_true (sym h)
 put_below t (gap x) zero [] zero (zero ∷ p) w h = refl
 put_below t (gap x) zero [] zero (suc n ∷ p) w h = empty_gaps (hub_ports t.hub) n p
 put_below t (gap x) zero (m ∷ e) zero p w h = refl
-put_below t (gap x) zero [] (suc j) p w h = no w
-put_below t (gap x) zero (m ∷ e) (suc j) p w h = no w
-put_below t (gap x) (suc i) e zero p w h = no w
+put_below t (gap x) zero [] (suc j) p w h = false_true w
+put_below t (gap x) zero (m ∷ e) (suc j) p w h = false_true w
+put_below t (gap x) (suc i) e zero p w h = false_true w
 put_below t (gap x) (suc i) e (suc j) p w h = put_below t x i e j p w h
-put_below t (stands s a x) zero [] zero [] w h = no (sym h)
+put_below t (stands s a x) zero [] zero [] w h = false_true (sym h)
 put_below t (stands s a x) zero [] zero (zero ∷ p) w h = refl
 put_below t (stands s a x) zero [] zero (suc n ∷ p) w h = empty_gaps (hub_ports t.hub) n p
-put_below t (stands s a x) zero (zero ∷ e) zero [] w h = no w
+put_below t (stands s a x) zero (zero ∷ e) zero [] w h = false_true w
 put_below t (stands s a x) zero (zero ∷ e) zero (zero ∷ p) w h = refl
-put_below t (stands s a x) zero (zero ∷ e) zero (suc j ∷ p) w h = no w
-put_below t (stands s a x) zero (suc i ∷ e) zero [] w h = no w
+put_below t (stands s a x) zero (zero ∷ e) zero (suc j ∷ p) w h = false_true w
+put_below t (stands s a x) zero (suc i ∷ e) zero [] w h = false_true w
 put_below t (stands s a x) zero (suc i ∷ e) zero (zero ∷ p) w h = refl
 put_below t (stands s a x) zero (suc i ∷ e) zero (suc j ∷ p) w h = put_below t a i e j p w h
-put_below t (stands s a x) zero [] (suc j) p w h = no w
-put_below t (stands s a x) zero (zero ∷ e) (suc j) p w h = no w
-put_below t (stands s a x) zero (suc i ∷ e) (suc j) p w h = no w
-put_below t (stands s a x) (suc i) e zero p w h = no w
+put_below t (stands s a x) zero [] (suc j) p w h = false_true w
+put_below t (stands s a x) zero (zero ∷ e) (suc j) p w h = false_true w
+put_below t (stands s a x) zero (suc i ∷ e) (suc j) p w h = false_true w
+put_below t (stands s a x) (suc i) e zero p w h = false_true w
 put_below t (stands s a x) (suc i) e (suc j) p w h = put_below t x i e j p w h
 
 -- nothing stands where something was unplugged, nor below it
@@ -147,33 +147,33 @@ unfolding spec_at put_at is_way
 off_below bare i e j p w = refl
 off_below (gap x) zero [] zero p w = refl
 off_below (gap x) zero (m ∷ e) zero p w = refl
-off_below (gap x) zero [] (suc j) p w = no w
-off_below (gap x) zero (m ∷ e) (suc j) p w = no w
-off_below (gap x) (suc i) e zero p w = no w
+off_below (gap x) zero [] (suc j) p w = false_true w
+off_below (gap x) zero (m ∷ e) (suc j) p w = false_true w
+off_below (gap x) (suc i) e zero p w = false_true w
 off_below (gap x) (suc i) e (suc j) p w = off_below x i e j p w
 off_below (stands s a x) zero [] zero p w = refl
-off_below (stands s a x) zero (zero ∷ e) zero [] w = no w
+off_below (stands s a x) zero (zero ∷ e) zero [] w = false_true w
 off_below (stands s a x) zero (zero ∷ e) zero (zero ∷ p) w = refl
-off_below (stands s a x) zero (zero ∷ e) zero (suc j ∷ p) w = no w
-off_below (stands s a x) zero (suc i ∷ e) zero [] w = no w
+off_below (stands s a x) zero (zero ∷ e) zero (suc j ∷ p) w = false_true w
+off_below (stands s a x) zero (suc i ∷ e) zero [] w = false_true w
 off_below (stands s a x) zero (suc i ∷ e) zero (zero ∷ p) w = refl
 off_below (stands s a x) zero (suc i ∷ e) zero (suc j ∷ p) w = off_below a i e j p w
-off_below (stands s a x) zero [] (suc j) p w = no w
-off_below (stands s a x) zero (zero ∷ e) (suc j) p w = no w
-off_below (stands s a x) zero (suc i ∷ e) (suc j) p w = no w
-off_below (stands s a x) (suc i) e zero p w = no w
+off_below (stands s a x) zero [] (suc j) p w = false_true w
+off_below (stands s a x) zero (zero ∷ e) (suc j) p w = false_true w
+off_below (stands s a x) zero (suc i ∷ e) (suc j) p w = false_true w
+off_below (stands s a x) (suc i) e zero p w = false_true w
 off_below (stands s a x) (suc i) e (suc j) p w = off_below x i e j p w
 
 put_other : (o : Option Spec) (x : Shape) (i : ℕ) (e : List ℕ) (j : ℕ) (p : List ℕ) → on_way i e j p ≡ false → spec_at (put_at o x i e) j p ≡ spec_at x j p
 unfolding spec_at put_at is_way
 put_other o bare i e j p w = refl
-put_other o (gap x) zero [] zero p w = no (sym w)
+put_other o (gap x) zero [] zero p w = false_true (sym w)
 put_other None (gap x) zero [] (suc j) p w = refl
 put_other (Some t) (gap x) zero [] (suc j) p w = refl
 put_other o (gap x) zero (m ∷ e) j p w = refl
 put_other o (gap x) (suc i) e zero p w = refl
 put_other o (gap x) (suc i) e (suc j) p w = put_other o x i e j p w
-put_other o (stands s a x) zero [] zero p w = no (sym w)
+put_other o (stands s a x) zero [] zero p w = false_true (sym w)
 put_other None (stands s a x) zero [] (suc j) p w = refl
 put_other (Some t) (stands s a x) zero [] (suc j) p w = refl
 put_other o (stands s a x) zero (zero ∷ e) j p w = refl
@@ -193,31 +193,31 @@ unfolding is_way
 there_none x [] p w f h = elim (f refl) [ ]
 there_none x (n ∷ e) [] w f h = refl
 there_none x (n ∷ e) (zero ∷ p) w f h = refl
-there_none x (zero ∷ e) (suc j ∷ p) w f h = no w
+there_none x (zero ∷ e) (suc j ∷ p) w f h = false_true w
 there_none x (suc i ∷ e) (suc j ∷ p) w f h = below_none x i e j p w h
 
-pub there_here : (t : Spec) (x : Shape) (e : List ℕ) → has_there x e ≡ true → spec_there (put_there (Some t) x e) e ≡ Some t
-there_here t x [] h = no h
-there_here t x (zero ∷ e) h = no h
+pub there_here : (t : Spec) (x : Shape) (e : List ℕ) → has_there x e ≡ true → spec_there (shape_with (Some t) x e) e ≡ Some t
+there_here t x [] h = false_true h
+there_here t x (zero ∷ e) h = false_true h
 there_here t x (suc i ∷ e) h = put_here t x i e h
 
-pub there_below : (t : Spec) (x : Shape) (e p : List ℕ) → has_there x e ≡ true → is_way e p ≡ true → same_path e p ≡ false → spec_there (put_there (Some t) x e) p ≡ None
+pub there_below : (t : Spec) (x : Shape) (e p : List ℕ) → has_there x e ≡ true → is_way e p ≡ true → same_path e p ≡ false → spec_there (shape_with (Some t) x e) p ≡ None
 unfolding is_way
-there_below t x [] p f w h = no f
-there_below t x (zero ∷ e) p f w h = no f
+there_below t x [] p f w h = false_true f
+there_below t x (zero ∷ e) p f w h = false_true f
 there_below t x (suc i ∷ e) [] f w h = refl
 there_below t x (suc i ∷ e) (zero ∷ p) f w h = refl
 there_below t x (suc i ∷ e) (suc j ∷ p) f w h = put_below t x i e j p w h
 
-pub there_off : (x : Shape) (e p : List ℕ) → (e ≡ [] → ⊥) → is_way e p ≡ true → spec_there (put_there None x e) p ≡ None
+pub there_off : (x : Shape) (e p : List ℕ) → (e ≡ [] → ⊥) → is_way e p ≡ true → spec_there (shape_with None x e) p ≡ None
 unfolding is_way
 there_off x [] p f w = elim (f refl) [ ]
 there_off x (n ∷ e) [] f w = refl
 there_off x (n ∷ e) (zero ∷ p) f w = refl
-there_off x (zero ∷ e) (suc j ∷ p) f w = no w
+there_off x (zero ∷ e) (suc j ∷ p) f w = false_true w
 there_off x (suc i ∷ e) (suc j ∷ p) f w = off_below x i e j p w
 
-pub there_other : (o : Option Spec) (x : Shape) (e p : List ℕ) → is_way e p ≡ false → spec_there (put_there o x e) p ≡ spec_there x p
+pub there_other : (o : Option Spec) (x : Shape) (e p : List ℕ) → is_way e p ≡ false → spec_there (shape_with o x e) p ≡ spec_there x p
 unfolding is_way
 there_other o x [] p w = refl
 there_other o x (zero ∷ e) p w = refl
@@ -227,18 +227,18 @@ there_other o x (suc i ∷ e) (suc j ∷ p) w = put_other o x i e j p w
 
 -- Ports
 
-pub fits_gaps : (n : ℕ) → Fits (gaps n) n
-unfolding gaps Fits
+pub fits_gaps : (n : ℕ) → ShapeFits (gaps n) n
+unfolding gaps ShapeFits
 fits_gaps zero = tt
 fits_gaps (suc n) = fits_gaps n
 
-fits_first : (o : Option Spec) (x : Shape) (n : ℕ) → Fits x n → Fits (put_first o x) (suc n)
-unfolding Fits
+fits_first : (o : Option Spec) (x : Shape) (n : ℕ) → ShapeFits x n → ShapeFits (put_first o x) (suc n)
+unfolding ShapeFits
 fits_first None x n h = h
 fits_first (Some t) x n h = (fits_gaps (hub_ports t.hub), h)
 
-fits_at : (o : Option Spec) (x : Shape) (n i : ℕ) (e : List ℕ) → Fits x n → Fits (put_at o x i e) n
-unfolding Fits put_at
+fits_at : (o : Option Spec) (x : Shape) (n i : ℕ) (e : List ℕ) → ShapeFits x n → ShapeFits (put_at o x i e) n
+unfolding ShapeFits put_at
 fits_at o bare n i e h = h
 fits_at o (gap x) zero i e h = elim h [ ]
 fits_at o (gap x) (suc n) zero [] h = fits_first o x n h
@@ -250,13 +250,13 @@ fits_at o (stands s a x) (suc n) zero (zero ∷ e) h = h
 fits_at o (stands s a x) (suc n) zero (suc j ∷ e) h = (fits_at o a (hub_ports s.hub) j e h.0, h.1)
 fits_at o (stands s a x) (suc n) (suc i) e h = (h.0, fits_at o x n i e h.1)
 
-pub fits_there : (o : Option Spec) (x : Shape) (n : ℕ) (e : List ℕ) → Fits x n → Fits (put_there o x e) n
+pub fits_there : (o : Option Spec) (x : Shape) (n : ℕ) (e : List ℕ) → ShapeFits x n → ShapeFits (shape_with o x e) n
 fits_there o x n [] h = h
 fits_there o x n (zero ∷ e) h = h
 fits_there o x n (suc i ∷ e) h = fits_at o x n i e h
 
-pub has_first : (x : Shape) (n i : ℕ) → Fits x n → i < n → has_at x i [] ≡ true
-unfolding Fits has_at
+pub has_first : (x : Shape) (n i : ℕ) → ShapeFits x n → i < n → has_at x i [] ≡ true
+unfolding ShapeFits has_at
 has_first bare zero i f h = absurd (omega (arith, h))
 has_first bare (suc n) i f h = elim f [ ]
 has_first (gap x) zero i f h = elim f [ ]
@@ -267,18 +267,18 @@ has_first (stands s a x) (suc n) zero f h = refl
 has_first (stands s a x) (suc n) (suc i) f h = has_first x n i f.1 (omega (arith, h))
 
 -- a device has each port of its number
-pub has_below : (x : Shape) (n i : ℕ) (p : List ℕ) (t : Spec) (m : ℕ) → Fits x n → spec_at x i p ≡ Some t → m < hub_ports t.hub → has_at x i (p ++ (suc m ∷ [])) ≡ true
-unfolding Fits has_at spec_at
-has_below bare n i p t m f e h = cc
-has_below (gap x) zero i p t m f e h = elim f [ ]
-has_below (gap x) (suc n) zero p t m f e h = cc
-has_below (gap x) (suc n) (suc i) p t m f e h = has_below x n i p t m f e h
-has_below (stands s a x) zero i p t m f e h = elim f [ ]
-has_below (stands s a x) (suc n) zero [] t m f e h = has_first a (hub_ports s.hub) m f.0 (omega (arith, ap count e, h))
+pub has_at-below : (x : Shape) (n i : ℕ) (p : List ℕ) (t : Spec) (m : ℕ) → ShapeFits x n → spec_at x i p ≡ Some t → m < hub_ports t.hub → has_at x i (p ++ (suc m ∷ [])) ≡ true
+unfolding ShapeFits has_at spec_at
+has_at-below bare n i p t m f e h = cc
+has_at-below (gap x) zero i p t m f e h = elim f [ ]
+has_at-below (gap x) (suc n) zero p t m f e h = cc
+has_at-below (gap x) (suc n) (suc i) p t m f e h = has_at-below x n i p t m f e h
+has_at-below (stands s a x) zero i p t m f e h = elim f [ ]
+has_at-below (stands s a x) (suc n) zero [] t m f e h = has_first a (hub_ports s.hub) m f.0 (omega (arith, ap count e, h))
   where
     count : Option Spec → ℕ
     count None = 0
     count (Some t) = hub_ports t.hub
-has_below (stands s a x) (suc n) zero (zero ∷ p) t m f e h = cc
-has_below (stands s a x) (suc n) zero (suc j ∷ p) t m f e h = has_below a (hub_ports s.hub) j p t m f.0 e h
-has_below (stands s a x) (suc n) (suc i) p t m f e h = has_below x n i p t m f.1 e h
+has_at-below (stands s a x) (suc n) zero (zero ∷ p) t m f e h = cc
+has_at-below (stands s a x) (suc n) zero (suc j ∷ p) t m f e h = has_at-below a (hub_ports s.hub) j p t m f.0 e h
+has_at-below (stands s a x) (suc n) (suc i) p t m f e h = has_at-below x n i p t m f.1 e h

@@ -33,7 +33,7 @@ use Rattle.usb_world.specs.Exchange.{payload_of, goes_out, payload_out}
 use Rattle.usb_world.specs.AttemptPackets.{IfOut}
 use Rattle.usb_world.specs.PortRequests.{asks_no_port}
 use Rattle.usb_world.proofs.AttemptPackets.{sent_out}
-use Rattle.usb_world.proofs.Booleans.{no, both}
+use Rattle.usb_world.proofs.Booleans.{false_true, both}
 use Rattle.usb_world.proofs.PacketPlaces.{is_left}
 
 abbrev pub payload_asks_no_port : Option (Toggle × ArrayVec ℕ) → Bool
@@ -48,18 +48,18 @@ pub record Allows (T : Effect → Bool) (r : Setup) : Type 0 where
   pub clear : Is r PORT_OUT CLEAR_FEATURE ≡ true → (c : PortCall) (i : ℕ) → clear_call r.value ≡ Some c → r.index ≡ suc i → T (Calls c i) ≡ true
 
 -- wIndex counts ports from 1
-no_port : (x y : Bool) (n i : ℕ) → (if x && false && y then Some n else None) ≡ Some i → ⊥
-no_port true y n i h = no (ap is_some h)
-no_port false y n i h = no (ap is_some h)
+if_and_false : (x y : Bool) (n i : ℕ) → (if x && false && y then Some n else None) ≡ Some i → ⊥
+if_and_false true y n i h = false_true (ap is_some h)
+if_and_false false y n i h = false_true (ap is_some h)
 
-named : (o : Option Hub) (g : Registers) (n i : ℕ) → port_named o g n ≡ Some i → n ≡ suc i
-named None g n i h = no (ap is_some h)
-named (Some hub) g zero i h = elim (no_port (not (g.configuration == 0)) (nat_le 0 hub.ports) (0 - 1) i h) [ ]
-named (Some hub) g (suc n) i h = pick (not (g.configuration == 0) && nat_le 1 (suc n) && nat_le (suc n) hub.ports) h
+port_named-some : (o : Option Hub) (g : Registers) (n i : ℕ) → port_named o g n ≡ Some i → n ≡ suc i
+port_named-some None g n i h = false_true (ap is_some h)
+port_named-some (Some hub) g zero i h = elim (if_and_false (not (g.configuration == 0)) (nat_le 0 hub.ports) (0 - 1) i h) [ ]
+port_named-some (Some hub) g (suc n) i h = pick (not (g.configuration == 0) && nat_le 1 (suc n) && nat_le (suc n) hub.ports) h
   where
     pick : (x : Bool) → (if x then Some (suc n - 1) else None) ≡ Some i → suc n ≡ suc i
     pick true e = let z : suc n - 1 ≡ i = same_Some (suc n - 1) i e in omega (arith, z)
-    pick false e = no (ap is_some e)
+    pick false e = false_true (ap is_some e)
 
 module _ (T : Effect → Bool) (r : Setup) (h : Allows T r) where
   abbrev Good : Outcome → Type 0
@@ -103,7 +103,7 @@ module _ (T : Effect → Bool) (r : Setup) (h : Allows T r) where
   by_feature : (c : Option PortCall) (s : Spec) (g : Registers) → ((x : PortCall) (i : ℕ) → c ≡ Some x → r.index ≡ suc i → T (Calls x i) ≡ true) → Good (port_feature c s g r)
   by_feature c s g f =
       both_ways (r.length == 0) (called_at c (port_named s.hub g r.index)) stalled
-      (by_call c (port_named s.hub g r.index) (λ x i e at. f x i e (named s.hub g r.index i at))) h.rests
+      (by_call c (port_named s.hub g r.index) (λ x i e at. f x i e (port_named-some s.hub g r.index i at))) h.rests
 
   good_outcome : (s : Spec) (g : Registers) → Good (outcome s g r)
   unfolding outcome
@@ -168,15 +168,15 @@ payload_allowed T e a d h = go a.payload h
 
 -- Requests that ask nothing
 
-denied : {A : Type 0} (x : Bool) → not x ≡ true → x ≡ true → A
-denied true h e = no h
-denied false h e = no e
+not-contradiction : {A : Type 0} (x : Bool) → not x ≡ true → x ≡ true → A
+not-contradiction true h e = false_true h
+not-contradiction false h e = false_true e
 
 pub no_port_allows : (r : Setup) → asks_no_port r ≡ true → Allows is_left r
 no_port_allows r h =
     let one = both (not (Is r PORT_OUT SET_FEATURE)) (not (Is r PORT_OUT CLEAR_FEATURE) && not (Is r DEVICE_OUT SET_CONFIGURATION)) h in
     let two = both (not (Is r PORT_OUT CLEAR_FEATURE)) (not (Is r DEVICE_OUT SET_CONFIGURATION)) one.1 in
-    record { rests = refl; off = λ e. denied (Is r DEVICE_OUT SET_CONFIGURATION) two.1 e; set = λ e c i x y. denied (Is r PORT_OUT SET_FEATURE) one.0 e; clear = λ e c i x y. denied (Is r PORT_OUT CLEAR_FEATURE) two.0 e }
+    record { rests = refl; off = λ e. not-contradiction (Is r DEVICE_OUT SET_CONFIGURATION) two.1 e; set = λ e c i x y. not-contradiction (Is r PORT_OUT SET_FEATURE) one.0 e; clear = λ e c i x y. not-contradiction (Is r PORT_OUT CLEAR_FEATURE) two.0 e }
 
 pub payload_no_port_allows : (o : Option (Toggle × ArrayVec ℕ)) → payload_asks_no_port o ≡ true → PayloadAllows is_left o
 payload_no_port_allows None h = tt

@@ -16,10 +16,10 @@ use Rattle.usb_world.specs.declared.types.Attempt.{Attempt}
 use Rattle.usb_world.specs.Wire.{damage_of, harm_to, mark_of, bit_count, marked, marked_some}
 use Rattle.usb_world.specs.Exchange.{token_of, payload_of}
 use Rattle.usb_world.specs.Losses.{no_losses}
-use Rattle.usb_world.specs.Paths.{pend_at, pend}
+use Rattle.usb_world.specs.Paths.{pending_at, pending}
 use Rattle.usb_world.specs.WayEffects.{resets_at}
 use Rattle.usb_world.specs.World.{World}
-use Rattle.usb_world.specs.Steps.{due_from, ready, attempt}
+use Rattle.usb_world.specs.Steps.{after_due_events, at_attempt, attempt}
 use Rattle.usb_world.specs.Courses.{resets}
 use Rattle.usb_world.proofs.ToldChanges.{change_told_at, change_told}
 use Rattle.usb_world.proofs.RestingAttempts.{data_asks_no_port}
@@ -28,20 +28,20 @@ use Rattle.usb_world.proofs.RestingAttempts.{data_asks_no_port}
 abbrev unpowered : Ports
 unpowered = vacant (record { attached = nothing; power = false; enable = false; connection_changed = true; enable_changed = false; reset_changed = false }) ended
 
-told_alone : (change_told unpowered (1 ∷ []) ≡ true) × (pend unpowered (1 ∷ []) ≡ false)
-unfolding change_told_at pend_at
+told_alone : (change_told unpowered (1 ∷ []) ≡ true) × (pending unpowered (1 ∷ []) ≡ false)
+unfolding change_told_at pending_at
 told_alone = (refl, refl)
 
 -- a hub that saw a SETUP token, and then OUT whose token is lost: it takes the data for setup data
-abbrev hub : Spec
-hub = record (function (0x68 ∷ []) (0x12 ∷ 1 ∷ 0 ∷ 2 ∷ 9 ∷ 0 ∷ 0 ∷ 0x40 ∷ 1 ∷ 0 ∷ 2 ∷ 0 ∷ 0 ∷ 1 ∷ 0 ∷ 0 ∷ 0 ∷ 1 ∷ []) ([])) { hub = Some (usual_hub 1) }
+abbrev asked_hub : Spec
+asked_hub = record (function (0x68 ∷ []) (0x12 ∷ 1 ∷ 0 ∷ 2 ∷ 9 ∷ 0 ∷ 0 ∷ 0x40 ∷ 1 ∷ 0 ∷ 2 ∷ 0 ∷ 0 ∷ 1 ∷ 0 ∷ 0 ∷ 0 ∷ 1 ∷ []) ([])) { hub = Some (usual_hub 1) }
 
 abbrev awaiting : World
 awaiting = record {
   roots = taken
       (record { attached = full; power = true; enable = true; connection_changed = false; enable_changed = false; reset_changed = false })
-      (record (fresh hub) { registers = record { address = 1; configuration = 1 }; memory = SetupSeen })
-      (taken (record { attached = full; power = true; enable = false; connection_changed = false; enable_changed = false; reset_changed = false }) (fresh hub) ended ended)
+      (record (fresh asked_hub) { registers = record { address = 1; configuration = 1 }; memory = SetupSeen })
+      (taken (record { attached = full; power = true; enable = false; connection_changed = false; enable_changed = false; reset_changed = false }) (fresh asked_hub) ended ended)
       ended;
   devices = [];
   left = [];
@@ -59,5 +59,5 @@ abbrev sends_out : Attempt
 sends_out = record { kind = OutTok; addr = 1; ep = 0; low = false; pre = false; max = 64; payload = Some (Zero, record { items = 0x23 ∷ 3 ∷ 4 ∷ 0 ∷ 1 ∷ 0 ∷ 0 ∷ 0 ∷ [] }) }
 
 resets_by_out : (data_asks_no_port sends_out.kind sends_out.payload ≡ true) × (resets (attempt sends_out) awaiting (1 ∷ 1 ∷ []) ≡ true)
-unfolding resets resets_at due_from ready marked marked_some mark_of harm_to damage_of bit_count token_of payload_of place_at received unread fresh asks answer_of effect_of after_packet setup_of outcome
+unfolding resets resets_at after_due_events at_attempt marked marked_some mark_of harm_to damage_of bit_count token_of payload_of place_at received unread fresh asks answer_of effect_of after_packet setup_of outcome
 resets_by_out = (refl, refl)

@@ -21,7 +21,7 @@ use Rattle.usb_world.specs.Exchange.{token_of, reply_of, sent_as, goes_out, toke
 use Rattle.usb_world.specs.AttemptPackets.{after_sent}
 use Rattle.usb_world.specs.CutPackets.{IsStopped}
 use Rattle.usb_world.specs.Steps.{IsCut}
-use Rattle.usb_world.proofs.Booleans.{no, and_false}
+use Rattle.usb_world.proofs.Booleans.{false_true, and_false}
 
 -- whether a device's sink grows at what goes out
 abbrev grows_at : State → Content → Bool
@@ -41,7 +41,7 @@ not_stopped : (q : Sent) (deep : Bool) (k m : Ports) → ((s : State) → grows_
 not_stopped q deep _ _ still (behind_empty {k = k} {m = m} b x) = not_stopped q deep k m still x
 not_stopped q deep _ _ still (behind {k = k} {m = m} b s a x) = not_stopped q deep k m still x
 not_stopped q deep _ _ still (below {a = a} {c = c} b s k on x) = not_stopped q true a c still x
-not_stopped q deep _ _ still (here b s a k p on whole heard grows) = no (sym (still s) ∙ ap (grows_at s) whole ∙ grows)
+not_stopped q deep _ _ still (here b s a k p on whole heard grows) = false_true (sym (still s) ∙ ap (grows_at s) whole ∙ grows)
 
 not_stopped_out : (out : Option Sent) (k m : Ports) → ((s : State) → grows_out s out ≡ false) → IsStopped out k m → ⊥
 not_stopped_out out k m still h = not_stopped h.sent false k m (λ s. ap (grows_out s) (sym h.went) ∙ still s) h.stopped

@@ -10,14 +10,14 @@ use Rattle.usb_world.specs.declared.types.Attempt.{Attempt}
 use Rattle.usb_world.specs.Exchange.{token_out, payload_out}
 use Rattle.usb_world.specs.AttemptPackets.{after_sent, IfOut, IsDataOut, IsSettled}
 use Rattle.usb_world.specs.World.{World}
-use Rattle.usb_world.specs.Steps.{ready, damage_in, attempt}
+use Rattle.usb_world.specs.Steps.{at_attempt, damage_in, attempt}
 use Rattle.usb_world.specs.Addresses.{is_setup}
 use Rattle.usb_world.specs.PortRequests.{AsksNothing}
 use Rattle.usb_world.proofs.AddressesInTransfers.{If, WaitsNone, data_effect, none_waits}
 use Rattle.usb_world.proofs.OneHolderAttempts.{ready_settled}
 use Rattle.usb_world.proofs.Courses.{goes}
 use Rattle.usb_world.proofs.PortRequests.{AllowsOut, sent_allowed, payload_allowed, payload_no_port_allows, payload_asks_no_port}
-use Rattle.usb_world.proofs.PacketWays.{NoneAsks, nothing_asked}
+use Rattle.usb_world.proofs.PacketWays.{NoneAsks, none_asks_nothing}
 use Rattle.usb_world.proofs.PacketPlaces.{left_is, is_left}
 use Rattle.arrayvec.specs.ArrayVec.{ArrayVec}
 use Rattle.usb_packet.specs.declared.Toggle.{Toggle}
@@ -34,17 +34,17 @@ allowed_none o k h q e j x t at dp = left_is (effect_of q dp t) (sent_allowed is
 -- whoever hears them
 pub payload_asks_nothing : (a : Attempt) (w : World) (p : List ℕ) → payload_asks_no_port a.payload ≡ true → AsksNothing (attempt a) w p
 payload_asks_nothing a w p h =
-    nothing_asked a w p (allowed_none (payload_out a (damage_in (ready w))) (after_sent (token_out a (damage_in (ready w))) (ready w).roots) (payload_allowed is_left refl a (damage_in (ready w)) (payload_no_port_allows a.payload h)))
+    none_asks_nothing a w p (allowed_none (payload_out a (damage_in (at_attempt w))) (after_sent (token_out a (damage_in (at_attempt w))) (at_attempt w).roots) (payload_allowed is_left refl a (damage_in (at_attempt w)) (payload_no_port_allows a.payload h)))
 
 -- IN and OUT, where no device remembers a packet before them
 
-pub data_asks_none : (a : Attempt) (w : World) → is_setup a.kind ≡ false → IsSettled w.roots → NoneAsks (payload_out a (damage_in (ready w))) (after_sent (token_out a (damage_in (ready w))) (ready w).roots)
+pub data_asks_none : (a : Attempt) (w : World) → is_setup a.kind ≡ false → IsSettled w.roots → NoneAsks (payload_out a (damage_in (at_attempt w))) (after_sent (token_out a (damage_in (at_attempt w))) (at_attempt w).roots)
 data_asks_none a w kind h q o j e t at dp =
-    let d : Option Damage = damage_in (ready w) in
-    data_effect q (subst (IfOut IsDataOut) o (goes a d (ready w).roots).payload) dp t (subst (If WaitsNone) at (none_waits a d (ready w).roots (ready_settled w h) kind j e))
+    let d : Option Damage = damage_in (at_attempt w) in
+    data_effect q (subst (IfOut IsDataOut) o (goes a d (at_attempt w).roots).payload) dp t (subst (If WaitsNone) at (none_waits a d (at_attempt w).roots (ready_settled w h) kind j e))
 
 pub data_asks_nothing : (a : Attempt) (w : World) (p : List ℕ) → is_setup a.kind ≡ false → IsSettled w.roots → AsksNothing (attempt a) w p
-data_asks_nothing a w p kind h = nothing_asked a w p (data_asks_none a w kind h)
+data_asks_nothing a w p kind h = none_asks_nothing a w p (data_asks_none a w kind h)
 
 -- where no device remembers a packet before it
 pub settled_asks_nothing : (a : Attempt) (w : World) (p : List ℕ) → data_asks_no_port a.kind a.payload ≡ true → IsSettled w.roots → AsksNothing (attempt a) w p

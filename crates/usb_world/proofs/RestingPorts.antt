@@ -8,14 +8,14 @@ use Rattle.usb_device.specs.View.{state_there}
 use Rattle.usb_world.specs.declared.event.Action.{Action}
 use Rattle.usb_world.specs.declared.types.Attempt.{Attempt}
 use Rattle.usb_world.specs.Exchange.{token_out, payload_out, reply_out, ports_in}
-use Rattle.usb_world.specs.Paths.{live}
+use Rattle.usb_world.specs.Paths.{has_power}
 use Rattle.usb_world.specs.PlanCourses.{spec_of}
 use Rattle.usb_world.specs.World.{World}
-use Rattle.usb_world.specs.Steps.{happened, names_path, took, ready, damage_in, with_attempt}
+use Rattle.usb_world.specs.Steps.{after_change, names_path, after_event, at_attempt, damage_in, with_attempt}
 use Rattle.usb_world.specs.Steps.{Course}
-use Rattle.usb_world.specs.Courses.{UndisturbedOrPends, Spares}
+use Rattle.usb_world.specs.Courses.{UndisturbedOrPends, KeepsPendingAt}
 use Rattle.usb_world.specs.PortRequests.{made_leaves, root_leaves, leaves_step}
-use Rattle.usb_world.specs.RestingPorts.{SameAt, AsksNothingOf, RestsOrPends, StandsOrPends}
+use Rattle.usb_world.specs.RestingPorts.{SameAt, LeavesPortAlone, UnchangedOrPending, SameDeviceOrPending}
 use Rattle.usb_world.proofs.WayChanges.{root_there}
 use Rattle.usb_world.proofs.PlugEvents.{happened_there}
 use Rattle.usb_world.proofs.PluggedShapes.{spec_there}
@@ -40,7 +40,7 @@ shaped k v p h = described_there v p ∙ ap (λ x. spec_there x p) h ∙ sym (de
 -- Events
 
 happened_same : (a : Action) (d : List Spec) (k : Ports) (p : List ℕ)
-    → names_path d a p ≡ false → SameAt k (happened a d k) p
+    → names_path d a p ≡ false → SameAt k (after_change a d k) p
 happened_same a d k p h =
     let same : _ = happened_there a d k p h in
     record { port = same.1; on = same.0; what = ap (option_map spec_of) same.2 }
@@ -76,26 +76,26 @@ root_same c m w p h =
     }
 
 rests_steps : (p : List ℕ)
-    → OverSteps (AsksNothingOf p) (LiveOrPends (λ w v. SameAt w.roots v.roots p) p)
-unfolding took leaves_step
+    → OverSteps (LeavesPortAlone p) (LiveOrPends (λ w v. SameAt w.roots v.roots p) p)
+unfolding after_event leaves_step
 rests_steps p = over_live (record {
   same = λ w. same_self w.roots p;
   joined = λ w m v. same_then w.roots m.roots v.roots p;
   came = λ e es w l. happened_same e.action w.devices w.roots p;
-  made = λ a w k. made_same a (ready w) p k.leaves;
+  made = λ a w k. made_same a (at_attempt w) p k.leaves;
   root = λ c n w k. root_same c n w p k.leaves;
   refused = λ w. same_self w.roots p;
   spares = λ s w k. k.spares;
 })
 
 -- Over a course that asks nothing of a port and its way: it stands as it stood, or a change is pending
-pub rests_or_pends : (p : List ℕ) {w v : World} → Course (AsksNothingOf p) w v → live w.roots p ≡ true → RestsOrPends w v p
+pub rests_or_pends : (p : List ℕ) {w v : World} → Course (LeavesPortAlone p) w v → has_power w.roots p ≡ true → UnchangedOrPending w v p
 rests_or_pends p c = (over_course (rests_steps p) c).powered
 
 -- The same of steps that may ask something of the port itself, but leave pending what is pending there: the same device stands there, or none
-pub stands_or_pends : (p : List ℕ) {w v : World} → Course (Spares p) w v → live w.roots p ≡ true → StandsOrPends w v p
+pub stands_or_pends : (p : List ℕ) {w v : World} → Course (KeepsPendingAt p) w v → has_power w.roots p ≡ true → SameDeviceOrPending w v p
 stands_or_pends p {w} {v} c h = pick (untouched_or_pending p c h)
   where
-    pick : UndisturbedOrPends w v p → StandsOrPends w v p
+    pick : UndisturbedOrPends w v p → SameDeviceOrPending w v p
     pick (inl y) = inl (y.0, undisturbed_keeps p w v (course_wider (λ s w k. tt) c) y.1)
     pick (inr y) = inr y

@@ -9,9 +9,9 @@ use Rattle.usb_world.specs.Paths.{address_of, same_number, same_path, is_way}
 use Rattle.usb_world.specs.WayEffects.{IsNew, takes_reset, call_resets}
 use Rattle.usb_world.specs.World.{World}
 use Rattle.usb_world.specs.Steps.{root_call, after}
-use Rattle.usb_world.specs.Courses.{root_resets, resets, Own, Injective}
+use Rattle.usb_world.specs.Courses.{root_resets, resets, HoldsMapped, Injective}
 use Rattle.usb_world.specs.Addresses.{after_reset, after_taking}
-use Rattle.usb_world.proofs.Booleans.{no, both, and_false, decided}
+use Rattle.usb_world.proofs.Booleans.{false_true, both, and_false, decided}
 use Rattle.usb_world.proofs.PortCalls.{off_way, call_new, call_reach, call_state}
 use Rattle.usb_world.proofs.OneDevice.{stands, state_stands}
 use Rattle.usb_world.proofs.Courses.{unreset_reach}
@@ -34,16 +34,16 @@ new_below (taken b s a k) zero (suc j ∷ p) m r h = ap (λ x. b.enable && x) (n
     ∙ and_false b.enable
 new_below (taken b s a k) (suc i) p m r h = new_below k i p m r h
 
-pub new_address : (x : Option Place) → IsNew x → option_map address_of (stands x) ≡ Some 0
-new_address None h = elim h [ ]
-new_address (Some (empty b)) h = elim h [ ]
-new_address (Some (full b s a)) h = ap (λ n. Some n) h.0
+pub is_new-zero : (x : Option Place) → IsNew x → option_map address_of (stands x) ≡ Some 0
+is_new-zero None h = elim h [ ]
+is_new-zero (Some (empty b)) h = elim h [ ]
+is_new-zero (Some (full b s a)) h = ap (λ n. Some n) h.0
 
-pub is_same : (i j : ℕ) → same_number i j ≡ true → j ≡ i
-is_same zero zero h = refl
-is_same zero (suc j) h = no h
-is_same (suc i) zero h = no h
-is_same (suc i) (suc j) h = ap suc (is_same i j h)
+pub same_number-is : (i j : ℕ) → same_number i j ≡ true → j ≡ i
+same_number-is zero zero h = refl
+same_number-is zero (suc j) h = false_true h
+same_number-is (suc i) zero h = false_true h
+same_number-is (suc i) (suc j) h = ap suc (same_number-is i j h)
 
 -- a device that is reached and not reset
 call_address : (c : PortCall) (k : Ports) (i j : ℕ) (p : List ℕ) → call_resets c k i j p ≡ false
@@ -62,7 +62,7 @@ module _ (f : List ℕ → Option ℕ) (k : Ports) (i : ℕ) where
     new = call_new SetReset k i i [] y
 
     zero_there : option_map address_of (state_at reset_ports i []) ≡ Some 0
-    zero_there = ap (option_map address_of) (sym (state_stands reset_ports i [])) ∙ new_address (place_at reset_ports i []) new
+    zero_there = ap (option_map address_of) (sym (state_stands reset_ports i [])) ∙ is_new-zero (place_at reset_ports i []) new
 
     elsewhere : (j : ℕ) (p : List ℕ) → same_number i j ≡ false → reach_at reset_ports j p ≡ true → Given j p
     unfolding is_way
@@ -78,7 +78,7 @@ module _ (f : List ℕ → Option ℕ) (k : Ports) (i : ℕ) where
     at_it j [] e d h =
         subst (λ x. option_map address_of (state_at reset_ports x []) ≡ Some 0) (sym e) zero_there
         ∙ ap (λ x. if x && true then Some 0 else if is_way (suc i ∷ []) (suc j ∷ []) then None else f (suc j ∷ [])) (sym d)
-    at_it j (n ∷ p) e d h = no (sym
+    at_it j (n ∷ p) e d h = false_true (sym
         (subst (λ x. reach_at reset_ports x (n ∷ p) ≡ false) (sym e)
         (new_below reset_ports i [] n p new)) ∙ h)
 
@@ -86,14 +86,14 @@ module _ (f : List ℕ → Option ℕ) (k : Ports) (i : ℕ) where
     reset_given j p h = pick (decided (same_number i j))
       where
         pick : (same_number i j ≡ true) ⊎ (same_number i j ≡ false) → Given j p
-        pick (inl d) = at_it j p (is_same i j d) d h
+        pick (inl d) = at_it j p (same_number-is i j d) d h
         pick (inr d) = elsewhere j p d h
 
-pub reset_own : (f : List ℕ → Option ℕ) (n : ℕ) (w : World) → resets (root_call SetReset n) w (n ∷ []) ≡ true → Own f w → Own (after_reset f (n ∷ [])) (after (root_call SetReset n) w)
+pub reset_own : (f : List ℕ → Option ℕ) (n : ℕ) (w : World) → resets (root_call SetReset n) w (n ∷ []) ≡ true → HoldsMapped f w → HoldsMapped (after_reset f (n ∷ [])) (after (root_call SetReset n) w)
 unfolding resets after
-reset_own f zero w y own p h = no y
-reset_own f (suc i) w y own [] h = no h
-reset_own f (suc i) w y own (zero ∷ p) h = no h
+reset_own f zero w y own p h = false_true y
+reset_own f (suc i) w y own [] h = false_true h
+reset_own f (suc i) w y own (zero ∷ p) h = false_true h
 reset_own f (suc i) w y own (suc j ∷ p) h = reset_given f w.roots i y (λ j p on. own (suc j ∷ p) on) j p h
 
 root_kept : (n : ℕ) (k : Ports) (p : List ℕ) → root_resets SetReset n k (n ∷ []) ≡ false → root_resets SetReset n k p ≡ false
@@ -104,15 +104,15 @@ root_kept (suc i) k (suc j ∷ n ∷ p) y = refl
 root_kept (suc i) k (suc j ∷ []) y = pick (decided (same_number i j))
   where
     pick : (same_number i j ≡ true) ⊎ (same_number i j ≡ false) → call_resets SetReset k i j [] ≡ false
-    pick (inl d) = subst (λ x. call_resets SetReset k i x [] ≡ false) (sym (is_same i j d)) y
+    pick (inl d) = subst (λ x. call_resets SetReset k i x [] ≡ false) (sym (same_number-is i j d)) y
     pick (inr d) = ap (λ x. x && takes_reset (place_at k j [])) d
 
 -- a port that has nothing to reset
-pub rest_own : (f : List ℕ → Option ℕ) (n : ℕ) (w : World) → resets (root_call SetReset n) w (n ∷ []) ≡ false → Own f w → Own f (after (root_call SetReset n) w)
+pub rest_own : (f : List ℕ → Option ℕ) (n : ℕ) (w : World) → resets (root_call SetReset n) w (n ∷ []) ≡ false → HoldsMapped f w → HoldsMapped f (after (root_call SetReset n) w)
 unfolding resets after
 rest_own f zero w y own p h = own p (unreset_reach (root_call SetReset zero) w p (root_kept zero w.roots p y) h).0
-rest_own f (suc i) w y own [] h = no h
-rest_own f (suc i) w y own (zero ∷ p) h = no h
+rest_own f (suc i) w y own [] h = false_true h
+rest_own f (suc i) w y own (zero ∷ p) h = false_true h
 rest_own f (suc i) w y own (suc j ∷ p) h =
     let kept : call_resets SetReset w.roots i j p ≡ false = root_kept (suc i) w.roots (suc j ∷ p) y in
     call_address SetReset w.roots i j p kept ∙ own (suc j ∷ p) (call_reach SetReset w.roots i j p kept h)
@@ -131,9 +131,9 @@ way_split f p q a h = pick (same_path p q) (is_way p q) refl refl h
 
 pub same_is : (p q : List ℕ) → same_path p q ≡ true → q ≡ p
 same_is [] [] h = refl
-same_is [] (n ∷ q) h = no h
-same_is (m ∷ p) [] h = no h
-same_is (m ∷ p) (n ∷ q) h = let x : _ = both (same_number m n) (same_path p q) h in rw (is_same m n x.0, same_is p q x.1) refl
+same_is [] (n ∷ q) h = false_true h
+same_is (m ∷ p) [] h = false_true h
+same_is (m ∷ p) (n ∷ q) h = let x : _ = both (same_number m n) (same_path p q) h in rw (same_number-is m n x.0, same_is p q x.1) refl
 
 same_join : (p q r : List ℕ) → same_path p q ≡ true → same_path p r ≡ true → same_path q r ≡ true
 same_join p q r h g = rw (same_is p q h, same_is p r g) (self_path p)
@@ -147,8 +147,8 @@ reset_distinct f p inj c q r a h g = pick (way_split f p q a h) (way_split f p r
 
     pick : ((same_path p q ≡ true) × (a ≡ 0)) ⊎ ((is_way p q ≡ false) × (f q ≡ Some a)) → ((same_path p r ≡ true) × (a ≡ 0)) ⊎ ((is_way p r ≡ false) × (f r ≡ Some a)) → same_path q r ≡ true
     pick (inl x) (inl y) = same_join p q r x.0 y.0
-    pick (inl x) (inr y) = no (other r x.1 y.0 y.1)
-    pick (inr x) (inl y) = no (other q y.1 x.0 x.1)
+    pick (inl x) (inr y) = false_true (other r x.1 y.0 y.1)
+    pick (inr x) (inl y) = false_true (other q y.1 x.0 x.1)
     pick (inr x) (inr y) = inj q r a x.1 y.1
 
 taken_split : (f : List ℕ → Option ℕ) (p : List ℕ) (n : ℕ) (q : List ℕ) (a : ℕ) → after_taking f p n q ≡ Some a
@@ -168,6 +168,6 @@ taken_distinct f p n inj c q r a h g = pick (taken_split f p n q a h) (taken_spl
 
     pick : ((same_path p q ≡ true) × (a ≡ n)) ⊎ ((same_path p q ≡ false) × (f q ≡ Some a)) → ((same_path p r ≡ true) × (a ≡ n)) ⊎ ((same_path p r ≡ false) × (f r ≡ Some a)) → same_path q r ≡ true
     pick (inl x) (inl y) = same_join p q r x.0 y.0
-    pick (inl x) (inr y) = no (other r x.1 y.0 y.1)
-    pick (inr x) (inl y) = no (other q y.1 x.0 x.1)
+    pick (inl x) (inr y) = false_true (other r x.1 y.0 y.1)
+    pick (inr x) (inl y) = false_true (other q y.1 x.0 x.1)
     pick (inr x) (inr y) = inj q r a x.1 y.1

@@ -9,7 +9,7 @@ use Rattle.usb_device.specs.declared.transfer.RememberedPacket.TheVariants.{Noth
 use Rattle.usb_device.specs.Rows.{State, awaits_address, awaits_control, ends_with_address}
 use Rattle.usb_device.specs.StoppedPackets.{Stopped, behind_empty, behind, below, here}
 use Rattle.usb_device.specs.Tree.{Ports, ended, vacant, taken, Plugged, Place, empty, full, before, acted, changed_at, changed, plugged_at, device_there, reach_at, state_at, place_at, row_of}
-use Rattle.usb_device.specs.Delivery.{listed, held, is_twice, answer_of, effect_of, after_packet, delivered_place, delivered_device, on_port, heard_of, heard_from, both, all_forgotten, has_loss, asks_clearing, clears_change, figure}
+use Rattle.usb_device.specs.Delivery.{listed, held_addresses, repeats, answer_of, effect_of, after_packet, delivered_place, delivered_device, on_port, heard_of, heard_from, both, all_forgotten, has_loss, asks_clearing, clears_change, figure}
 use Rattle.usb_device.specs.Route.{sent_in, answer_by, RefusedBy, effect_by, forgotten_in, holds_by, is_held_at}
 use Rattle.usb_device.specs.declared.holders.Holder.{Holder}
 use Rattle.usb_device.specs.declared.holders.Holder.TheVariants.{Nobody, One, Several}
@@ -23,27 +23,27 @@ use Rattle.usb_world.specs.Paths.{address_of}
 use Rattle.usb_world.specs.AttemptPackets.{after_sent, answers_to, deep_at, IfOut, IsTokenFor, IsDataOut, IsAckOut, IsSettled}
 use Rattle.usb_world.specs.Exchange.{token_out, clears_at}
 use Rattle.usb_world.specs.CutPackets.{IsStopped}
-use Rattle.usb_world.specs.Route.{way_of, way_in}
+use Rattle.usb_world.specs.Route.{holder_path, way_in}
 use Rattle.usb_world.specs.LonePackets.{OthersForgot, Alone, AloneAt, IsWayTo, is_whole_tree, is_deep}
-use Rattle.usb_world.proofs.Booleans.{no, both as both_true, and_of, or_nothing}
+use Rattle.usb_world.proofs.Booleans.{false_true, both as both_true, and_of, or_nothing}
 use Rattle.usb_world.proofs.PacketEffects.{true_deep}
 use Rattle.usb_world.proofs.AttemptPackets.{rested_answer, ack_calls}
 use Rattle.usb_world.proofs.PacketWays.{clears_if}
 use Rattle.usb_world.proofs.OneDevice.{IsRested, OthersRest, SentToOne, sent_to_one, rest_packet, rested_effect, others_answer, settled_memory, other_address, token_calls, payload_calls, answer_at}
 use Rattle.usb_world.proofs.Courses.{goes}
 use Rattle.usb_world.proofs.Equality.{equal_same}
-use Rattle.usb_world.proofs.States.{forgets}
+use Rattle.usb_world.proofs.States.{forgotten-nothing}
 
 -- ---- the tree after the packet
 
 pub others_packet : (q : Sent) (deep : Bool) (k : Ports) (j : ℕ) (p : List ℕ) → reach_at k j p ≡ true → OthersRest q k j p → after_packet q deep k ≡ changed_at (sent_in q (deep_at deep p)) k j p
 unfolding after_packet state_at reach_at changed_at
-others_packet q deep ended j p h c = no h
-others_packet q deep (vacant b k) zero p h c = no h
+others_packet q deep ended j p h c = false_true h
+others_packet q deep (vacant b k) zero p h c = false_true h
 others_packet q deep (vacant b k) (suc j) p h c = ap (vacant b) (others_packet q deep k j p h (λ i e. c (suc i) e))
 others_packet q deep (taken b s a k) zero [] h c =
     rw (h, rest_packet q true a (λ i e t f on. c zero (suc i ∷ e) t refl f (and_of b.enable _ h on)), rest_packet q deep k (λ i e t f on. c (suc i) e t refl f on)) refl
-others_packet q deep (taken b s a k) zero (zero ∷ p) h c = no h
+others_packet q deep (taken b s a k) zero (zero ∷ p) h c = false_true h
 others_packet q deep (taken b s a k) zero (suc j ∷ p) h c =
     let on : _ = both_true b.enable (reach_at a j p) h in
     found on.0 (others_packet q true a j p on.1 (λ i e t d f o. c zero (suc i ∷ e) t d f (and_of b.enable _ on.0 o)))
@@ -80,22 +80,22 @@ plugged_place (taken b s a k) zero (zero ∷ p) = refl
 plugged_place (taken b s a k) zero (suc j ∷ p) = plugged_place a j p
 plugged_place (taken b s a k) (suc j) p = plugged_place k j p
 
-heard_one : (o : Option Answer) → heard_of (listed o []) ≡ heard_from o
-heard_one None = refl
-heard_one (Some x) = refl
+heard_of-listed : (o : Option Answer) → heard_of (listed o []) ≡ heard_from o
+heard_of-listed None = refl
+heard_of-listed (Some x) = refl
 
 pub heard_place_by : (q : Sent) (deep : Bool) (x : Option Place) → heard_of (answer_at q deep x) ≡ heard_from (answer_by q deep (plugged_on x))
 heard_place_by q deep None = refl
 heard_place_by q deep (Some (empty b)) = refl
-heard_place_by q deep (Some (full b s a)) = heard_one (answer_of q deep s a).0
+heard_place_by q deep (Some (full b s a)) = heard_of-listed (answer_of q deep s a).0
 
 pub rest_clears : (q : Sent) (deep : Bool) (k : Ports) → ((i : ℕ) (e : List ℕ) (t : State) → state_at k i e ≡ Some t → t.memory ≡ Nothing) → clears_change q deep k ≡ false
 rest_clears q deep k c = clears_if q deep k (λ i e t at dp. ap asks_clearing (rested_effect q dp t (c i e t at)))
 
 pub others_clear : (q : Sent) (deep : Bool) (k : Ports) (j : ℕ) (p : List ℕ) → reach_at k j p ≡ true → OthersForgot k (record { row = j; rest = p }) → clears_change q deep k ≡ asks_clearing (effect_by q (deep_at deep p) (plugged_at k j p))
 unfolding clears_change state_at reach_at plugged_at
-others_clear q deep ended j p h c = no h
-others_clear q deep (vacant b k) zero p h c = no h
+others_clear q deep ended j p h c = false_true h
+others_clear q deep (vacant b k) zero p h c = false_true h
 others_clear q deep (vacant b k) (suc j) p h c = others_clear q deep k j p h (λ i e. c (suc i) e)
 others_clear q deep (taken b s a k) zero [] h c =
     rw (h, rest_clears q true a (λ i e t f. c zero (suc i ∷ e) t refl f), rest_clears q deep k (λ i e t f. c (suc i) e t refl f)) (twice (asks_clearing (effect_of q deep s)))
@@ -103,7 +103,7 @@ others_clear q deep (taken b s a k) zero [] h c =
     twice : (x : Bool) → ((x || false) || false) ≡ x
     twice true = refl
     twice false = refl
-others_clear q deep (taken b s a k) zero (zero ∷ p) h c = no h
+others_clear q deep (taken b s a k) zero (zero ∷ p) h c = false_true h
 others_clear q deep (taken b s a k) zero (suc j ∷ p) h c =
     let on : _ = both_true b.enable (reach_at a j p) h in
     rw (on.0, rested_effect q deep s (c zero [] s refl refl), others_clear q true a j p on.1 (λ i e t d f. c zero (suc i ∷ e) t d f), rest_clears q deep k (λ i e t f. c (suc i) e t refl f), true_deep p)
@@ -121,20 +121,20 @@ rest_forget : (k : Ports) → ((i : ℕ) (e : List ℕ) (t : State) → state_at
 unfolding all_forgotten state_at
 rest_forget ended c = refl
 rest_forget (vacant b k) c = ap (vacant b) (rest_forget k (λ i e. c (suc i) e))
-rest_forget (taken b s a k) c = rw (forgets s (c zero [] s refl), rest_forget a (λ i e. c zero (suc i ∷ e)), rest_forget k (λ i e. c (suc i) e)) refl
+rest_forget (taken b s a k) c = rw (forgotten-nothing s (c zero [] s refl), rest_forget a (λ i e. c zero (suc i ∷ e)), rest_forget k (λ i e. c (suc i) e)) refl
 
 pub others_forget : (k : Ports) (j : ℕ) (p : List ℕ) → reach_at k j p ≡ true → OthersForgot k (record { row = j; rest = p }) → all_forgotten k ≡ changed_at forgotten_in k j p
 unfolding all_forgotten state_at reach_at changed_at
-others_forget ended j p h c = no h
-others_forget (vacant b k) zero p h c = no h
+others_forget ended j p h c = false_true h
+others_forget (vacant b k) zero p h c = false_true h
 others_forget (vacant b k) (suc j) p h c = ap (vacant b) (others_forget k j p h (λ i e. c (suc i) e))
 others_forget (taken b s a k) zero [] h c = rw (rest_forget a (λ i e t f. c zero (suc i ∷ e) t refl f), rest_forget k (λ i e t f. c (suc i) e t refl f)) refl
-others_forget (taken b s a k) zero (zero ∷ p) h c = no h
+others_forget (taken b s a k) zero (zero ∷ p) h c = false_true h
 others_forget (taken b s a k) zero (suc j ∷ p) h c =
     let on : _ = both_true b.enable (reach_at a j p) h in
-    rw (forgets s (c zero [] s refl refl), others_forget a j p on.1 (λ i e t d f. c zero (suc i ∷ e) t d f), rest_forget k (λ i e t f. c (suc i) e t refl f)) refl
+    rw (forgotten-nothing s (c zero [] s refl refl), others_forget a j p on.1 (λ i e t d f. c zero (suc i ∷ e) t d f), rest_forget k (λ i e t f. c (suc i) e t refl f)) refl
 others_forget (taken b s a k) (suc j) p h c =
-    rw (forgets s (c zero [] s refl refl), rest_forget a (λ i e t f. c zero (suc i ∷ e) t refl f), others_forget k j p h (λ i e. c (suc i) e)) refl
+    rw (forgotten-nothing s (c zero [] s refl refl), rest_forget a (λ i e t f. c zero (suc i ∷ e) t refl f), others_forget k j p h (λ i e. c (suc i) e)) refl
 
 pub rest_awaits : (s : State) → s.memory ≡ Nothing → awaits_address s ≡ false
 unfolding awaits_address
@@ -152,15 +152,15 @@ loss_by (Some t) = awaits_address t.own
 
 pub others_loss : (k : Ports) (j : ℕ) (p : List ℕ) → reach_at k j p ≡ true → OthersForgot k (record { row = j; rest = p }) → has_loss k ≡ loss_by (plugged_at k j p)
 unfolding has_loss state_at reach_at plugged_at
-others_loss ended j p h c = no h
-others_loss (vacant b k) zero p h c = no h
+others_loss ended j p h c = false_true h
+others_loss (vacant b k) zero p h c = false_true h
 others_loss (vacant b k) (suc j) p h c = others_loss k j p h (λ i e. c (suc i) e)
 others_loss (taken b s a k) zero [] h c = rw (rest_loss a (λ i e t f. c zero (suc i ∷ e) t refl f), rest_loss k (λ i e t f. c (suc i) e t refl f)) (twice (awaits_address s))
   where
     twice : (x : Bool) → ((x || false) || false) ≡ x
     twice true = refl
     twice false = refl
-others_loss (taken b s a k) zero (zero ∷ p) h c = no h
+others_loss (taken b s a k) zero (zero ∷ p) h c = false_true h
 others_loss (taken b s a k) zero (suc j ∷ p) h c =
     let on : _ = both_true b.enable (reach_at a j p) h in
     rw (rest_awaits s (c zero [] s refl refl), others_loss a j p on.1 (λ i e t d f. c zero (suc i ∷ e) t d f), rest_loss k (λ i e t f. c (suc i) e t refl f)) (or_nothing (loss_by (plugged_at a j p)))
@@ -179,13 +179,13 @@ rested_place q deep b s a c f = split b.enable c f
 
 pub others_stop : (q : Sent) (deep : Bool) (k : Ports) (j : ℕ) (p : List ℕ) → reach_at k j p ≡ true → OthersRest q k j p → RefusedBy q (deep_at deep p) (plugged_at k j p) → Stopped q deep k k
 unfolding state_at reach_at plugged_at
-others_stop q deep ended j p h c r = no h
-others_stop q deep (vacant b k) zero p h c r = no h
+others_stop q deep ended j p h c r = false_true h
+others_stop q deep (vacant b k) zero p h c r = false_true h
 others_stop q deep (vacant b k) (suc j) p h c r = behind_empty b (others_stop q deep k j p h (λ i e. c (suc i) e) r)
 others_stop q deep (taken b s a k) zero [] h c r =
     subst (λ x. Stopped q deep (taken b s a k) (taken b s x k)) (rest_packet q true a (λ i e t f on. c zero (suc i ∷ e) t refl f (and_of b.enable _ h on)))
     (here b s a k r.packet h r.content r.heard r.grows)
-others_stop q deep (taken b s a k) zero (zero ∷ p) h c r = no h
+others_stop q deep (taken b s a k) zero (zero ∷ p) h c r = false_true h
 others_stop q deep (taken b s a k) zero (suc j ∷ p) h c r =
     let on : _ = both_true b.enable (reach_at a j p) h in
     below b s k on.0 (others_stop q true a j p on.1 (λ i e t d f o. c zero (suc i ∷ e) t d f (and_of b.enable _ on.0 o)) (subst (λ x. RefusedBy q x (plugged_at a j p)) (sym (true_deep p)) r))
@@ -201,12 +201,12 @@ others_rest q k j p h i e t d f on = (h.forgot i e t d f, h.uncalled q refl i e 
 
 module _ (q : Sent) (k : Ports) where
   ports_of : (m : Ports) (p : List ℕ) → is_whole_tree p ≡ false → AloneAt (Some q) k p → m ≡ changed (sent_in q (is_deep p)) k p → m ≡ after_sent (Some q) k
-  ports_of m [] f h e = no (sym f)
+  ports_of m [] f h e = false_true (sym f)
   ports_of m (zero ∷ p) f h e = absurd h
   ports_of m (suc j ∷ p) f h e = e ∙ sym (others_packet q false k j p h.on (others_rest q k j p h))
 
   heard_of_one : (g h : Heard) (p : List ℕ) → is_whole_tree p ≡ false → AloneAt (Some q) k p → h ≡ both g (heard_from (answer_by q (is_deep p) (device_there k p))) → h ≡ both g (heard_of (answers_to (Some q) k))
-  heard_of_one g h [] f w e = no (sym f)
+  heard_of_one g h [] f w e = false_true (sym f)
   heard_of_one g h (zero ∷ p) f w e = absurd w
   heard_of_one g h (suc j ∷ p) f w e =
       e
@@ -214,7 +214,7 @@ module _ (q : Sent) (k : Ports) where
       ∙ ap (both g) (sym (heard_place_by q (deep_at false p) (place_at k j p)) ∙ ap heard_of (sym (others_answer q false k j p w.on (others_rest q k j p w))))
 
   stopped_of : (m : Ports) (p : List ℕ) → is_whole_tree p ≡ false → AloneAt (Some q) k p → m ≡ k → RefusedBy q (is_deep p) (device_there k p) → IsStopped (Some q) k m
-  stopped_of m [] f h e w = no (sym f)
+  stopped_of m [] f h e w = false_true (sym f)
   stopped_of m (zero ∷ p) f h e w = absurd h
   stopped_of m (suc j ∷ p) f h e w = record { sent = q; went = refl; stopped = subst (Stopped q false k) (sym e) (others_stop q false k j p h.on (others_rest q k j p h) w) }
 
@@ -250,31 +250,31 @@ module _ (o : Option Sent) (q : Sent) (deep : Bool) (k m : Ports) (p : List ℕ)
 pub alone_less : (o : Option Sent) (k : Ports) (p : List ℕ) → AloneAt o k p → AloneAt None k p
 alone_less o k [] h = tt
 alone_less o k (zero ∷ p) h = h
-alone_less o k (suc j ∷ p) h = record { on = h.on; forgot = h.forgot; uncalled = λ q e i x t d f on. no (ap is_some e) }
+alone_less o k (suc j ∷ p) h = record { on = h.on; forgot = h.forgot; uncalled = λ q e i x t d f on. false_true (ap is_some e) }
 
 pub alone_sent : (o : Option Sent) (k : Ports) (p : List ℕ) → AloneAt o k p → AloneAt None (after_sent o k) p
 alone_sent o k [] h = tt
 alone_sent o k (zero ∷ p) h = h
 alone_sent o k (suc j ∷ p) h =
     let x : SentToOne o k (record { row = j; rest = p }) = sent_to_one o k (record { row = j; rest = p }) h.on h.forgot h.uncalled in
-    record { on = x.on; forgot = x.forgot; uncalled = λ q e i x t d f on. no (ap is_some e) }
+    record { on = x.on; forgot = x.forgot; uncalled = λ q e i x t d f on. false_true (ap is_some e) }
 
 pub alone_after : {A E : Type 0} (r : Result A E) (o : Option Sent) (k m : Ports) (p : List ℕ) → AloneAt o k p → OnOk r (m ≡ after_sent o k) → OnErr r (m ≡ k) → AloneAt None m p
 alone_after (Ok x) o k m p h e w = subst (λ y. AloneAt None y p) (sym e) (alone_sent o k p h)
 alone_after (Err x) o k m p h e w = subst (λ y. AloneAt None y p) (sym w) (alone_less o k p h)
 
 pub route_clears : (q : Sent) (k : Ports) (p : List ℕ) → is_whole_tree p ≡ false → AloneAt (Some q) k p → asks_clearing (effect_by q (is_deep p) (device_there k p)) ≡ clears_at (Some q) k
-route_clears q k [] f h = no (sym f)
+route_clears q k [] f h = false_true (sym f)
 route_clears q k (zero ∷ p) f h = absurd h
 route_clears q k (suc j ∷ p) f h = sym (others_clear q false k j p h.on h.forgot)
 
 pub route_loss : (k : Ports) (p : List ℕ) → is_whole_tree p ≡ false → AloneAt None k p → loss_by (device_there k p) ≡ has_loss k
-route_loss k [] f h = no (sym f)
+route_loss k [] f h = false_true (sym f)
 route_loss k (zero ∷ p) f h = absurd h
 route_loss k (suc j ∷ p) f h = sym (others_loss k j p h.on h.forgot)
 
 pub route_over : (k m : Ports) (p : List ℕ) → is_whole_tree p ≡ false → AloneAt None k p → m ≡ changed forgotten_in k p → m ≡ all_forgotten k
-route_over k m [] f h e = no (sym f)
+route_over k m [] f h e = false_true (sym f)
 route_over k m (zero ∷ p) f h e = absurd h
 route_over k m (suc j ∷ p) f h e = e ∙ sym (others_forget k j p h.on h.forgot)
 
@@ -301,26 +301,26 @@ alone_token a d k (suc j ∷ p) s o = record {
 
 -- ---- who holds the address
 
-pub one_at : (n : ℕ) (k : Ports) (p : List ℕ) → is_twice (held k) ≡ false → is_held_at n k p ≡ true → IsWayTo n k p
+pub one_at : (n : ℕ) (k : Ports) (p : List ℕ) → repeats (held_addresses k) ≡ false → is_held_at n k p ≡ true → IsWayTo n k p
 one_at n k [] s h = tt
-one_at n k (zero ∷ p) s h = no h
+one_at n k (zero ∷ p) s h = false_true h
 one_at n k (suc j ∷ p) s h =
     let x : _ = both_true (reach_at k j p) (holds_by n (state_at k j p)) h in
     record { single = s; on = x.0; at = address_is (state_at k j p) x.1 }
   where
     address_is : (o : Option State) → holds_by n o ≡ true → option_map address_of o ≡ Some n
-    address_is None h = no h
+    address_is None h = false_true h
     address_is (Some t) h = ap (λ x. Some x) (equal_same (address_of t) n h)
 
 -- the way that is taken: to the one that the index names, or the whole tree's
 pub way_by_index : (n : ℕ) (k : Ports) (h : Holders) (p : List ℕ) → n < 256 → IsIndexOf h k → p ≡ way_in h n → IsWayTo n k p
 way_by_index n k h p small is e = subst (IsWayTo n k) (sym e) (by_shared h.shared refl)
   where
-    by_holder : is_twice (held k) ≡ false → (x : Holder) → holder_of n k ≡ x → IsWayTo n k (way_of false x)
+    by_holder : repeats (held_addresses k) ≡ false → (x : Holder) → holder_of n k ≡ x → IsWayTo n k (holder_path false x)
     by_holder single Nobody f = tt
     by_holder single (One path) f = one_at n k path.items single (one_is_held n k path f)
     by_holder single Several f = tt
 
-    by_shared : (b : Bool) → h.shared ≡ b → IsWayTo n k (way_of b (holder_in h n))
+    by_shared : (b : Bool) → h.shared ≡ b → IsWayTo n k (holder_path b (holder_in h n))
     by_shared true f = tt
     by_shared false f = by_holder (sym is.1 ∙ f) (holder_in h n) (sym (is.0 n small))

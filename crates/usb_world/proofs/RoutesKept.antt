@@ -7,7 +7,7 @@ use Rattle.usb_port.specs.PortState.{PortState}
 use Rattle.usb_device.specs.declared.delivery.Sent.{Sent}
 use Rattle.usb_device.specs.declared.effect.Effect.TheVariants.{Leaves}
 use Rattle.usb_device.specs.Rows.{State, forgotten}
-use Rattle.usb_device.specs.Tree.{Ports, ended, vacant, taken, Place, empty, full, before, acted, put, changed, changed_at, changed_in, device_there, plugged_at, reach_at, place_at, Spot, state_at}
+use Rattle.usb_device.specs.Tree.{Ports, ended, vacant, taken, Place, empty, full, before, acted, put, changed, changed_at, changed_in, device_there, plugged_at, reach_at, place_at, Location, state_at}
 use Rattle.usb_device.specs.Delivery.{answer_of, all_forgotten}
 use Rattle.usb_device.specs.Holders.{path_below, reached, all_reached, ReachedSame, keeps_others}
 use Rattle.usb_device.specs.HolderIndex.{IsIndexOf, IsIndexWithout}
@@ -20,7 +20,7 @@ use Rattle.usb_world.specs.Paths.{address_of}
 use Rattle.usb_world.specs.AttemptPackets.{after_sent, deep_at, IsSettled}
 use Rattle.usb_world.specs.Exchange.{token_out, payload_out, reply_out, ended_in, ports_in}
 use Rattle.usb_world.specs.LonePackets.{Alone, is_whole_tree, IsWayTo, without_port, IsQuiet, KeptAt}
-use Rattle.usb_world.proofs.Booleans.{no, both}
+use Rattle.usb_world.proofs.Booleans.{false_true, both}
 use Rattle.usb_world.proofs.AttemptPackets.{token_out as token_calm, ack_out as ack_calm}
 use Rattle.usb_world.proofs.OneDevice.{stands, state_stands}
 use Rattle.usb_world.proofs.OneHolderPorts.{asked_of, calm_asked}
@@ -73,40 +73,40 @@ step_calm : (o : Option Sent) (deep : Bool) (b : PortState) (s : State) (a : Por
 step_calm None deep b s a h = refl
 step_calm (Some q) deep b s a h = ap (λ e. full b (answer_of q deep s a).1 (acted e a)) h
 
-step_is : (o : Option Sent) (deep : Bool) (b : PortState) (s : State) (a : Ports) → step_in o deep (full b s a) ≡ full b (own_after o deep s a) (acted (asked_of o deep s) a)
-step_is None deep b s a = refl
-step_is (Some q) deep b s a = refl
+step_in-full : (o : Option Sent) (deep : Bool) (b : PortState) (s : State) (a : Ports) → step_in o deep (full b s a) ≡ full b (own_after o deep s a) (acted (asked_of o deep s) a)
+step_in-full None deep b s a = refl
+step_in-full (Some q) deep b s a = refl
 
 pub sent_one : (o : Option Sent) (k : Ports) (j : ℕ) (p : List ℕ) → Alone o k (record { row = j; rest = p }) → after_sent o k ≡ changed_at (step_in o (deep_at false p)) k j p
 sent_one None k j p h = sym (changed_at-same k j p)
 sent_one (Some q) k j p h = others_packet q false k j p h.on (others_rest q k j p h)
 
-quiet_asks : (port : ℕ) (o : Option Sent) (k : Ports) (j : ℕ) (p : List ℕ) (b : PortState)
+quiet_keeps_others : (port : ℕ) (o : Option Sent) (k : Ports) (j : ℕ) (p : List ℕ) (b : PortState)
     (s : State) (a : Ports)
     → IsQuiet port o k (suc j ∷ p) → place_at k j p ≡ Some (full b s a)
     → keeps_others port (asked_of o (deep_at false p) s) ≡ true
-quiet_asks port None k j p b s a h e = refl
-quiet_asks port (Some q) k j p b s a h e =
+quiet_keeps_others port None k j p b s a h e = refl
+quiet_keeps_others port (Some q) k j p b s a h e =
     sym (ap (λ x. keeps_others port (effect_by q (deep_at false p) (plugged_on x))) e)
     ∙ ap (λ x. keeps_others port (effect_by q (deep_at false p) x)) (plugged_place k j p) ∙ h
 
 -- ---- an attempt
 
-pub record Stands (k : Ports) (j : ℕ) (p : List ℕ) : Type 0 where
+pub record PlaceFull (k : Ports) (j : ℕ) (p : List ℕ) : Type 0 where
   pub port : PortState
   pub own : State
   pub below : Ports
   pub at : place_at k j p ≡ Some (full port own below)
 
-reached_stands : (k : Ports) (j : ℕ) (p : List ℕ) → reach_at k j p ≡ true → Stands k j p
+reach-full : (k : Ports) (j : ℕ) (p : List ℕ) → reach_at k j p ≡ true → PlaceFull k j p
 unfolding reach_at place_at
-reached_stands ended j p h = no h
-reached_stands (vacant b k) zero p h = no h
-reached_stands (vacant b k) (suc j) p h = let x : _ = reached_stands k j p h in record { port = x.port; own = x.own; below = x.below; at = x.at }
-reached_stands (taken b s a k) zero [] h = record { port = b; own = s; below = a; at = refl }
-reached_stands (taken b s a k) zero (zero ∷ p) h = no h
-reached_stands (taken b s a k) zero (suc j ∷ p) h = let x : _ = reached_stands a j p (both b.enable (reach_at a j p) h).1 in record { port = x.port; own = x.own; below = x.below; at = x.at }
-reached_stands (taken b s a k) (suc j) p h = let x : _ = reached_stands k j p h in record { port = x.port; own = x.own; below = x.below; at = x.at }
+reach-full ended j p h = false_true h
+reach-full (vacant b k) zero p h = false_true h
+reach-full (vacant b k) (suc j) p h = let x : _ = reach-full k j p h in record { port = x.port; own = x.own; below = x.below; at = x.at }
+reach-full (taken b s a k) zero [] h = record { port = b; own = s; below = a; at = refl }
+reach-full (taken b s a k) zero (zero ∷ p) h = false_true h
+reach-full (taken b s a k) zero (suc j ∷ p) h = let x : _ = reach-full a j p (both b.enable (reach_at a j p) h).1 in record { port = x.port; own = x.own; below = x.below; at = x.at }
+reach-full (taken b s a k) (suc j) p h = let x : _ = reach-full k j p h in record { port = x.port; own = x.own; below = x.below; at = x.at }
 
 module _ (a : Attempt) (d : Option Damage) (k : Ports) (j : ℕ) (p : List ℕ) (one : Alone (token_out a d) k (record { row = j; rest = p })) where
   abbrev deep : Bool
@@ -121,7 +121,7 @@ module _ (a : Attempt) (d : Option Damage) (k : Ports) (j : ℕ) (p : List ℕ) 
   abbrev r : Option Sent
   r = reply_out a d k
 
-  abbrev x : Spot
+  abbrev x : Location
   x = record { row = j; rest = p }
 
   pub two : Alone q (after_sent t k) x
@@ -149,8 +149,8 @@ module _ (a : Attempt) (d : Option Damage) (k : Ports) (j : ℕ) (p : List ℕ) 
   unfolding ports_in
   all_is = others_forget (ended_in a d k) j p four.on four.forgot ∙ ap (λ x. changed_at forgotten_in x j p) end_is ∙ changed_at-twice forgotten_in till_end k j p
 
-  pub here : Stands k j p
-  here = reached_stands k j p one.on
+  pub here : PlaceFull k j p
+  here = reach-full k j p one.on
 
   abbrev first : State
   first = own_after t deep here.own here.below
@@ -174,7 +174,7 @@ module _ (a : Attempt) (d : Option Damage) (k : Ports) (j : ℕ) (p : List ℕ) 
   end_place : till_end (full here.port here.own here.below) ≡ full here.port third below_then
   end_place =
       ap (λ x. step_in r deep (step_in q deep x)) first_place
-      ∙ ap (step_in r deep) (step_is q deep here.port first here.below)
+      ∙ ap (step_in r deep) (step_in-full q deep here.port first here.below)
       ∙ step_calm r deep here.port second below_then (calm_asked r (ack_calm r (goes a d k).reply) deep second)
 
   end_at : place_at (ended_in a d k) j p ≡ Some (full here.port third below_then)
@@ -193,7 +193,7 @@ module _ (a : Attempt) (d : Option Damage) (k : Ports) (j : ℕ) (p : List ℕ) 
           ≡ reached w n (changed (put None) here.below (port ∷ []))
       below_same =
           reached-acted (asked_of q deep first) port here.below
-          (quiet_asks port q (after_sent t k) j p here.port first here.below quiet first_at)
+          (quiet_keeps_others port q (after_sent t k) j p here.port first here.below quiet first_at)
 
       left_same : (x : Place) → x ≡ full here.port here.own here.below
           → third.registers.address ≡ here.own.registers.address
@@ -224,8 +224,8 @@ held_still : (port : ℕ) (a : Attempt) (d : Option Damage) (k : Ports) (p : Lis
     → IsQuiet port (payload_out a d) (after_sent (token_out a d) k) p
     → address_by (device_there (ended_in a d k) p) ≡ Some a.addr
     → KeptAt a.addr port k (ports_in a d k) p
-held_still port a d k [] q e = no (ap is_some e)
-held_still port a d k (zero ∷ p) q e = no (ap is_some e)
+held_still port a d k [] q e = false_true (ap is_some e)
+held_still port a d k (zero ∷ p) q e = false_true (ap is_some e)
 held_still port a d k (suc j ∷ p) q e = λ settled o. addresses_stay a d k j p (alone_token a d k (suc j ∷ p) settled o) o.at port q e
 
 -- the same, of what the code tells: the address that is left there is the attempt's
@@ -236,7 +236,7 @@ pub kept_at : (port : ℕ) (a : Attempt) (d : Option Damage) (k m n : Ports) (p 
     → n ≡ all_forgotten m → (IsSome left → left ≡ address_by (device_there m p))
     → KeptAt a.addr port k n p
 unfolding ports_in
-kept_at port a d k m n p None same asks e over at = no same
+kept_at port a d k m n p None same asks e over at = false_true same
 kept_at port a d k m n p (Some x) same asks e over at =
     let told : address_by (device_there m p) ≡ Some a.addr = sym (at refl) ∙ ap (λ y. Some y) (equal_same x a.addr same) in
     subst (λ y. KeptAt a.addr port k y p) (sym (over ∙ ap all_forgotten e))
@@ -268,7 +268,7 @@ pub index_beside : (a : Attempt) (d : Option Damage) (h : Holders) (k m : Ports)
     → is_whole_tree p ≡ false → IsSettled k → IsWayTo a.addr k p → m ≡ ports_in a d k
     → IsIndexWithout h k p
     → IsIndexWithout h m p
-index_beside a d h k m [] f s w e is = no (sym f)
+index_beside a d h k m [] f s w e is = false_true (sym f)
 index_beside a d h k m (zero ∷ p) f s w e is = absurd w
 index_beside a d h k m (suc j ∷ p) f s w e is =
     index_around h _ k m (suc j ∷ p) (e ∙ all_is a d k j p (alone_token a d k (suc j ∷ p) s w)) is

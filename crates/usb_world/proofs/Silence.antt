@@ -5,9 +5,9 @@ use Rattle.arrayvec.specs.ArrayVec.{ArrayVec}
 use Rattle.usb_device.specs.declared.delivery.Sent.{Sent}
 use Rattle.usb_device.specs.declared.holders.Holder.TheVariants.{Nobody}
 use Rattle.usb_device.specs.Tree.{Ports}
-use Rattle.usb_device.specs.Delivery.{held}
+use Rattle.usb_device.specs.Delivery.{held_addresses}
 use Rattle.usb_device.specs.Holders.{all_reached, paths_at, holder_among, holder_of}
-use Rattle.usb_device.proofs.Interface.{addresses, held-reached}
+use Rattle.usb_device.proofs.Interface.{way_addresses, held-reached}
 use Rattle.usb_world.specs.declared.types.Attempt.{Attempt}
 use Rattle.usb_world.specs.declared.damage.Damage.{Damage}
 use Rattle.usb_world.specs.declared.exchange.Exchange.{Exchange}
@@ -24,39 +24,39 @@ use Rattle.usb_world.specs.Silence.{silent_exchange}
 use Rattle.usb_world.specs.Paths.{address_of}
 use Rattle.usb_world.proofs.Courses.{goes}
 use Rattle.usb_world.proofs.Equality.{swapped}
-use Rattle.usb_world.proofs.Holders.{occurs, one_if, counted}
+use Rattle.usb_world.proofs.Holders.{occurs, one_if, occurs-reached}
 use Rattle.usb_world.proofs.OneDevice.{nobody_answers, sent_to_nobody, settled_memory, token_calls}
 use Rattle.usb_world.proofs.Routes.{rest_clears}
 
 -- ---- an index with nobody at an address
 
-no_path : (ws : List (Option (ArrayVec ℕ))) → holder_among ws ≡ Nobody → ws ≡ []
-no_path [] e = refl
-no_path (None ∷ []) e = cc
-no_path (Some p ∷ []) e = cc
-no_path (None ∷ w ∷ ws) e = cc
-no_path (Some p ∷ w ∷ ws) e = cc
+holder_among-nobody : (ws : List (Option (ArrayVec ℕ))) → holder_among ws ≡ Nobody → ws ≡ []
+holder_among-nobody [] e = refl
+holder_among-nobody (None ∷ []) e = cc
+holder_among-nobody (Some p ∷ []) e = cc
+holder_among-nobody (None ∷ w ∷ ws) e = cc
+holder_among-nobody (Some p ∷ w ∷ ws) e = cc
 
-none_occurs : (n : ℕ) (xs : List (ℕ × Option (ArrayVec ℕ))) → paths_at n xs ≡ [] → occurs n (addresses xs) ≡ 0
+none_occurs : (n : ℕ) (xs : List (ℕ × Option (ArrayVec ℕ))) → paths_at n xs ≡ [] → occurs n (way_addresses xs) ≡ 0
 unfolding occurs
 none_occurs n [] e = refl
 none_occurs n (x ∷ xs) e = split (x.0 == n) refl (none_occurs n xs) e
   where
-    split : (b : Bool) → (x.0 == n) ≡ b → (paths_at n xs ≡ [] → occurs n (addresses xs) ≡ 0) → (if b then x.1 ∷ paths_at n xs else paths_at n xs) ≡ [] → one_if (n == x.0) + occurs n (addresses xs) ≡ 0
+    split : (b : Bool) → (x.0 == n) ≡ b → (paths_at n xs ≡ [] → occurs n (way_addresses xs) ≡ 0) → (if b then x.1 ∷ paths_at n xs else paths_at n xs) ≡ [] → one_if (n == x.0) + occurs n (way_addresses xs) ≡ 0
     split true is behind e = cc
     split false is behind e = rw (swapped x.0 n is) (omega (arith, behind e))
 
 pub nobody_there : (n : ℕ) (k : Ports) → holder_of n k ≡ Nobody → NobodyHolds n k
 nobody_there n k h i e t at on = split (n == address_of t) refl
   where
-    none : occurs n (held k) ≡ 0
-    none = ap (occurs n) (sym (held-reached _ 1 k)) ∙ none_occurs n (all_reached k) (no_path (paths_at n (all_reached k)) h)
+    none : occurs n (held_addresses k) ≡ 0
+    none = ap (occurs n) (sym (held-reached _ 1 k)) ∙ none_occurs n (all_reached k) (holder_among-nobody (paths_at n (all_reached k)) h)
 
     is_number : (m : ℕ) → (n == m) ≡ true → m ≡ n
     is_number m h = grind (arith, nat_tests, h)
 
     split : (b : Bool) → (n == address_of t) ≡ b → b ≡ false
-    split true is = absurd (omega (arith, none, counted k i e n on (ap (option_map address_of) at ∙ ap (λ x. Some x) (is_number (address_of t) is))))
+    split true is = absurd (omega (arith, none, occurs-reached k i e n on (ap (option_map address_of) at ∙ ap (λ x. Some x) (is_number (address_of t) is))))
     split false is = refl
 
 -- ---- the attempt
@@ -72,9 +72,9 @@ exchange_of a d answer mark reply lost cleared = record {
   change_cleared = cleared;
 }
 
-no_reply : (d : Option Damage) (n : ℕ) (pre : Bool) (m : Mark) (max : ℕ) → marked_some d n pre (reply_of Nothing m max) ≡ None
+marked_some-nothing : (d : Option Damage) (n : ℕ) (pre : Bool) (m : Mark) (max : ℕ) → marked_some d n pre (reply_of Nothing m max) ≡ None
 unfolding marked_some reply_of
-no_reply d n pre m max = refl
+marked_some-nothing d n pre m max = refl
 
 module _ (a : Attempt) (d : Option Damage) (k : Ports) (settled : IsSettled k) (nobody : NobodyHolds a.addr k) where
   abbrev t : Option Sent
@@ -98,7 +98,7 @@ module _ (a : Attempt) (d : Option Damage) (k : Ports) (settled : IsSettled k) (
   mark_whole = ap (answer_mark (harm_to d (place_of_answer a d))) heard_nothing
 
   replied_none : reply_in a d k ≡ None
-  replied_none = ap (λ x. marked_some d (place_of_answer a d + 1) a.pre (reply_of x (mark_in a d k) a.max)) heard_nothing ∙ no_reply d (place_of_answer a d + 1) a.pre (mark_in a d k) a.max
+  replied_none = ap (λ x. marked_some d (place_of_answer a d + 1) a.pre (reply_of x (mark_in a d k) a.max)) heard_nothing ∙ marked_some-nothing d (place_of_answer a d + 1) a.pre (mark_in a d k) a.max
 
   lost_none : lost_in a d k ≡ false
   unfolding lost_in
@@ -123,5 +123,5 @@ module _ (a : Attempt) (d : Option Damage) (k : Ports) (settled : IsSettled k) (
   pub silence_made : (x : Exchange) → x ≡ silent_exchange a d → Exchanged a d k k x
   silence_made x e = record { made = e ∙ sym exchange_is; ports = sym unheard.0 }
 
-pub stays : (k : Ports) → StaysPlugged k k
-stays k = record { row = refl; figure = refl }
+pub stays_plugged_refl : (k : Ports) → StaysPlugged k k
+stays_plugged_refl k = record { row = refl; figure = refl }

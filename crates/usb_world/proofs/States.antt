@@ -4,22 +4,22 @@ use Rattle.usb_device.specs.Rows.{State, forgotten}
 use Rattle.usb_device.specs.declared.transfer.RememberedPacket.TheVariants.{Nothing}
 use Rattle.usb_world.specs.Paths.{address_of}
 use Rattle.usb_world.specs.WayEffects.{reset_if}
-use Rattle.usb_world.proofs.Booleans.{no}
+use Rattle.usb_world.proofs.Booleans.{false_true}
 
-pub forgets : (s : State) → s.memory ≡ Nothing → forgotten s ≡ s
-forgets s m = ap (λ x. record s { memory = x }) (sym m)
+pub forgotten-nothing : (s : State) → s.memory ≡ Nothing → forgotten s ≡ s
+forgotten-nothing s m = ap (λ x. record s { memory = x }) (sym m)
 
-pub kept_state : (o : Option State) → o ≡ option_map (reset_if false) o
-kept_state None = refl
-kept_state (Some s) = refl
+pub reset_if-false : (o : Option State) → o ≡ option_map (reset_if false) o
+reset_if-false None = refl
+reset_if-false (Some s) = refl
 
 pub unreset : (b : Bool) (o : Option State) → b ≡ false → option_map (reset_if b) o ≡ o
-unreset true o h = no (sym h)
+unreset true o h = false_true (sym h)
 unreset false None h = refl
 unreset false (Some s) h = refl
 
 pub kept_address : (b : Bool) (o : Option State) → b ≡ false → option_map address_of (option_map (reset_if b) o) ≡ option_map address_of o
-kept_address true o h = no (sym h)
+kept_address true o h = false_true (sym h)
 kept_address false None h = refl
 kept_address false (Some s) h = refl
 

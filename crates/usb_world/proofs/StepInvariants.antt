@@ -19,14 +19,14 @@ use Rattle.std.specs.Prelude.{Option, None, Some, slice_get, All, ⊤}
 use Rattle.std.specs.Option.{IfSome}
 use Rattle.usb_world.specs.Exchange.{ports_in, token_out, payload_out, reply_out}
 use Rattle.usb_world.specs.AttemptPackets.{IsSettled}
-use Rattle.usb_world.specs.SanePorts.{IsSane}
+use Rattle.usb_world.specs.SanePorts.{Consistent}
 use Rattle.usb_world.specs.PlanData.{PlanData}
 use Rattle.usb_world.specs.World.{World}
-use Rattle.usb_world.specs.Steps.{happened, with_plugged, took, ready, damage_in, with_attempt, Step, after, AnyStep, Course, here, step, IsBetween, opening}
+use Rattle.usb_world.specs.Steps.{after_change, with_plugged, after_event, at_attempt, damage_in, with_attempt, Step, after, AnyStep, Course, here, step, WorldInvariant, opening}
 use Rattle.usb_world.proofs.SanePorts.{sane_path, sane_new_ports, sane_called, sane_replaced}
-use Rattle.usb_world.proofs.AttemptPackets.{attempt_settled, attempt_sane}
+use Rattle.usb_world.proofs.AttemptPackets.{after_attempt-settled, attempt_sane}
 use Rattle.usb_world.proofs.LiftedSteps.{OverSteps, Keeps, with_call, with_limit_told, keeps_events, happened_by, over_ready, over_step, over_course}
-use Rattle.usb_world.proofs.States.{forgets}
+use Rattle.usb_world.proofs.States.{forgotten-nothing}
 
 -- A device that remembers nothing, and all below it
 
@@ -39,15 +39,15 @@ unfoldable RestsPlace : Place → Type 0
 RestsPlace (empty b) = ⊤
 RestsPlace (full b s a) = (s.memory ≡ Nothing) × Rests a
 
-abbrev further : Ports → Ports
-further ended = ended
-further (vacant b k) = k
-further (taken b s a k) = k
+abbrev ports_after_first : Ports → Ports
+ports_after_first ended = ended
+ports_after_first (vacant b k) = k
+ports_after_first (taken b s a k) = k
 
-abbrev below : Ports → Ports
-below ended = ended
-below (vacant b k) = ended
-below (taken b s a k) = a
+abbrev ports_below_first : Ports → Ports
+ports_below_first ended = ended
+ports_below_first (vacant b k) = ended
+ports_below_first (taken b s a k) = a
 
 abbrev remembered : Ports → RememberedPacket
 remembered ended = Nothing
@@ -57,14 +57,14 @@ remembered (taken b s a k) = s.memory
 pub rests : (k : Ports) → IsSettled k → Rests k
 unfolding all_forgotten Rests
 rests ended h = tt
-rests (vacant b k) h = rests k (ap further h)
-rests (taken b s a k) h = (sym (ap remembered h), rests a (ap below h), rests k (ap further h))
+rests (vacant b k) h = rests k (ap ports_after_first h)
+rests (taken b s a k) h = (sym (ap remembered h), rests a (ap ports_below_first h), rests k (ap ports_after_first h))
 
-settled : (k : Ports) → Rests k → IsSettled k
+rests_settled : (k : Ports) → Rests k → IsSettled k
 unfolding all_forgotten Rests
-settled ended h = refl
-settled (vacant b k) h = ap (vacant b) (settled k h)
-settled (taken b s a k) h = rw (forgets s h.0, settled a h.1, settled k h.2) refl
+rests_settled ended h = refl
+rests_settled (vacant b k) h = ap (vacant b) (rests_settled k h)
+rests_settled (taken b s a k) h = rw (forgotten-nothing s h.0, rests_settled a h.1, rests_settled k h.2) refl
 
 rests_off : (k : Ports) → Rests k → Rests (all_off k)
 unfolding Rests all_off
@@ -116,14 +116,14 @@ rests_changed f c (taken b s a k) (suc i) p h = (h.0, h.1, rests_changed f c k i
 settled_path : (f : Place → Place) → ((q : Place) → RestsPlace q → RestsPlace (f q)) → (k : Ports) (x : List ℕ) → IsSettled k → IsSettled (changed f k x)
 settled_path f c k [] h = h
 settled_path f c k (zero ∷ x) h = h
-settled_path f c k (suc i ∷ x) h = settled (changed_at f k i x) (rests_changed f c k i x (rests k h))
+settled_path f c k (suc i ∷ x) h = rests_settled (changed_at f k i x) (rests_changed f c k i x (rests k h))
 
 -- Settled
 
 pub settled_new : (n : ℕ) → IsSettled (new_ports n)
-settled_new n = settled (new_ports n) (rests_new n)
+settled_new n = rests_settled (new_ports n) (rests_new n)
 
-pub settled_happened : (a : Action) (ds : List Spec) (k : Ports) → IsSettled k → IsSettled (happened a ds k)
+pub settled_happened : (a : Action) (ds : List Spec) (k : Ports) → IsSettled k → IsSettled (after_change a ds k)
 settled_happened a ds k h =
     happened_by (λ v _. IsSettled v) a ds k [] h
     (λ o x. settled_path (replaced o) (rests_replaced o) k x h)
@@ -133,11 +133,11 @@ settled_called c k p h = settled_path (called c) (rests_called c) k p h
 
 pub settled_ports : (a : Attempt) (d : Option Damage) (k : Ports) → IsSettled (ports_in a d k)
 unfolding ports_in
-settled_ports a d k = attempt_settled (token_out a d) (payload_out a d) (reply_out a d k) k
+settled_ports a d k = after_attempt-settled (token_out a d) (payload_out a d) (reply_out a d k) k
 
 -- Sane
 
-sane_with : (o : Option Spec) → IfSome o IsSpec → (p : List ℕ) (k : Ports) → IsSane k → IsSane (with_plugged o p k)
+sane_with : (o : Option Spec) → IfSome o IsSpec → (p : List ℕ) (k : Ports) → Consistent k → Consistent (with_plugged o p k)
 sane_with None r p k h = h
 sane_with (Some t) r p k h = sane_path (replaced (Some t)) (sane_replaced (Some t) r) k p h
 
@@ -146,30 +146,30 @@ the_ruled [] d r = tt
 the_ruled (s ∷ ds) zero r = All-head IsSpec s ds r
 the_ruled (s ∷ ds) (suc d) r = the_ruled ds d (All-tail IsSpec s ds r)
 
-pub sane_happened : (a : Action) (ds : List Spec) → All IsSpec ds → (k : Ports) → IsSane k → IsSane (happened a ds k)
+pub sane_happened : (a : Action) (ds : List Spec) → All IsSpec ds → (k : Ports) → Consistent k → Consistent (after_change a ds k)
 sane_happened (Change (Plug p d)) ds r k h = sane_with (slice_get ds d) (the_ruled ds d r) p k h
 sane_happened (Change (Unplug p)) ds r k h = sane_path (replaced None) (sane_replaced None tt) k p h
 sane_happened (Ask ask) ds r k h = h
 
-pub sane_called_at : (c : PortCall) (k : Ports) (p : List ℕ) → IsSane k → IsSane (changed (called c) k p)
+pub sane_called_at : (c : PortCall) (k : Ports) (p : List ℕ) → Consistent k → Consistent (changed (called c) k p)
 sane_called_at c k p h = sane_path (called c) (sane_called c) k p h
 
-pub sane_ports : (a : Attempt) (d : Option Damage) (k : Ports) → IsSane k → IsSane (ports_in a d k)
+pub sane_ports : (a : Attempt) (d : Option Damage) (k : Ports) → Consistent k → Consistent (ports_in a d k)
 unfolding ports_in
 sane_ports a d k h = attempt_sane (token_out a d) (payload_out a d) (reply_out a d k) k h
 
 -- Worlds
 
-pub between_opening : (p : PlanData) → All IsSpec p.devices → IsBetween (opening p)
+pub between_opening : (p : PlanData) → All IsSpec p.devices → WorldInvariant (opening p)
 between_opening p r = record { settled = settled_new p.roots; sane = sane_new_ports p.roots; ruled = r }
 
 pub settled_steps : {K : Step → World → Type 0} → OverSteps K (Keeps (λ w. IsSettled w.roots))
-unfolding took with_attempt
+unfolding after_event with_attempt
 settled_steps = record {
   events =
       keeps_events (λ w. IsSettled w.roots)
       (λ e es w l. settled_happened e.action w.devices w.roots);
-  made = λ a w made k h. settled_ports a (damage_in (ready w)) (ready w).roots;
+  made = λ a w made k h. settled_ports a (damage_in (at_attempt w)) (at_attempt w).roots;
   root = λ c n w k. settled_called c w.roots (n ∷ []);
   refused = λ w h. h;
 }
@@ -189,37 +189,37 @@ settled_wider f (here w) h = here w
 settled_wider f (step s {w} {v} k c) h =
     step s (f s w k h) (settled_wider f c (settled_after s w h))
 
-between_by : (w : World) → IsSettled w.roots → IsSane w.roots → All IsSpec w.devices → IsBetween w
+between_by : (w : World) → IsSettled w.roots → Consistent w.roots → All IsSpec w.devices → WorldInvariant w
 between_by w settled sane ruled = record { settled = settled; sane = sane; ruled = ruled }
 
-pub between_steps : {K : Step → World → Type 0} → OverSteps K (Keeps IsBetween)
-unfolding took with_attempt
+pub between_steps : {K : Step → World → Type 0} → OverSteps K (Keeps WorldInvariant)
+unfolding after_event with_attempt
 between_steps = record {
-  events = keeps_events IsBetween (λ e es w l h.
-      between_by (took e es w) (settled_happened e.action w.devices w.roots h.settled)
+  events = keeps_events WorldInvariant (λ e es w l h.
+      between_by (after_event e es w) (settled_happened e.action w.devices w.roots h.settled)
       (sane_happened e.action w.devices h.ruled w.roots h.sane) h.ruled);
   made = λ a w made k h.
-      between_by (with_attempt a (ready w)) (settled_ports a (damage_in (ready w)) (ready w).roots)
-      (sane_ports a (damage_in (ready w)) (ready w).roots h.sane) h.ruled;
+      between_by (with_attempt a (at_attempt w)) (settled_ports a (damage_in (at_attempt w)) (at_attempt w).roots)
+      (sane_ports a (damage_in (at_attempt w)) (at_attempt w).roots h.sane) h.ruled;
   root = λ c n w k h.
       between_by (with_call c n w) (settled_called c w.roots (n ∷ []) h.settled)
       (sane_called_at c w.roots (n ∷ []) h.sane) h.ruled;
   refused = λ w h. between_by (with_limit_told w) h.settled h.sane h.ruled;
 }
 
-pub between_ready : (w : World) → IsBetween w → IsBetween (ready w)
+pub between_ready : (w : World) → WorldInvariant w → WorldInvariant (at_attempt w)
 between_ready = over_ready (between_steps {K = AnyStep}).events
 
-pub between_after : (s : Step) (w : World) → IsBetween w → IsBetween (after s w)
+pub between_after : (s : Step) (w : World) → WorldInvariant w → WorldInvariant (after s w)
 between_after s w = over_step (between_steps {K = AnyStep}) s w tt
 
-pub between_course : {K : Step → World → Type 0} {w v : World} → Course K w v → IsBetween w → IsBetween v
+pub between_course : {K : Step → World → Type 0} {w v : World} → Course K w v → WorldInvariant w → WorldInvariant v
 between_course c = over_course between_steps c
 
 -- Events are counted
 
 counted_steps : {K : Step → World → Type 0} → OverSteps K (λ w v. w.taken ≤ v.taken)
-unfolding took with_attempt
+unfolding after_event with_attempt
 counted_steps = record {
   events = record {
     same = λ w. omega arith;
@@ -231,7 +231,7 @@ counted_steps = record {
   refused = λ w. omega arith;
 }
 
-pub ready_taken : (w : World) → w.taken ≤ (ready w).taken
+pub ready_taken : (w : World) → w.taken ≤ (at_attempt w).taken
 ready_taken = over_ready (counted_steps {K = AnyStep}).events
 
 pub course_taken : {K : Step → World → Type 0} {w v : World} → Course K w v → w.taken ≤ v.taken

@@ -3,8 +3,8 @@ use Rattle.std.proofs.Common.{◌≡◌, ℕ, zero, suc, ◌&&◌, ◌||◌, ◌
 use Rattle.usb_port.specs.PortState.{PortState}
 use Rattle.usb_device.specs.Tree.{Ports, ended, vacant, taken, port_at}
 use Rattle.usb_device.specs.View.{port_there}
-use Rattle.usb_world.specs.Paths.{pend_at, pend, is_way}
-use Rattle.usb_world.specs.SanePorts.{IsSanePort, IsSane}
+use Rattle.usb_world.specs.Paths.{pending_at, pending, is_way}
+use Rattle.usb_world.specs.SanePorts.{IsSanePort, Consistent}
 use Rattle.usb_world.proofs.Booleans.{and_of, or_left}
 use Rattle.usb_world.proofs.Equality.{self_number}
 
@@ -38,8 +38,8 @@ own_change b h = pick b.connection_changed refl
 abbrev MayTell : Ports → ℕ → List ℕ → Type 0
 MayTell k i p = (x : List ℕ) (b : PortState) → is_way x p ≡ true → port_at k i x ≡ Some b → (b.power ≡ true) ⊎ (change_told_at k i x ≡ true)
 
-pend_told : (k : Ports) (i : ℕ) (p : List ℕ) → IsSane k → MayTell k i p → pend_at k i p ≡ change_told_at k i p
-unfolding IsSane pend_at change_told_at port_at is_way
+pend_told : (k : Ports) (i : ℕ) (p : List ℕ) → Consistent k → MayTell k i p → pending_at k i p ≡ change_told_at k i p
+unfolding Consistent pending_at change_told_at port_at is_way
 pend_told ended i p h c = refl
 pend_told (vacant b k) zero p h c = own_change b h.0
 pend_told (vacant b k) (suc i) p h c = pend_told k i p h.2 c
@@ -61,15 +61,15 @@ pend_told (taken b s a k) zero (suc j ∷ p) h c = pick b.connection_changed ref
     deeper : b.connection_changed ≡ false → MayTell a j p
     deeper e x d w at = further e x d (c (suc j ∷ x) d (and_of _ (is_way x p) (self_number (suc j)) w) at)
 
-    pick : (z : Bool) → b.connection_changed ≡ z → (b.connection_changed ≡ false → pend_at a j p ≡ change_told_at a j p)
-        → (b.power && (b.connection_changed || pend_at a j p)) ≡ (b.connection_changed || change_told_at a j p)
+    pick : (z : Bool) → b.connection_changed ≡ z → (b.connection_changed ≡ false → pending_at a j p ≡ change_told_at a j p)
+        → (b.power && (b.connection_changed || pending_at a j p)) ≡ (b.connection_changed || change_told_at a j p)
     pick true e below = rw (power here, e) refl
     pick false e below = rw (power here, e) (below e)
 pend_told (taken b s a k) (suc i) p h c = pend_told k i p h.3 c
 
-pub pending_told : (k : Ports) (path : List ℕ) → IsSane k
+pub pending_told : (k : Ports) (path : List ℕ) → Consistent k
     → ((x : List ℕ) (b : PortState) → is_way x path ≡ true → port_there k x ≡ Some b → (b.power ≡ true) ⊎ (change_told k x ≡ true))
-    → pend k path ≡ change_told k path
+    → pending k path ≡ change_told k path
 unfolding is_way
 pending_told k [] h c = refl
 pending_told k (zero ∷ p) h c = refl

@@ -14,7 +14,7 @@ use Rattle.usb_device.specs.declared.transfer.RememberedPacket.{RememberedPacket
 use Rattle.usb_device.specs.declared.transfer.RememberedPacket.TheVariants.{Nothing, SetupSeen, OutSeen, AckAwaited}
 use Rattle.usb_device.specs.Rows.{State, Reply, forgotten, received, unread, token_row, sink_grows}
 use Rattle.usb_device.specs.Tree.{Ports, ended, vacant, taken, full, before, acted, row_of}
-use Rattle.usb_device.specs.Delivery.{hears, reply_to, answer_of, effect_of, after_packet, delivered_device, on_port, all_forgotten, held, is_twice}
+use Rattle.usb_device.specs.Delivery.{hears, reply_to, answer_of, effect_of, after_packet, delivered_device, on_port, all_forgotten, held_addresses, repeats}
 use Rattle.usb_device.specs.StoppedPackets.{Stopped, behind_empty, behind, below, here}
 use Rattle.usb_world.specs.declared.damage.Damage.{Damage}
 use Rattle.usb_world.specs.declared.types.Attempt.{Attempt}
@@ -26,15 +26,15 @@ use Rattle.usb_world.specs.Paths.{address_of}
 use Rattle.usb_world.specs.AttemptPackets.{IfOut, IsTokenFor, IsDataOut, IsSettled, after_sent, calls_on}
 use Rattle.usb_world.specs.World.{IsAttempt}
 use Rattle.usb_world.specs.Steps.{IsCut}
-use Rattle.usb_world.proofs.Booleans.{no, decided}
+use Rattle.usb_world.proofs.Booleans.{false_true, decided}
 use Rattle.usb_world.proofs.StepInvariants.{Rests, rests}
-use Rattle.usb_world.proofs.Holders.{one_if, occurs, not_twice, occurs_append}
+use Rattle.usb_world.proofs.Holders.{one_if, occurs, occurs-most, occurs_append}
 use Rattle.usb_world.proofs.OneDevice.{rested_effect, token_calls, payload_calls}
 use Rattle.usb_world.proofs.AttemptPackets.{rested_answer}
 use Rattle.usb_world.proofs.Courses.{goes}
-use Rattle.usb_world.proofs.MildPackets.{either, is_nothing, nothing_no_out, grows_after_out}
+use Rattle.usb_world.proofs.MildPackets.{reply_if, is_nothing, nothing_no_out, grows_after_out}
 use Rattle.usb_world.proofs.CutPackets.{cut_kind}
-use Rattle.usb_world.proofs.States.{forgets}
+use Rattle.usb_world.proofs.States.{forgotten-nothing}
 
 -- how many devices remember something
 unfoldable pub seen : Ports → ℕ
@@ -44,9 +44,9 @@ seen (taken b s a k) = one_if (not (is_nothing s.memory)) + (seen a + seen k)
 
 is_it : (m : RememberedPacket) → is_nothing m ≡ true → m ≡ Nothing
 is_it Nothing h = refl
-is_it SetupSeen h = no h
-is_it (OutSeen e) h = no h
-is_it (AckAwaited g) h = no h
+is_it SetupSeen h = false_true h
+is_it (OutSeen e) h = false_true h
+is_it (AckAwaited g) h = false_true h
 
 none_seen : (m : RememberedPacket) → one_if (not (is_nothing m)) ≡ 0 → m ≡ Nothing
 none_seen m h = pick (decided (is_nothing m))
@@ -68,11 +68,11 @@ same_taken : (q : Sent) (deep : Bool) (b : PortState) (s : State) (a : Ports) �
     → (k m : Ports) → m ≡ k → taken b (answer_of q deep s a).1 (acted (effect_of q deep s) (after_packet q true a)) m ≡ taken b s a k
 same_taken q deep b s a n own lower k m rest = rw (rested_answer q deep s a n own, rested_effect q deep s n, lower, rest) refl
 
-data_rests : (q : Sent) → IsDataOut q.content → (deep : Bool) (k : Ports) → seen k ≡ 0 → after_packet q deep k ≡ k
+after_packet-data : (q : Sent) → IsDataOut q.content → (deep : Bool) (k : Ports) → seen k ≡ 0 → after_packet q deep k ≡ k
 unfolding after_packet seen
-data_rests q c deep ended h = refl
-data_rests q c deep (vacant b k) h = ap (vacant b) (data_rests q c deep k h)
-data_rests q c deep (taken b s a k) h = split b.enable (data_rests q c true a (omega (arith, h))) (data_rests q c deep k (omega (arith, h)))
+after_packet-data q c deep ended h = refl
+after_packet-data q c deep (vacant b k) h = ap (vacant b) (after_packet-data q c deep k h)
+after_packet-data q c deep (taken b s a k) h = split b.enable (after_packet-data q c true a (omega (arith, h))) (after_packet-data q c deep k (omega (arith, h)))
   where
     forgot : s.memory ≡ Nothing
     forgot = none_seen s.memory (omega (arith, h))
@@ -108,10 +108,10 @@ stopped_same q c (behind {deep} {k} {m} b s a st) h = split b.enable (stopped_sa
     forgot y = none_seen s.memory (omega (arith, h, y))
 
     split : (x : Bool) → m ≡ k → 1 ≤ seen k → before (if x then on_port b (delivered_device q deep (record { own = s; ports = a })) else (NoAnswer, full b s a)).1 m ≡ taken b s a k
-    split true rest y = same_taken q deep b s a (forgot y) (payload_calls q.content s c) (data_rests q c true a (omega (arith, h, y))) k m rest
+    split true rest y = same_taken q deep b s a (forgot y) (payload_calls q.content s c) (after_packet-data q c true a (omega (arith, h, y))) k m rest
     split false rest y = ap (taken b s a) rest
 stopped_same q w (below {deep} {a} {c} b s k on st) h = ap (λ x. taken b s x k) (stopped_same q w st (omega (arith, h)))
-stopped_same q c (here b s a k p on is heard grows) h = ap (λ x. taken b s x k) (data_rests q c true a (omega (arith, h, grows_seen s p grows)))
+stopped_same q c (here b s a k p on is heard grows) h = ap (λ x. taken b s x k) (after_packet-data q c true a (omega (arith, h, grows_seen s p grows)))
 
 -- A token is remembered by those who hold its address
 
@@ -133,63 +133,63 @@ seen_acted : (b : PortState) (z : State) (e : Effect) (c m : Ports) → e ≡ Le
 unfolding seen
 seen_acted b z e c m h = rw h refl
 
-token_seen : (n : ℕ) (q : Sent) → IsTokenFor n q.content → (deep : Bool) (k : Ports) → Rests k → seen (after_packet q deep k) ≤ occurs n (held k)
-unfolding Rests seen held occurs after_packet
+token_seen : (n : ℕ) (q : Sent) → IsTokenFor n q.content → (deep : Bool) (k : Ports) → Rests k → seen (after_packet q deep k) ≤ occurs n (held_addresses k)
+unfolding Rests seen held_addresses occurs after_packet
 token_seen n q c deep ended h = omega arith
 token_seen n q c deep (vacant b k) h = token_seen n q c deep k h
 token_seen n q c deep (taken b s a k) h = split b.enable (token_seen n q c true a h.1) (token_seen n q c deep k h.2)
   where
-    split : (x : Bool) → seen (after_packet q true a) ≤ occurs n (held a) → seen (after_packet q deep k) ≤ occurs n (held k)
+    split : (x : Bool) → seen (after_packet q true a) ≤ occurs n (held_addresses a) → seen (after_packet q deep k) ≤ occurs n (held_addresses k)
         → seen (if x then taken b (answer_of q deep s a).1 (acted (effect_of q deep s) (after_packet q true a)) (after_packet q deep k) else taken b s a (after_packet q deep k))
-        ≤ occurs n (if x then address_of s ∷ (held a ++ held k) else held k)
+        ≤ occurs n (if x then address_of s ∷ (held_addresses a ++ held_addresses k) else held_addresses k)
     split true lower rest = omega (
       arith,
       lower,
       rest,
       token_one n q c deep s a h.0,
-      occurs_append n (held a) (held k),
+      occurs_append n (held_addresses a) (held_addresses k),
       seen_acted b (answer_of q deep s a).1 (effect_of q deep s) (after_packet q true a) (after_packet q deep k) (rested_effect q deep s h.0),
     )
     split false lower rest = omega (arith, rest, ap (λ x. one_if (not (is_nothing x))) h.0, rest_seen a h.1)
 
-sent_seen : (n : ℕ) (o : Option Sent) → IfOut (IsTokenFor n) o → (k : Ports) → Rests k → seen (after_sent o k) ≤ occurs n (held k)
+sent_seen : (n : ℕ) (o : Option Sent) → IfOut (IsTokenFor n) o → (k : Ports) → Rests k → seen (after_sent o k) ≤ occurs n (held_addresses k)
 sent_seen n None c k h = omega (arith, rest_seen k h)
 sent_seen n (Some q) c k h = token_seen n q c false k h
 
 -- An OUT token leaves nothing but what is remembered of it
 
-settled : (k : Ports) → Rests k → all_forgotten k ≡ k
+all_forgotten-rests : (k : Ports) → Rests k → all_forgotten k ≡ k
 unfolding all_forgotten Rests
-settled ended h = refl
-settled (vacant b k) h = ap (vacant b) (settled k h)
-settled (taken b s a k) h = rw (forgets s h.0, settled a h.1, settled k h.2) refl
+all_forgotten-rests ended h = refl
+all_forgotten-rests (vacant b k) h = ap (vacant b) (all_forgotten-rests k h)
+all_forgotten-rests (taken b s a k) h = rw (forgotten-nothing s h.0, all_forgotten-rests a h.1, all_forgotten-rests k h.2) refl
 
 -- a device that remembered nothing is as it was when it forgets
-abbrev Forgets : Content → Type 0
-Forgets c = (s : State) (row : List PortState) → s.memory ≡ Nothing → forgotten (reply_to c s row).1 ≡ s
+abbrev IsForgotten : Content → Type 0
+IsForgotten c = (s : State) (row : List PortState) → s.memory ≡ Nothing → forgotten (reply_to c s row).1 ≡ s
 
-out_forgets : (n e : ℕ) → Forgets (content.Whole (Token OutTok n e))
+out_forgets : (n e : ℕ) → IsForgotten (content.Whole (Token OutTok n e))
 unfolding received
 out_forgets n e s row h =
     let P : Reply → Type 0 = λ x. forgotten x.1 ≡ s in
-    either P s.spec.silent (None, s) _ (forgets s h)
-    (either P (n == s.registers.address) (token_row (forgotten s) row OutTok e) (None, forgotten s) (forgets s h) (forgets s h))
+    reply_if P s.spec.silent (None, s) _ (forgotten-nothing s h)
+    (reply_if P (n == s.registers.address) (token_row (forgotten s) row OutTok e) (None, forgotten s) (forgotten-nothing s h) (forgotten-nothing s h))
 
-broken_forgets : Forgets content.Broken
+broken_forgets : IsForgotten content.Broken
 unfolding unread
-broken_forgets s row h = elim s.spec.silent as (λ x. forgotten (if x then s else forgotten s) ≡ s) [ true ↦ forgets s h | false ↦ forgets s h ]
+broken_forgets s row h = elim s.spec.silent as (λ x. forgotten (if x then s else forgotten s) ≡ s) [ true ↦ forgotten-nothing s h | false ↦ forgotten-nothing s h ]
 
-answer_forgets : (q : Sent) → Forgets q.content → (deep : Bool) (s : State) (a : Ports) → s.memory ≡ Nothing → forgotten (answer_of q deep s a).1 ≡ s
+answer_forgets : (q : Sent) → IsForgotten q.content → (deep : Bool) (s : State) (a : Ports) → s.memory ≡ Nothing → forgotten (answer_of q deep s a).1 ≡ s
 unfolding answer_of
 answer_forgets q c deep s a h =
-    either (λ x. forgotten x.1 ≡ s) (hears q deep s) (reply_to q.content s (row_of a)) (None, s) (c s (row_of a) h) (forgets s h)
+    reply_if (λ x. forgotten x.1 ≡ s) (hears q deep s) (reply_to q.content s (row_of a)) (None, s) (c s (row_of a) h) (forgotten-nothing s h)
 
 forgotten_acted : (b : PortState) (s z : State) (e : Effect) (a c k m : Ports) → forgotten z ≡ s → e ≡ Leaves → all_forgotten c ≡ a → all_forgotten m ≡ k
     → all_forgotten (taken b z (acted e c) m) ≡ taken b s a k
 unfolding all_forgotten
 forgotten_acted b s z e a c k m own calm lower rest = rw (calm, own, lower, rest) refl
 
-packet_forgets : (q : Sent) → Forgets q.content → (deep : Bool) (k : Ports) → Rests k → all_forgotten (after_packet q deep k) ≡ k
+packet_forgets : (q : Sent) → IsForgotten q.content → (deep : Bool) (k : Ports) → Rests k → all_forgotten (after_packet q deep k) ≡ k
 unfolding Rests after_packet all_forgotten
 packet_forgets q c deep ended h = refl
 packet_forgets q c deep (vacant b k) h = ap (vacant b) (packet_forgets q c deep k h)
@@ -198,29 +198,29 @@ packet_forgets q c deep (taken b s a k) h = split b.enable (packet_forgets q c t
     split : (x : Bool) → all_forgotten (after_packet q true a) ≡ a → all_forgotten (after_packet q deep k) ≡ k
         → all_forgotten (if x then taken b (answer_of q deep s a).1 (acted (effect_of q deep s) (after_packet q true a)) (after_packet q deep k) else taken b s a (after_packet q deep k)) ≡ taken b s a k
     split true lower rest = forgotten_acted b s (answer_of q deep s a).1 (effect_of q deep s) a (after_packet q true a) k (after_packet q deep k) (answer_forgets q c deep s a h.0) (rested_effect q deep s h.0) lower rest
-    split false lower rest = forgotten_acted b s s Leaves a a k (after_packet q deep k) (forgets s h.0) refl (settled a h.1) rest
+    split false lower rest = forgotten_acted b s s Leaves a a k (after_packet q deep k) (forgotten-nothing s h.0) refl (all_forgotten-rests a h.1) rest
 
 abbrev ForgetsOut : Option Sent → Type 0
 ForgetsOut None = Unit {0}
-ForgetsOut (Some q) = Forgets q.content
+ForgetsOut (Some q) = IsForgotten q.content
 
 forgotten_sent : (o : Option Sent) → ForgetsOut o → (k : Ports) → IsSettled k → all_forgotten (after_sent o k) ≡ k
 forgotten_sent None c k h = h
 forgotten_sent (Some q) c k h = packet_forgets q c false k (rests k h)
 
-sent_forgets : (low pre : Bool) (mark : Mark) (p : Packet) → Forgets (content.Whole p) → ForgetsOut (sent_as low pre mark p)
+sent_forgets : (low pre : Bool) (mark : Mark) (p : Packet) → IsForgotten (content.Whole p) → ForgetsOut (sent_as low pre mark p)
 sent_forgets low pre Whole p c = c
 sent_forgets low pre Lost p c = tt
 sent_forgets low pre PreLost p c = c
 sent_forgets low pre (Flipped bit) p c = broken_forgets
 
-token_forgets : (a : Attempt) (d : Option Damage) → Forgets (content.Whole (Token a.kind a.addr a.ep)) → ForgetsOut (token_out a d)
+token_forgets : (a : Attempt) (d : Option Damage) → IsForgotten (content.Whole (Token a.kind a.addr a.ep)) → ForgetsOut (token_out a d)
 unfolding token_of marked
 token_forgets a d c = sent_forgets a.low a.pre (mark_of (harm_to d 1) a.pre (Token a.kind a.addr a.ep)) (Token a.kind a.addr a.ep) c
 
-pub cut_alone : (a : Attempt) (d : Option Damage) (k m : Ports) → IsAttempt a → IsSettled k → IsCut a d k m → is_twice (held k) ≡ false → m ≡ k
+pub cut_alone : (a : Attempt) (d : Option Damage) (k m : Ports) → IsAttempt a → IsSettled k → IsCut a d k m → repeats (held_addresses k) ≡ false → m ≡ k
 cut_alone a d k m is quiet c single =
-    let forgets_it : Forgets (content.Whole (Token a.kind a.addr a.ep)) = rw (cut_kind a d k m is quiet c) (out_forgets a.addr a.ep) in
+    let forgets_it : IsForgotten (content.Whole (Token a.kind a.addr a.ep)) = rw (cut_kind a d k m is quiet c) (out_forgets a.addr a.ep) in
     let text : IsDataOut c.sent.content = subst (IfOut IsDataOut) c.went (goes a d k).payload in
-    let one : seen (after_sent (token_out a d) k) ≤ 1 = omega (arith, sent_seen a.addr (token_out a d) (goes a d k).token k (rests k quiet), not_twice a.addr (held k) single) in
+    let one : seen (after_sent (token_out a d) k) ≤ 1 = omega (arith, sent_seen a.addr (token_out a d) (goes a d k).token k (rests k quiet), occurs-most a.addr (held_addresses k) single) in
     c.is ∙ ap all_forgotten (stopped_same c.sent text c.stopped one) ∙ forgotten_sent (token_out a d) (token_forgets a d forgets_it) k quiet

@@ -7,7 +7,7 @@ use Rattle.std.specs.Cmp.Lexicographic.{pointwise, same_text, bytes_decides}
 use Rattle.std.specs.List.{starts_with}
 use Rattle.std.proofs.lemmas.Bool.{eqb-true, eq-eqb}
 use Rattle.usb_port.specs.Order.{is_below as is_port_below, parent_of, port_on_hub}
-use Rattle.usb_port.proofs.Interface.{below, rejoined}
+use Rattle.usb_port.proofs.Interface.{is_below-extension, rejoined}
 use Rattle.usb_device.specs.Spec.{Spec}
 use Rattle.usb_device.specs.Tree.{Ports, ended, vacant, taken, reach, reach_at}
 use Rattle.usb_world.specs.declared.event.Action.{Action}
@@ -18,19 +18,19 @@ use Rattle.usb_world.specs.Courses.{NoneNames, Undisturbed}
 use Rattle.usb_world.specs.Paths.{is_way, same_path, same_number}
 use Rattle.usb_world.specs.Steps.{names_path, way_of}
 use Rattle.usb_world.specs.World.{World}
-use Rattle.usb_world.proofs.RootResets.{is_same}
-use Rattle.usb_world.proofs.Booleans.{no, both, or_left, or_right, either_of, same_bools, and_kept}
+use Rattle.usb_world.proofs.RootResets.{same_number-is}
+use Rattle.usb_world.proofs.Booleans.{false_true, both, or_left, or_right, either_of, same_bools, and_kept}
 use Rattle.usb_world.proofs.Equality.{self_number, self_path}
 
 -- a way goes on to the path
 pub way_rest : (p x : List ℕ) → is_way p x ≡ true → (rest : List ℕ) × (x ≡ p ++ rest)
 unfolding is_way
 way_rest [] x h = (x, refl)
-way_rest (m ∷ p) [] h = no h
+way_rest (m ∷ p) [] h = false_true h
 way_rest (m ∷ p) (n ∷ x) h =
     let parts = both (same_number m n) (is_way p x) h in
     let more = way_rest p x parts.1 in
-    (more.0, ap (λ (k : ℕ). k ∷ x) (is_same m n parts.0) ∙ ap (λ (l : List ℕ). m ∷ l) more.1)
+    (more.0, ap (λ (k : ℕ). k ∷ x) (same_number-is m n parts.0) ∙ ap (λ (l : List ℕ). m ∷ l) more.1)
 
 pub way_on : (p rest : List ℕ) → is_way p (p ++ rest) ≡ true
 unfolding is_way
@@ -54,7 +54,7 @@ way_trans p q x pq qx =
 number_tests : (m n : ℕ) → same_number m n ≡ nat_eq m n
 number_tests m n =
     same_bools (same_number m n) (nat_eq m n)
-    (λ h. eq-eqb m n (sym (is_same m n h)))
+    (λ h. eq-eqb m n (sym (same_number-is m n h)))
     (λ h. ap (same_number m) (sym (eqb-true m n h)) ∙ self_number m)
 
 -- a path leads to those that start with it
@@ -66,12 +66,12 @@ way_starts (m ∷ e) (n ∷ p) = ap₂ (λ a b. a && b) (number_tests m n) (way_
 
 rest_below : (x p rest : List ℕ) → x ≡ p ++ rest → (pointwise nat_eq x p || is_port_below x p) ≡ true
 rest_below x p [] e = or_left (pointwise nat_eq x p) (is_port_below x p) ((bytes_decides x p).1 (e ∙ append-nil p))
-rest_below x p (n ∷ rest) e = or_right (pointwise nat_eq x p) (is_port_below x p) ((below x p).1 (n ∷ rest, e, omega arith))
+rest_below x p (n ∷ rest) e = or_right (pointwise nat_eq x p) (is_port_below x p) ((is_below-extension x p).1 (n ∷ rest, e, omega arith))
 
 below_rest : (x p : List ℕ) → (pointwise nat_eq x p || is_port_below x p) ≡ true → is_way p x ≡ true
 below_rest x p h = elim (either_of (pointwise nat_eq x p) (is_port_below x p) h) [
   | inl same ↦ way_of_rest p x [] (same_text x p (sym same) ∙ sym (append-nil p))
-  | inr on ↦ let rest = (below x p).0 on in way_of_rest p x rest.0 rest.1
+  | inr on ↦ let rest = (is_below-extension x p).0 on in way_of_rest p x rest.0 rest.1
 ]
 
 -- a path is another or stands below it
@@ -79,9 +79,9 @@ pub at_or_below_way : (x p : List ℕ) → (pointwise nat_eq x p || is_port_belo
 at_or_below_way x p =
     same_bools (pointwise nat_eq x p || is_port_below x p) (is_way p x) (below_rest x p) (λ h. let rest = way_rest p x h in rest_below x p rest.0 rest.1)
 
-further : (x p rest : List ℕ) → x ≡ p ++ rest → not (same_path p x) ≡ true → is_port_below x p ≡ true
-further x p [] e h = no (sym (ap (λ (l : List ℕ). not (same_path p l)) (e ∙ append-nil p) ∙ ap not (self_path p)) ∙ h)
-further x p (n ∷ rest) e h = (below x p).1 (n ∷ rest, e, omega arith)
+is_port_below-longer : (x p rest : List ℕ) → x ≡ p ++ rest → not (same_path p x) ≡ true → is_port_below x p ≡ true
+is_port_below-longer x p [] e h = false_true (sym (ap (λ (l : List ℕ). not (same_path p l)) (e ∙ append-nil p) ∙ ap not (self_path p)) ∙ h)
+is_port_below-longer x p (n ∷ rest) e h = (is_below-extension x p).1 (n ∷ rest, e, omega arith)
 
 -- Above
 
@@ -100,7 +100,7 @@ pub way_parent : (path hub : List ℕ) → parent_of path ≡ Some hub → is_wa
 way_parent path hub is = way_of_rest hub path (port_on_hub path ∷ []) (rejoined path hub is)
 
 not_so : (a b : Bool) → (a ≡ true → b ≡ true) → b ≡ false → a ≡ false
-not_so true b f h = no (sym h ∙ f refl)
+not_so true b f h = false_true (sym h ∙ f refl)
 not_so false b f h = refl
 
 -- what is not below a port is not below one that is
@@ -112,20 +112,20 @@ way_apart p q x on away = not_so (is_way q x) (is_way p x) (way_trans p q x on) 
 reached_above : (k : Ports) (j : ℕ) (x rest : List ℕ)
     → reach_at k j (x ++ rest) ≡ true → reach_at k j x ≡ true
 unfolding reach_at
-reached_above ended j x rest h = no h
-reached_above (vacant b k) zero x rest h = no h
+reached_above ended j x rest h = false_true h
+reached_above (vacant b k) zero x rest h = false_true h
 reached_above (vacant b k) (suc j) x rest h = reached_above k j x rest h
 reached_above (taken b s a k) zero [] [] h = h
-reached_above (taken b s a k) zero [] (zero ∷ rest) h = no h
+reached_above (taken b s a k) zero [] (zero ∷ rest) h = false_true h
 reached_above (taken b s a k) zero [] (suc n ∷ rest) h = (both b.enable (reach_at a n rest) h).0
-reached_above (taken b s a k) zero (zero ∷ x) rest h = no h
+reached_above (taken b s a k) zero (zero ∷ x) rest h = false_true h
 reached_above (taken b s a k) zero (suc i ∷ x) rest h =
     and_kept b.enable _ _ (reached_above a i x rest) h
 reached_above (taken b s a k) (suc j) x rest h = reached_above k j x rest h
 
 reach_above : (k : Ports) (n : ℕ) (x rest : List ℕ)
     → reach k (n ∷ (x ++ rest)) ≡ true → reach k (n ∷ x) ≡ true
-reach_above k zero x rest h = no h
+reach_above k zero x rest h = false_true h
 reach_above k (suc i) x rest h = reached_above k i x rest h
 
 -- each device on the way to a reachable one is reachable

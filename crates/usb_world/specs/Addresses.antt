@@ -9,7 +9,7 @@ use Rattle.usb_world.specs.declared.damage.Damage.{Damage}
 use Rattle.usb_world.specs.declared.types.Attempt.{Attempt}
 use Rattle.usb_world.specs.Paths.{address_of, same_path, is_way}
 use Rattle.usb_world.specs.World.{World}
-use Rattle.usb_world.specs.Steps.{ready, Step, attempt, root_call, event, report}
+use Rattle.usb_world.specs.Steps.{at_attempt, Step, attempt, root_call, event, report}
 use Rattle.usb_world.specs.Courses.{QuietStep}
 use Rattle.usb_world.specs.OneHolder.{token_way, answer_way, reply_way}
 
@@ -25,7 +25,7 @@ NoneTakes n k = (i : ℕ) (e : List ℕ) (s : State) → reach_at k i e ≡ true
 
 -- IN or OUT, where no device at its address takes another when its status stage ends
 abbrev pub MovesData : Step → World → Type 0
-MovesData (attempt a) w = (is_setup a.kind ≡ false) × NoneTakes a.addr (ready w).roots
+MovesData (attempt a) w = (is_setup a.kind ≡ false) × NoneTakes a.addr (at_attempt w).roots
 MovesData (root_call c n) w = ⊥
 MovesData event w = ⊥
 MovesData (report line) w = ⊥

@@ -8,9 +8,9 @@ use Rattle.usb_device.specs.declared.delivery.Content.TheVariants.{Whole, Broken
 use Rattle.usb_device.specs.declared.delivery.Sent.{Sent}
 use Rattle.usb_device.specs.Rows.{State, Reply}
 use Rattle.usb_device.specs.Attempt.{is_own}
-use Rattle.usb_device.specs.Tree.{Ports, reach_at, state_at, Spot, reach_on, state_on}
-use Rattle.usb_device.specs.Delivery.{after_packet, answers, all_forgotten, held, is_twice, hears, reply_to}
-use Rattle.usb_world.specs.WayEffects.{resets_at, packet_spares}
+use Rattle.usb_device.specs.Tree.{Ports, reach_at, state_at, Location, reach_on, state_on}
+use Rattle.usb_device.specs.Delivery.{after_packet, answers, all_forgotten, held_addresses, repeats, hears, reply_to}
+use Rattle.usb_world.specs.WayEffects.{resets_at, packet_keeps_pending}
 use Rattle.usb_world.specs.Paths.{address_of}
 
 -- the ports after a packet, which goes out or does not
@@ -73,16 +73,16 @@ abbrev pub sent_resets : Option Sent → Ports → ℕ → List ℕ → Bool
 sent_resets None k j p = false
 sent_resets (Some q) k j p = resets_at q false k j p
 
-abbrev pub sent_spares : Option Sent → Ports → ℕ → List ℕ → Bool
-sent_spares None k j p = true
-sent_spares (Some q) k j p = packet_spares q false k j p
+abbrev pub sent_keeps_pending : Option Sent → Ports → ℕ → List ℕ → Bool
+sent_keeps_pending None k j p = true
+sent_keeps_pending (Some q) k j p = packet_keeps_pending q false k j p
 
 -- the same of an attempt: only the host's data ask something of ports
 abbrev pub attempt_resets : Option Sent → Option Sent → Ports → ℕ → List ℕ → Bool
 attempt_resets token payload k j p = sent_resets payload (after_sent token k) j p
 
-abbrev pub attempt_spares : Option Sent → Option Sent → Ports → ℕ → List ℕ → Bool
-attempt_spares token payload k j p = sent_spares payload (after_sent token k) j p
+abbrev pub attempt_keeps_pending : Option Sent → Option Sent → Ports → ℕ → List ℕ → Bool
+attempt_keeps_pending token payload k j p = sent_keeps_pending payload (after_sent token k) j p
 
 -- between attempts no device remembers anything
 abbrev pub IsSettled : Ports → Type 0
@@ -93,7 +93,7 @@ abbrev pub NobodyHolds : ℕ → Ports → Type 0
 NobodyHolds n k = (i : ℕ) (e : List ℕ) (t : State) → state_at k i e ≡ Some t → reach_at k i e ≡ true → (n == address_of t) ≡ false
 
 -- one reachable device holds it, and no address is held twice
-pub record OneHolds (n : ℕ) (k : Ports) (x : Spot) : Type 0 where
-  pub single : is_twice (held k) ≡ false
+pub record OneHolds (n : ℕ) (k : Ports) (x : Location) : Type 0 where
+  pub single : repeats (held_addresses k) ≡ false
   pub on : reach_on k x ≡ true
   pub at : option_map address_of (state_on k x) ≡ Some n

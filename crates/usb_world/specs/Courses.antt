@@ -17,12 +17,12 @@ use Rattle.usb_world.specs.declared.event.Event.{Event}
 use Rattle.usb_world.specs.declared.types.Attempt.{Attempt}
 use Rattle.usb_world.specs.declared.types.BusFault.{BusFault}
 use Rattle.usb_device.specs.View.{state_there}
-use Rattle.usb_world.specs.Paths.{live, pend, address_of, same_path}
-use Rattle.usb_world.specs.WayEffects.{IsNew, call_resets, call_spares}
-use Rattle.usb_world.specs.AttemptPackets.{attempt_resets, attempt_spares}
+use Rattle.usb_world.specs.Paths.{has_power, pending, address_of, same_path}
+use Rattle.usb_world.specs.WayEffects.{IsNew, call_resets, call_keeps_pending}
+use Rattle.usb_world.specs.AttemptPackets.{attempt_resets, attempt_keeps_pending}
 use Rattle.usb_world.specs.World.{World}
 use Rattle.usb_world.specs.Exchange.{token_out, payload_out}
-use Rattle.usb_world.specs.Steps.{names_path, ready, damage_in, Step, attempt, root_call, event, report}
+use Rattle.usb_world.specs.Steps.{names_path, at_attempt, damage_in, Step, attempt, root_call, event, report}
 
 -- no event of these is at the path or at a port on its way
 abbrev pub NoneNames : List Spec → List Event → List ℕ → Type 0
@@ -49,31 +49,31 @@ is_made None w = not (w.attempts == w.limit)
 abbrev pub made_resets : Attempt → World → List ℕ → Bool
 made_resets a w p = at_path (attempt_resets (token_out a (damage_in w)) (payload_out a (damage_in w)) w.roots) false p
 
-abbrev pub made_spares : Attempt → World → List ℕ → Bool
-made_spares a w p = at_path (attempt_spares (token_out a (damage_in w)) (payload_out a (damage_in w)) w.roots) true p
+abbrev pub made_keeps_pending : Attempt → World → List ℕ → Bool
+made_keeps_pending a w p = at_path (attempt_keeps_pending (token_out a (damage_in w)) (payload_out a (damage_in w)) w.roots) true p
 
 abbrev pub root_resets : PortCall → ℕ → Ports → List ℕ → Bool
 root_resets c zero k p = false
 root_resets c (suc i) k p = at_path (call_resets c k i) false p
 
-abbrev pub root_spares : PortCall → ℕ → List ℕ → Bool
-root_spares c zero p = true
-root_spares c (suc i) p = at_path (call_spares c i) true p
+abbrev pub root_keeps_pending : PortCall → ℕ → List ℕ → Bool
+root_keeps_pending c zero p = true
+root_keeps_pending c (suc i) p = at_path (call_keeps_pending c i) true p
 
 -- whether a step resets the device at just this path
 unfoldable pub resets : Step → World → List ℕ → Bool
-resets (attempt a) w p = is_made w.fault w && made_resets a (ready w) p
+resets (attempt a) w p = is_made w.fault w && made_resets a (at_attempt w) p
 resets (root_call c n) w p = root_resets c n w.roots p
 resets event w p = false
 resets (report line) w p = false
 
 -- whether a step leaves pending what is pending there: it clears no change of connection there or on the way, and
 -- neither resets a device on the way nor takes its power or configuration
-unfoldable pub spares_step : Step → World → List ℕ → Bool
-spares_step (attempt a) w p = made_spares a (ready w) p
-spares_step (root_call c n) w p = root_spares c n p
-spares_step event w p = true
-spares_step (report line) w p = true
+unfoldable pub step_keeps_pending : Step → World → List ℕ → Bool
+step_keeps_pending (attempt a) w p = made_keeps_pending a (at_attempt w) p
+step_keeps_pending (root_call c n) w p = root_keeps_pending c n p
+step_keeps_pending event w p = true
+step_keeps_pending (report line) w p = true
 
 -- reachable before and not disturbed since, or just reset
 abbrev pub Reached : World → World → List ℕ → Bool → Type 0
@@ -81,13 +81,13 @@ Reached w v p was_reset = ((was_reset ≡ false) × (reach w.roots p ≡ true) �
 
 -- powered on its whole way and not disturbed, or pending
 abbrev pub UndisturbedOrPends : World → World → List ℕ → Type 0
-UndisturbedOrPends w v p = ((live v.roots p ≡ true) × Undisturbed w v p) ⊎ (pend v.roots p ≡ true)
+UndisturbedOrPends w v p = ((has_power v.roots p ≡ true) × Undisturbed w v p) ⊎ (pending v.roots p ≡ true)
 
 abbrev pub NoReset : List ℕ → Step → World → Type 0
 NoReset p s w = resets s w p ≡ false
 
-abbrev pub Spares : List ℕ → Step → World → Type 0
-Spares p s w = spares_step s w p ≡ true
+abbrev pub KeepsPendingAt : List ℕ → Step → World → Type 0
+KeepsPendingAt p s w = step_keeps_pending s w p ≡ true
 
 -- a request that is not PORT_RESET of a port
 abbrev pub is_harmless : Setup → Bool
@@ -98,8 +98,8 @@ abbrev pub address_at : Ports → List ℕ → Option ℕ
 address_at k p = option_map address_of (state_there k p)
 
 -- each reachable device holds the address that a map gives its path
-abbrev pub Own : (List ℕ → Option ℕ) → World → Type 0
-Own f w = (p : List ℕ) → reach w.roots p ≡ true → address_at w.roots p ≡ f p
+abbrev pub HoldsMapped : (List ℕ → Option ℕ) → World → Type 0
+HoldsMapped f w = (p : List ℕ) → reach w.roots p ≡ true → address_at w.roots p ≡ f p
 
 -- no two paths have one address
 abbrev pub Injective : (List ℕ → Option ℕ) → Type 0

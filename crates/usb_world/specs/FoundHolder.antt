@@ -2,11 +2,11 @@
 use Rattle.std.specs.Prelude.{◌≡◌, ℕ, true, Some}
 use Rattle.usb_port.specs.PortState.{PortState}
 use Rattle.usb_device.specs.Rows.{State}
-use Rattle.usb_device.specs.Tree.{Ports, Spot, full, reach_on, place_on}
+use Rattle.usb_device.specs.Tree.{Ports, Location, full, reach_on, place_on}
 use Rattle.usb_world.specs.Paths.{address_of}
 
 pub record Found (n : ℕ) (k : Ports) : Type 0 where
-  pub spot : Spot
+  pub spot : Location
   pub port : PortState
   pub own : State
   pub below : Ports

@@ -27,7 +27,7 @@ use Rattle.usb_world.specs.Exchange.{token_out, payload_out, reply_out, mark_in}
 use Rattle.usb_world.specs.AttemptPackets.{IsSettled}
 use Rattle.usb_world.specs.FoundHolder.{Found}
 use Rattle.usb_world.specs.World.{World}
-use Rattle.usb_world.specs.Steps.{ready, attempt, after}
+use Rattle.usb_world.specs.Steps.{at_attempt, attempt, after}
 
 -- how a packet of the host comes to a device: not at all where it does not go out, or the device does not hear it
 abbrev pub content_way : Content → Way
@@ -103,7 +103,7 @@ pub record IsMade (a : Attempt) (w : World) : Type 0 where
 pub record HolderIn (a : Attempt) (w : World) : Type 0 where
   pub made : IsMade a w
   pub single : (after (attempt a) w).shared ≡ false
-  pub found : Found a.addr (ready w).roots
+  pub found : Found a.addr (at_attempt w).roots
   pub open found use *
 
 -- one that is not silent

@@ -1,38 +1,38 @@
 -- What a tree of ports says of a path: whether its way is powered, and whether a change of connection is pending on it.
 use Rattle.std.specs.Prelude.{◌≡◌, ℕ, zero, suc, ◌&&◌, ◌||◌, Bool, true, false, List, [], ◌∷◌, Some, option_map}
 use Rattle.usb_device.specs.Rows.{State}
-use Rattle.usb_device.specs.Tree.{Ports, ended, vacant, taken, Spot, reach_on, state_on}
+use Rattle.usb_device.specs.Tree.{Ports, ended, vacant, taken, Location, reach_on, state_on}
 
 -- whether a port stands at a path, and it and each port on its way is powered
-unfoldable pub live_at : Ports → ℕ → List ℕ → Bool
-live_at ended i p = false
-live_at (vacant b k) zero [] = b.power
-live_at (vacant b k) zero (n ∷ p) = false
-live_at (vacant b k) (suc i) p = live_at k i p
-live_at (taken b s a k) zero [] = b.power
-live_at (taken b s a k) zero (zero ∷ p) = false
-live_at (taken b s a k) zero (suc j ∷ p) = b.power && live_at a j p
-live_at (taken b s a k) (suc i) p = live_at k i p
+unfoldable pub has_power_at : Ports → ℕ → List ℕ → Bool
+has_power_at ended i p = false
+has_power_at (vacant b k) zero [] = b.power
+has_power_at (vacant b k) zero (n ∷ p) = false
+has_power_at (vacant b k) (suc i) p = has_power_at k i p
+has_power_at (taken b s a k) zero [] = b.power
+has_power_at (taken b s a k) zero (zero ∷ p) = false
+has_power_at (taken b s a k) zero (suc j ∷ p) = b.power && has_power_at a j p
+has_power_at (taken b s a k) (suc i) p = has_power_at k i p
 
-abbrev pub live : Ports → List ℕ → Bool
-live k [] = false
-live k (zero ∷ p) = false
-live k (suc i ∷ p) = live_at k i p
+abbrev pub has_power : Ports → List ℕ → Bool
+has_power k [] = false
+has_power k (zero ∷ p) = false
+has_power k (suc i ∷ p) = has_power_at k i p
 
 -- whether the port at a path, or one on its way, has C_PORT_CONNECTION set, and is powered as are all on its own way
-unfoldable pub pend_at : Ports → ℕ → List ℕ → Bool
-pend_at ended i p = false
-pend_at (vacant b k) zero p = b.power && b.connection_changed
-pend_at (vacant b k) (suc i) p = pend_at k i p
-pend_at (taken b s a k) zero [] = b.power && b.connection_changed
-pend_at (taken b s a k) zero (zero ∷ p) = b.power && b.connection_changed
-pend_at (taken b s a k) zero (suc j ∷ p) = b.power && (b.connection_changed || pend_at a j p)
-pend_at (taken b s a k) (suc i) p = pend_at k i p
+unfoldable pub pending_at : Ports → ℕ → List ℕ → Bool
+pending_at ended i p = false
+pending_at (vacant b k) zero p = b.power && b.connection_changed
+pending_at (vacant b k) (suc i) p = pending_at k i p
+pending_at (taken b s a k) zero [] = b.power && b.connection_changed
+pending_at (taken b s a k) zero (zero ∷ p) = b.power && b.connection_changed
+pending_at (taken b s a k) zero (suc j ∷ p) = b.power && (b.connection_changed || pending_at a j p)
+pending_at (taken b s a k) (suc i) p = pending_at k i p
 
-abbrev pub pend : Ports → List ℕ → Bool
-pend k [] = false
-pend k (zero ∷ p) = false
-pend k (suc i ∷ p) = pend_at k i p
+abbrev pub pending : Ports → List ℕ → Bool
+pending k [] = false
+pending k (zero ∷ p) = false
+pending k (suc i ∷ p) = pending_at k i p
 
 abbrev pub address_of : State → ℕ
 address_of s = s.registers.address
@@ -61,7 +61,7 @@ on_way i e j p = same_number i j && is_way e p
 
 -- a reachable device at an address
 pub record HoldsAddress (k : Ports) (n : ℕ) : Type 0 where
-  pub spot : Spot
+  pub spot : Location
   pub on : reach_on k spot ≡ true
   pub at : option_map address_of (state_on k spot) ≡ Some n
 

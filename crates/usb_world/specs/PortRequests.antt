@@ -13,8 +13,8 @@ use Rattle.usb_world.specs.Paths.{is_way, same_number, same_path}
 use Rattle.usb_world.specs.AttemptPackets.{after_sent}
 use Rattle.usb_world.specs.WayEffects.{way_leaves}
 use Rattle.usb_world.specs.World.{World}
-use Rattle.usb_world.specs.Steps.{ready, damage_in, Step, attempt, root_call, event, report}
-use Rattle.usb_world.specs.Courses.{at_path, resets, spares_step}
+use Rattle.usb_world.specs.Steps.{at_attempt, damage_in, Step, attempt, root_call, event, report}
+use Rattle.usb_world.specs.Courses.{at_path, resets, step_keeps_pending}
 
 -- Which ports a step leaves alone
 
@@ -34,7 +34,7 @@ root_leaves (suc i) p = at_path (λ j e. not (same_number i j)) true p
 
 -- whether a step asks nothing of the port at a path, nor of a port on its way
 unfoldable pub leaves_step : Step → World → List ℕ → Bool
-leaves_step (attempt a) w p = made_leaves a (ready w) p
+leaves_step (attempt a) w p = made_leaves a (at_attempt w) p
 leaves_step (root_call c n) w p = root_leaves n p
 leaves_step event w p = true
 leaves_step (report line) w p = true
@@ -44,7 +44,7 @@ LeavesPort p s w = leaves_step s w p ≡ true
 
 -- a step that asks nothing of any port on the way to a path, nor of the one there
 pub record AsksNothing (s : Step) (w : World) (p : List ℕ) : Type 0 where
-  pub spares : spares_step s w p ≡ true
+  pub spares : step_keeps_pending s w p ≡ true
   pub rests : resets s w p ≡ false
   pub leaves : leaves_step s w p ≡ true
 

@@ -2,7 +2,7 @@
 use Rattle.std.specs.Prelude.{◌≡◌, ◌⊎◌, List, ℕ, true, option_map}
 use Rattle.usb_device.specs.Tree.{Ports, reach}
 use Rattle.usb_device.specs.View.{state_there, port_there}
-use Rattle.usb_world.specs.Paths.{live, pend}
+use Rattle.usb_world.specs.Paths.{has_power, pending}
 use Rattle.usb_world.specs.PlanCourses.{spec_of}
 use Rattle.usb_world.specs.World.{World}
 use Rattle.usb_world.specs.Steps.{Step}
@@ -14,13 +14,13 @@ pub record SameAt (k v : Ports) (p : List ℕ) : Type 0 where
   pub on : reach v p ≡ reach k p
   pub what : option_map spec_of (state_there v p) ≡ option_map spec_of (state_there k p)
 
-abbrev pub AsksNothingOf : List ℕ → Step → World → Type 0
-AsksNothingOf p s w = AsksNothing s w p
+abbrev pub LeavesPortAlone : List ℕ → Step → World → Type 0
+LeavesPortAlone p s w = AsksNothing s w p
 
 -- powered on its whole way, and as it was; or pending
-abbrev pub RestsOrPends : World → World → List ℕ → Type 0
-RestsOrPends w v p = ((live v.roots p ≡ true) × SameAt w.roots v.roots p) ⊎ (pend v.roots p ≡ true)
+abbrev pub UnchangedOrPending : World → World → List ℕ → Type 0
+UnchangedOrPending w v p = ((has_power v.roots p ≡ true) × SameAt w.roots v.roots p) ⊎ (pending v.roots p ≡ true)
 
 -- powered on its whole way, with the same device or none; or pending
-abbrev pub StandsOrPends : World → World → List ℕ → Type 0
-StandsOrPends w v p = ((live v.roots p ≡ true) × (option_map spec_of (state_there v.roots p) ≡ option_map spec_of (state_there w.roots p))) ⊎ (pend v.roots p ≡ true)
+abbrev pub SameDeviceOrPending : World → World → List ℕ → Type 0
+SameDeviceOrPending w v p = ((has_power v.roots p ≡ true) × (option_map spec_of (state_there v.roots p) ≡ option_map spec_of (state_there w.roots p))) ⊎ (pending v.roots p ≡ true)

@@ -6,11 +6,11 @@ use Rattle.usb_device.specs.declared.holders.Holders.{Holders}
 use Rattle.usb_device.specs.HolderIndex.{holder_in}
 
 -- the path of the one holder, or the whole tree's: where two devices hold one address, also for the others
-abbrev pub way_of : Bool → Holder → List ℕ
-way_of true x = []
-way_of false Nobody = []
-way_of false (One path) = path.items
-way_of false Several = []
+abbrev pub holder_path : Bool → Holder → List ℕ
+holder_path true x = []
+holder_path false Nobody = []
+holder_path false (One path) = path.items
+holder_path false Several = []
 
 abbrev pub way_in : Holders → ℕ → List ℕ
-way_in h n = way_of h.shared (holder_in h n)
+way_in h n = holder_path h.shared (holder_in h n)

@@ -16,11 +16,11 @@ abbrev pub HasItsPorts : Spec → Ports → Type 0
 HasItsPorts spec below = length (row_of below) ≡ hub_ports spec.hub
 
 -- besides, nothing is attached at an empty port, and at another the speed of its device, which is as the rules say and has its ports
-unfoldable pub IsSane : Ports → Type 0
-IsSane ended = ⊤
-IsSane (vacant b k) = IsSanePort b × (b.attached ≡ nothing) × IsSane k
-IsSane (taken b s a k) = IsSanePort b × (b.attached ≡ speed_of s.spec.low) × IsSane a × IsSane k × IsSpec s.spec × HasItsPorts s.spec a
+unfoldable pub Consistent : Ports → Type 0
+Consistent ended = ⊤
+Consistent (vacant b k) = IsSanePort b × (b.attached ≡ nothing) × Consistent k
+Consistent (taken b s a k) = IsSanePort b × (b.attached ≡ speed_of s.spec.low) × Consistent a × Consistent k × IsSpec s.spec × HasItsPorts s.spec a
 
-unfoldable pub IsSanePlace : Place → Type 0
-IsSanePlace (empty b) = IsSanePort b × (b.attached ≡ nothing)
-IsSanePlace (full b s a) = IsSanePort b × (b.attached ≡ speed_of s.spec.low) × IsSane a × IsSpec s.spec × HasItsPorts s.spec a
+unfoldable pub ConsistentPlace : Place → Type 0
+ConsistentPlace (empty b) = IsSanePort b × (b.attached ≡ nothing)
+ConsistentPlace (full b s a) = IsSanePort b × (b.attached ≡ speed_of s.spec.low) × Consistent a × IsSpec s.spec × HasItsPorts s.spec a

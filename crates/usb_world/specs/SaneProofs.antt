@@ -10,7 +10,7 @@ use Rattle.usb_device.specs.Spec.{Hub, IsHub, Spec, IsSpec}
 use Rattle.usb_port.specs.PortState.{PortState, Attached, nothing, full, low}
 use Rattle.usb_device.specs.Tree.{Ports, ended, vacant, taken, row_of}
 use Rattle.usb_world.specs.PluggedDevices.{hub_ports}
-use Rattle.usb_world.specs.SanePorts.{IsSanePort, IsSane}
+use Rattle.usb_world.specs.SanePorts.{IsSanePort, Consistent}
 
 -- what is attached, as a number and back
 attached_number : Attached → ℕ
@@ -62,8 +62,8 @@ IsSpec-prop s x y =
       halt = each_prop (λ packets. most 1 packets) s.halt_after x.halt y.halt i;
     }
 
-pub IsSane-prop : (k : Ports) → IsProp (IsSane k)
-unfolding IsSane
-IsSane-prop ended x y = λ i. tt
-IsSane-prop (vacant b k) x y = λ i. (IsSanePort-prop b x.0 y.0 i, Attached-set _ _ x.1 y.1 i, IsSane-prop k x.2 y.2 i)
-IsSane-prop (taken b s a k) x y = λ i. (IsSanePort-prop b x.0 y.0 i, Attached-set _ _ x.1 y.1 i, IsSane-prop a x.2 y.2 i, IsSane-prop k x.3 y.3 i, IsSpec-prop s.spec x.4 y.4 i, ℕ_set (length (row_of a)) (hub_ports s.spec.hub) x.5 y.5 i)
+pub Consistent-prop : (k : Ports) → IsProp (Consistent k)
+unfolding Consistent
+Consistent-prop ended x y = λ i. tt
+Consistent-prop (vacant b k) x y = λ i. (IsSanePort-prop b x.0 y.0 i, Attached-set _ _ x.1 y.1 i, Consistent-prop k x.2 y.2 i)
+Consistent-prop (taken b s a k) x y = λ i. (IsSanePort-prop b x.0 y.0 i, Attached-set _ _ x.1 y.1 i, Consistent-prop a x.2 y.2 i, Consistent-prop k x.3 y.3 i, IsSpec-prop s.spec x.4 y.4 i, ℕ_set (length (row_of a)) (hub_ports s.spec.hub) x.5 y.5 i)

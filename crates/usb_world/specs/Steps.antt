@@ -5,7 +5,7 @@ use Rattle.usb_device.specs.declared.delivery.Sent.{Sent}
 use Rattle.usb_device.specs.Spec.{Spec, IsSpec}
 use Rattle.usb_port.specs.Calls.{set_call, clear_call, port_by, is_clearing}
 use Rattle.usb_device.specs.Tree.{Ports, new_ports, called, replaced, changed}
-use Rattle.usb_device.specs.Delivery.{held, is_twice, all_forgotten}
+use Rattle.usb_device.specs.Delivery.{held_addresses, repeats, all_forgotten}
 use Rattle.usb_device.specs.StoppedPackets.{Stopped}
 use Rattle.usb_world.specs.declared.damage.Damage.{Damage}
 use Rattle.usb_world.specs.declared.event.Ask.{Ask as Asked}
@@ -22,10 +22,10 @@ use Rattle.usb_world.specs.Wire.{damage_of}
 use Rattle.usb_world.specs.Exchange.{heard_in, mark_in, lost_in, cleared_in, exchange_in, ports_in, outcome_of, token_out, payload_out}
 use Rattle.usb_world.specs.Losses.{no_losses, counted, after_clearing}
 use Rattle.usb_world.specs.Paths.{is_way}
-use Rattle.usb_world.specs.SanePorts.{IsSane}
+use Rattle.usb_world.specs.SanePorts.{Consistent}
 use Rattle.usb_world.specs.AttemptPackets.{IsSettled, after_sent}
 use Rattle.usb_world.specs.PlanData.{PlanData}
-use Rattle.usb_world.specs.World.{World, root_row, root_port_at, to_come, Spends, Failed}
+use Rattle.usb_world.specs.World.{World, root_row, root_port_at, to_come, AttemptsWithin, Failed}
 
 -- Events
 
@@ -35,10 +35,10 @@ with_plugged None path k = k
 with_plugged (Some spec) path k = changed (replaced (Some spec)) k path
 
 -- what an action does to what is plugged
-abbrev pub happened : Action → List Spec → Ports → Ports
-happened (Change (Plug path device)) devices k = with_plugged (slice_get devices device) path k
-happened (Change (Unplug path)) devices k = changed (replaced None) k path
-happened (Ask ask) devices k = k
+abbrev pub after_change : Action → List Spec → Ports → Ports
+after_change (Change (Plug path device)) devices k = with_plugged (slice_get devices device) path k
+after_change (Change (Unplug path)) devices k = changed (replaced None) k path
+after_change (Ask ask) devices k = k
 
 -- whether a path is another's, or that of a port on its way
 abbrev pub way_of : List ℕ → List ℕ → Bool
@@ -62,28 +62,28 @@ waits (Change change) = false
 waits (Ask ask) = true
 
 -- the event comes, and these are the events after it
-unfoldable pub took : Event → List Event → World → World
-took e events w = record w { roots = happened e.action w.devices w.roots; left = events; taken = w.taken + 1; attempts_then = w.attempts }
+unfoldable pub after_event : Event → List Event → World → World
+after_event e events w = record w { roots = after_change e.action w.devices w.roots; left = events; taken = w.taken + 1; attempts_then = w.attempts }
 
-abbrev pub took_first : List Event → World → World
-took_first [] w = w
-took_first (e ∷ events) w = took e events w
+abbrev pub after_first_event : List Event → World → World
+after_first_event [] w = w
+after_first_event (e ∷ events) w = after_event e events w
 
 abbrev pub is_due : Event → World → Bool
 is_due e w = not (waits e.action) && nat_le e.after (w.attempts - w.attempts_then)
 
 -- the events that are due come, one after the other
-unfoldable pub due_from : List Event → World → World
-due_from [] w = w
-due_from (e ∷ events) w = if is_due e w then due_from events (took e events w) else w
+unfoldable pub after_due_events : List Event → World → World
+after_due_events [] w = w
+after_due_events (e ∷ events) w = if is_due e w then after_due_events events (after_event e events w) else w
 
 -- the next event is due
 unfoldable pub has_due : World → Bool
 has_due w = elim w.left [ [] ↦ false | e ∷ events ↦ is_due e w ]
 
 -- the world in which an attempt is made
-unfoldable pub ready : World → World
-ready w = due_from w.left w
+unfoldable pub at_attempt : World → World
+at_attempt w = after_due_events w.left w
 
 -- Attempts
 
@@ -101,7 +101,7 @@ with_attempt a w = record w {
   roots = ports_in a (damage_in w) w.roots;
   attempts = w.attempts + 1;
   losses = counted (lost_in a (damage_in w) w.roots) (after_clearing (cleared_in a (damage_in w) w.roots) w.losses);
-  shared = w.shared || is_twice (held w.roots);
+  shared = w.shared || repeats (held_addresses w.roots);
 }
 
 abbrev pub outcome_made : Attempt → Exchange → Outcome
@@ -109,7 +109,7 @@ outcome_made a x = outcome_of x.answer x.answer_mark a.max
 
 -- what the host gets
 unfoldable pub outcome_in : Attempt → World → Outcome
-outcome_in a w = outcome_of (heard_in a (damage_in (ready w)) (ready w).roots) (mark_in a (damage_in (ready w)) (ready w).roots) a.max
+outcome_in a w = outcome_of (heard_in a (damage_in (at_attempt w)) (at_attempt w).roots) (mark_in a (damage_in (at_attempt w)) (at_attempt w).roots) a.max
 
 -- Steps
 
@@ -121,11 +121,11 @@ pub data Step : Type 0 where
 
 abbrev pub attempted : Attempt → Option BusFault → World → World
 attempted a (Some f) w = w
-attempted a None w = if w.attempts == w.limit then record w { fault = Some LimitReached } else with_attempt a (ready w)
+attempted a None w = if w.attempts == w.limit then record w { fault = Some LimitReached } else with_attempt a (at_attempt w)
 
 abbrev pub event_taken : Option BusFault → World → World
 event_taken (Some f) w = w
-event_taken None w = took_first w.left w
+event_taken None w = after_first_event w.left w
 
 unfoldable pub after : Step → World → World
 after (attempt a) w = attempted a w.fault w
@@ -136,7 +136,7 @@ after (report line) w = w
 -- events that are due came, one after the other, up to some of them
 pub data Coming : World → World → Type 0 where
   nothing_yet : (w : World) → Coming w w
-  next_came : {w v : World} → Coming w v → has_due v ≡ true → Coming w (took_first v.left v)
+  next_came : {w v : World} → Coming w v → has_due v ≡ true → Coming w (after_first_event v.left v)
 
 -- memory was refused for the host's data on their way down the tree: some devices had them, and nothing went after them
 pub record IsCut (a : Attempt) (damage : Option Damage) (old new : Ports) : Type 0 where
@@ -150,9 +150,9 @@ pub record IsCut (a : Attempt) (damage : Option Damage) (old new : Ports) : Type
 -- that memory was refused for; or the whole step, and only its line was not written
 pub data Left (a : Attempt) (old : World) (f : BusFault) (new : World) : Type 0 where
   at_event : Coming old new → Left a old f new
-  at_packet : (k : Ports) → f ≡ Memory → IsCut a (damage_in (ready old)) (ready old).roots k
-      → new ≡ record (ready old) { roots = k; shared = (ready old).shared || is_twice (held (ready old).roots) } → Left a old f new
-  at_line : f ≡ TraceFailed → new ≡ with_attempt a (ready old) → Left a old f new
+  at_packet : (k : Ports) → f ≡ Memory → IsCut a (damage_in (at_attempt old)) (at_attempt old).roots k
+      → new ≡ record (at_attempt old) { roots = k; shared = (at_attempt old).shared || repeats (held_addresses (at_attempt old).roots) } → Left a old f new
+  at_line : f ≡ TraceFailed → new ≡ with_attempt a (at_attempt old) → Left a old f new
 
 -- an attempt within the limit that the bus gave up
 pub record GaveUp (a : Attempt) (old : World) (f : BusFault) (new : World) : Type 0 where
@@ -176,9 +176,9 @@ abbrev pub AnyStep : Step → World → Type 0
 AnyStep s w = ⊤
 
 -- between two steps no device remembers a packet, ports are sane, and the plan's devices are as the rules say
-pub record IsBetween (w : World) : Type 0 where
+pub record WorldInvariant (w : World) : Type 0 where
   pub settled : IsSettled w.roots
-  pub sane : IsSane w.roots
+  pub sane : Consistent w.roots
   pub ruled : All IsSpec w.devices
 
 -- a root call is its step, and one row of the port table at one root port (11.24.2)
@@ -230,7 +230,7 @@ EventEnds old (Err fault) new = Failed fault new
 
 -- an event step: no attempt is made
 pub record TookEvent (old : World) (result : Result (Option (Option Asked)) BusFault) (new : World) : Type 0 where
-  pub spends : Spends 0 old new
+  pub spends : AttemptsWithin 0 old new
   pub ends : EventEnds old result new
   pub again : (fault : BusFault) → old.fault ≡ Some fault → (result ≡ Err fault) × (new ≡ old)
 

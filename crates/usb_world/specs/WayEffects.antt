@@ -53,31 +53,31 @@ reset_if true s = reset_state s
 reset_if false s = s
 
 -- whether a call at a port leaves pending what is at this port, or at a path below it
-abbrev pub spares : PortCall → List ℕ → Bool
-spares ClearConnectionChange p = false
-spares ClearPower p = false
-spares SetReset [] = true
-spares SetReset (n ∷ p) = false
-spares c p = true
+abbrev pub keeps_pending : PortCall → List ℕ → Bool
+keeps_pending ClearConnectionChange p = false
+keeps_pending ClearPower p = false
+keeps_pending SetReset [] = true
+keeps_pending SetReset (n ∷ p) = false
+keeps_pending c p = true
 
-abbrev pub call_spares : PortCall → ℕ → ℕ → List ℕ → Bool
-call_spares c i j p = not (same_number i j) || spares c p
+abbrev pub call_keeps_pending : PortCall → ℕ → ℕ → List ℕ → Bool
+call_keeps_pending c i j p = not (same_number i j) || keeps_pending c p
 
-abbrev pub effect_spares : Effect → ℕ → List ℕ → Bool
-effect_spares Leaves j p = true
-effect_spares (Calls c i) j p = call_spares c i j p
-effect_spares PortsOff j p = false
+abbrev pub effect_keeps_pending : Effect → ℕ → List ℕ → Bool
+effect_keeps_pending Leaves j p = true
+effect_keeps_pending (Calls c i) j p = call_keeps_pending c i j p
+effect_keeps_pending PortsOff j p = false
 
 -- whether each device on the way to a path leaves pending what is pending there
-unfoldable pub packet_spares : Sent → Bool → Ports → ℕ → List ℕ → Bool
-packet_spares q deep ended i p = true
-packet_spares q deep (vacant b k) zero p = true
-packet_spares q deep (vacant b k) (suc i) p = packet_spares q deep k i p
-packet_spares q deep (taken b s a k) zero [] = true
-packet_spares q deep (taken b s a k) zero (zero ∷ p) = true
-packet_spares q deep (taken b s a k) zero (suc j ∷ p) =
-    not b.enable || (effect_spares (effect_of q deep s) j p && packet_spares q true a j p)
-packet_spares q deep (taken b s a k) (suc i) p = packet_spares q deep k i p
+unfoldable pub packet_keeps_pending : Sent → Bool → Ports → ℕ → List ℕ → Bool
+packet_keeps_pending q deep ended i p = true
+packet_keeps_pending q deep (vacant b k) zero p = true
+packet_keeps_pending q deep (vacant b k) (suc i) p = packet_keeps_pending q deep k i p
+packet_keeps_pending q deep (taken b s a k) zero [] = true
+packet_keeps_pending q deep (taken b s a k) zero (zero ∷ p) = true
+packet_keeps_pending q deep (taken b s a k) zero (suc j ∷ p) =
+    not b.enable || (effect_keeps_pending (effect_of q deep s) j p && packet_keeps_pending q true a j p)
+packet_keeps_pending q deep (taken b s a k) (suc i) p = packet_keeps_pending q deep k i p
 
 -- whether no device on the way asks anything of the port at a path, or of one above it
 abbrev pub leaves_port : Effect → ℕ → Bool

@@ -69,7 +69,7 @@ changes [] = 0
 changes (p ∷ ps) = change_of p + changes ps
 
 -- at most n attempts were made, within the limit; each event that was taken set at most one change bit
-pub record Spends (n : ℕ) (old new : World) : Type 0 where
+pub record AttemptsWithin (n : ℕ) (old new : World) : Type 0 where
   pub limit : new.limit ≡ old.limit
   pub roots : roots_of new ≡ roots_of old
   pub later : old.attempts ≤ new.attempts
@@ -106,7 +106,7 @@ AnswerFits max (Ok outcome) = FitsMaximum max outcome
 AnswerFits max (Err fault) = ⊤
 
 pub record Attempted (a : Attempt) (old : World) (result : Result Outcome BusFault) (new : World) : Type 0 where
-  pub spends : Spends 1 old new
+  pub spends : AttemptsWithin 1 old new
   pub ends : AttemptEnds old result new
   pub fits : AnswerFits a.max result
   pub again : (fault : BusFault) → old.fault ≡ Some fault → (result ≡ Err fault) × (new ≡ old)

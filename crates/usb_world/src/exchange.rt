@@ -372,7 +372,7 @@ fn send(
 ) -> Result<(), AllocError>
     requires { AloneAt sent.now roots.old path.now }
     ensures plugged { StaysPlugged roots.old roots.new }
-    ensures went { OnOk result (PacketWent sent.now roots.old roots.new heard.old heard.new) }
+    ensures steps { OnOk result (PacketWent sent.now roots.old roots.new heard.old heard.new) }
     ensures alone { AloneAt None roots.new path.now }
     ensures stopped { OnErr result (IsStopped sent.now roots.old roots.new) }
 {

@@ -4,26 +4,26 @@
 ghost use Rattle.std.specs.Prelude.{◌≡◌, ◌<◌, ◌≤◌, ℕ, suc, false, true, List, [], ◌∷◌, ◌++◌, length, take, Option, Some, is_some, option_map};
 ghost use Rattle.usb_packet.specs.declared.Toggle.{Toggle};
 ghost use Rattle.usb_port.specs.PortState.{PortState};
-ghost use Rattle.usb_device.specs.Delivery.{held, is_twice};
+ghost use Rattle.usb_device.specs.Delivery.{held_addresses, repeats};
 ghost use Rattle.usb_device.specs.Rows.{State};
 ghost use Rattle.usb_device.specs.Spec.{Spec};
-ghost use Rattle.usb_device.specs.Tree.{Ports, full, path_to, place_on, reach, reach_on, row_of, state_on, Spot};
+ghost use Rattle.usb_device.specs.Tree.{Ports, full, path_to, place_on, reach, reach_on, row_of, state_on, Location};
 ghost use Rattle.usb_device.specs.View.{port_there, state_there};
 ghost use Rattle.usb_world.specs.declared.damage.Damage.{Damage};
 ghost use Rattle.usb_world.specs.declared.exchange.ExchangeAnswer.TheVariants.{Collision};
 ghost use Rattle.usb_world.specs.declared.types.Attempt.{Attempt};
 ghost use Rattle.usb_world.specs.Addresses.{GivesNoAddress};
-ghost use Rattle.usb_world.specs.Courses.{Injective, UndisturbedOrPends, NoReset, Own, Reached, Spares, Undisturbed, resets};
+ghost use Rattle.usb_world.specs.Courses.{Injective, UndisturbedOrPends, NoReset, HoldsMapped, Reached, KeepsPendingAt, Undisturbed, resets};
 ghost use Rattle.usb_world.specs.Devices.{DidIn, DidOut, DidSetup, EachWas, Was};
 ghost use Rattle.usb_world.specs.Exchange.{heard_in, payload_out, token_out};
-ghost use Rattle.usb_world.specs.Paths.{is_way, live, pend};
+ghost use Rattle.usb_world.specs.Paths.{is_way, has_power, pending};
 ghost use Rattle.usb_world.specs.OneHolder.{IsIn, IsMade, IsOut, IsSetup};
 ghost use Rattle.usb_world.specs.AttemptPackets.{IsSettled, after_sent, answers_to};
 ghost use Rattle.usb_world.specs.PlanData.{IsPlan, PlanData};
 ghost use Rattle.usb_world.specs.PluggedDevices.{index_at, device_indexed, hub_ports, plugged_by};
 ghost use Rattle.usb_world.specs.PlanCourses.{AtPorts, FollowsPlan, spec_of};
-ghost use Rattle.usb_world.specs.RestingPorts.{AsksNothingOf, RestsOrPends, StandsOrPends};
-ghost use Rattle.usb_world.specs.Steps.{AnyStep, Course, IsBetween, Step, after, attempt, made_in, opening, ready};
+ghost use Rattle.usb_world.specs.RestingPorts.{LeavesPortAlone, UnchangedOrPending, SameDeviceOrPending};
+ghost use Rattle.usb_world.specs.Steps.{AnyStep, Course, WorldInvariant, Step, after, attempt, made_in, opening, at_attempt};
 ghost use Rattle.usb_world.specs.World.{IsAttempt, World};
 
 /// A device becomes reachable in one way only: by PORT_RESET at its own port, which leaves it at address 0, without
@@ -41,25 +41,27 @@ pub fn reachable_is_the_same()
 
 /// A pending change stays, until a call clears it.
 pub fn pending_stays()
-    ensures { (p : List ℕ) (w v : World) → Course (Spares p) w v → pend w.roots p ≡ true
-        → pend v.roots p ≡ true }
+    ensures { (p : List ℕ) (w v : World) → Course (KeepsPendingAt p) w v → pending w.roots p ≡ true
+        → pending v.roots p ≡ true }
 {}
 
 /// No event comes on a way with power but that it is pending.
 pub fn events_are_pending()
-    ensures { (p : List ℕ) (w v : World) → Course (Spares p) w v → live w.roots p ≡ true
+    ensures { (p : List ℕ) (w v : World) → Course (KeepsPendingAt p) w v
+        → has_power w.roots p ≡ true
         → UndisturbedOrPends w v p }
 {}
 
 /// A port that is powered on its whole way, and of which nothing is asked: it stands as it stood, with the same
 /// device or none, reached as it was; or a change of connection is pending on its way.
 pub fn a_port_rests_or_is_pending()
-    ensures rests { (p : List ℕ) (w v : World) → Course (AsksNothingOf p) w v
-        → live w.roots p ≡ true → RestsOrPends w v p }
+    ensures rests { (p : List ℕ) (w v : World) → Course (LeavesPortAlone p) w v
+        → has_power w.roots p ≡ true → UnchangedOrPending w v p }
     // Where something may be asked of the port itself, but nothing that is pending is cleared: the same device
     // stands there, or none.
-    ensures itself { (p : List ℕ) (w v : World) → Course (Spares p) w v → live w.roots p ≡ true
-        → StandsOrPends w v p }
+    ensures itself { (p : List ℕ) (w v : World) → Course (KeepsPendingAt p) w v
+        → has_power w.roots p ≡ true
+        → SameDeviceOrPending w v p }
 {}
 
 /// An attempt, where no address is held twice: each device that is reachable after it was reachable before, and did
@@ -73,7 +75,7 @@ pub fn what_an_attempt_does_to_a_device()
         → EachWas (DidOut a t bytes w) w (after (attempt a) w) }
     ensures setup { (a : Attempt) (w : World) (bytes : List ℕ) → IsMade a w → IsSetup a bytes
         → (after (attempt a) w).shared ≡ false
-        → (x : Spot) (s : State) → resets (attempt a) w (path_to x) ≡ false
+        → (x : Location) (s : State) → resets (attempt a) w (path_to x) ≡ false
         → reach_on (after (attempt a) w).roots x ≡ true
         → state_on (after (attempt a) w).roots x ≡ Some s → Was (DidSetup a bytes w) w x s }
 {}
@@ -82,21 +84,21 @@ pub fn what_an_attempt_does_to_a_device()
 /// nor give one an address, whatever is lost and whatever is plugged.
 pub fn control_courses_keep_addresses()
     ensures { (f : List ℕ → Option ℕ) → Injective f → (w v : World) → Course GivesNoAddress w v
-        → IsSettled w.roots → Own f w → w.shared ≡ false
-        → Own f v × (v.shared ≡ false) × IsSettled v.roots }
+        → IsSettled w.roots → HoldsMapped f w → w.shared ≡ false
+        → HoldsMapped f v × (v.shared ≡ false) × IsSettled v.roots }
 {}
 
 /// Where no address is held twice, at most one device answers an attempt, whatever is damaged; so no line of the
 /// trace tells of a collision.
 pub fn one_device_at_most_answers()
     ensures answers { (a : Attempt) (d : Option Damage) (k : Ports) → IsAttempt a → IsSettled k
-        → is_twice (held k) ≡ false
+        → repeats (held_addresses k) ≡ false
         → length (answers_to (token_out a d) k
         ++ answers_to (payload_out a d) (after_sent (token_out a d) k)) ≤ 1 }
     ensures heard { (a : Attempt) (d : Option Damage) (k : Ports) → IsAttempt a → IsSettled k
-        → is_twice (held k) ≡ false → heard_in a d k ≡ Collision → ⊥ }
+        → repeats (held_addresses k) ≡ false → heard_in a d k ≡ Collision → ⊥ }
     ensures line { (a : Attempt) (w : World) → IsAttempt a → IsMade a w
-        → (after (attempt a) w).shared ≡ false → (made_in a (ready w)).answer ≡ Collision → ⊥ }
+        → (after (attempt a) w).shared ≡ false → (made_in a (at_attempt w)).answer ≡ Collision → ⊥ }
 {}
 
 /// What is plugged where, and each device's description, is what the events that came have left (7.1.7.3), whatever
@@ -127,13 +129,13 @@ pub fn undisturbed_keeps_what_is_plugged()
 /// Ports are sane in a plan's world before anything came, and every step keeps them so; and in sane ports each device
 /// that is plugged has as many ports as its description says.
 pub fn devices_have_their_ports()
-    ensures opening { (plan : PlanData) → IsPlan plan → IsBetween (opening plan) }
-    ensures kept { (w v : World) → Course AnyStep w v → IsBetween w → IsBetween v }
-    ensures count { (w : World) → IsBetween w
-        → (x : Spot) (b : PortState) (s : State) (below : Ports)
+    ensures opening { (plan : PlanData) → IsPlan plan → WorldInvariant (opening plan) }
+    ensures kept { (w v : World) → Course AnyStep w v → WorldInvariant w → WorldInvariant v }
+    ensures count { (w : World) → WorldInvariant w
+        → (x : Location) (b : PortState) (s : State) (below : Ports)
         → place_on w.roots x ≡ Some (full b s below)
         → length (row_of below) ≡ hub_ports s.spec.hub }
-    ensures stands { (w : World) → IsBetween w → (x : Spot) (t : Spec) (m : ℕ)
+    ensures stands { (w : World) → WorldInvariant w → (x : Location) (t : Spec) (m : ℕ)
         → option_map spec_of (state_on w.roots x) ≡ Some t → m < hub_ports t.hub
         → is_some (port_there w.roots (path_to x ++ (suc m ∷ []))) ≡ true }
 {}

@@ -9,7 +9,7 @@
 //! `usb_world/src/laws.rt` that do nothing.
 //!
 //! - A `Plan` keeps its rules, and each event fits the tree before it. Every device that is plugged in a course of it
-//!   is as the rules say (`IsSpec` in `IsSane`).
+//!   is as the rules say (`IsSpec` in `Consistent`).
 //! - What is plugged where is what the events that came left (`plugged_is_what_the_events_left`). Where no event named
 //!   a port or one on its way, the same devices stand there and on the way (`undisturbed_keeps_what_is_plugged`). Where
 //!   ports are sane each device has as many ports as its description says; they are so in a plan's world before
@@ -36,7 +36,7 @@
 //!   not lead there (`WayChanges.changed_apart`). What is so of every port stays so (`SanePorts`), and so does what is
 //!   so between two steps (`StepInvariants.between_opening`, `between_after`, `between_course`). A relation of worlds
 //!   that holds over each part of a step holds over steps and courses (`LiftedSteps.over_step`, `over_course`). Two
-//!   devices at one address are found (`Holders.one_path`, `twice_two`). Which paths lead to which: `Ways`.
+//!   devices at one address are found (`Holders.is_twice-one_path`, `twice_two`). Which paths lead to which: `Ways`.
 //! - Lemmas of an attempt where one reachable device holds the address, which is an exchange with that device alone:
 //!   `OneHolderAttempts.setup_in`, `out_in`, `in_in`, `silent_in`, `others_in`, its ports
 //!   `OneHolderPorts.setup_place_in`, `out_place_in`, `in_place_in`, `silent_place_in`, that it stays reachable

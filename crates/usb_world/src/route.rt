@@ -31,7 +31,7 @@ use usb_request::request_type::{DEVICE_OUT, PORT_OUT};
 /// # Errors
 ///
 /// Memory is refused for the host's data.
-#[tactic(auto, using(crate::proofs::Silence::stays))]
+#[tactic(auto, using(crate::proofs::Silence::stays_plugged_refl))]
 pub fn make_exchange_by(
     roots: &mut Ports,
     holders: &mut Holders,

@@ -52,7 +52,7 @@ impl<T: Trace> Bus for SimBus<T> {
         status_of(&self.roots, port)
     }
 
-    #[tactic(auto, using(usb_world::proofs::Interface::set_ends, usb_world::proofs::Interface::set_none))]
+    #[tactic(auto, using(usb_world::proofs::Interface::set_call_root, usb_world::proofs::Interface::set_none))]
     fn root_set(&mut self, port: u8, feature: u16) {
         if let Some(call) = PortCall::of_set(feature) {
             self.call_root(port, call);
@@ -87,7 +87,7 @@ impl<T: Trace> SimBus<T> {
     }
 
     /// The events that are due, and then an attempt and its line.
-    #[tactic(auto, unfolding(usb_world::specs::Steps::ready, usb_world::specs::Steps::with_attempt, usb_world::specs::Steps::outcome_in, crate::specs::Lines::step_lines))]
+    #[tactic(auto, unfolding(usb_world::specs::Steps::at_attempt, usb_world::specs::Steps::with_attempt, usb_world::specs::Steps::outcome_in, crate::specs::Lines::step_lines))]
     fn make_attempt(&mut self, attempt: &Attempt) -> Result<Outcome, BusFault>
         requires attempt { IsAttempt attempt.now }
         requires sound { (world_of self.old).fault ≡ None }

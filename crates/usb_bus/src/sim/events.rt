@@ -3,7 +3,7 @@ ghost use Rattle.std.specs.Prelude.{◌≡◌, ◌+◌, ◌<◌, ◌≤◌, [], 
 ghost use Rattle.usb_device.specs.HolderIndex.{IsIndexOf};
 ghost use Rattle.usb_device.specs.Tree.{row_of, changed, replaced};
 ghost use Rattle.usb_world.specs.World.{changes, to_come};
-ghost use Rattle.usb_world.specs.Steps.{after, event, happened, has_due};
+ghost use Rattle.usb_world.specs.Steps.{after, event, after_change, has_due};
 ghost use Rattle.usb_world.specs.PlanData.{can_be_done};
 ghost use Rattle.usb_bus.specs.Lines.{event_line};
 ghost use Rattle.usb_bus.specs.Trace.{plug_line, unplug_line};
@@ -119,7 +119,7 @@ fn carry_out(
 ) -> Result<(), AllocError>
     requires can { can_be_done (length devices.now) action.now ≡ true }
     requires index { IsIndexOf holders.old roots.old }
-    ensures ok { OnOk result (roots.new ≡ happened action.now devices.now roots.old) }
+    ensures ok { OnOk result (roots.new ≡ after_change action.now devices.now roots.old) }
     ensures err { OnErr result (roots.new ≡ roots.old) }
     ensures index { IsIndexOf holders.new roots.new }
 {
@@ -171,7 +171,7 @@ fn unplug(roots: &mut Ports, holders: &mut Holders, path: &PortPath)
 }
 
 /// The line of an event.
-#[tactic(auto, unfolding(crate::specs::Lines::event_line), using(crate::proofs::Fronts::puts_none))]
+#[tactic(auto, unfolding(crate::specs::Lines::event_line), using(crate::proofs::Fronts::puts_no_text))]
 fn put_action<T: Trace>(
     tracer: &mut T,
     names: &[ShownName],

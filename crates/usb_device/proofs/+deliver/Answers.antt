@@ -3,13 +3,13 @@ use Rattle.usb_device.specs.declared.ports.Place.{Place as Kept}
 use Rattle.usb_device.specs.Tree.{Plugged, before}
 use Rattle.usb_device.specs.Places.{ports_kept, stood, standing}
 use Rattle.usb_device.specs.StoppedPackets.{Stopped, StoppedDevice}
-use Rattle.usb_device.proofs.StoppedPackets.{on_err, stopped_first, stopped_further, stopped_at, stopped_place}
+use Rattle.usb_device.proofs.StoppedPackets.{stopped_on_err, stopped_first, stopped_further, stopped_at, stopped_place}
 use Rattle.usb_device.proofs.+deliver.Goals as goal
 
 pub delivery::deliver_all-returns-in_err-deliver-in-Some-clause-stopped : goal.delivery::deliver_all-returns-in_err-deliver-in-Some-clause-stopped
 delivery::deliver_all-returns-in_err-deliver-in-Some-clause-stopped t c =
     let P : List Kept → Type 0 = λ l. Stopped c.args.sent.now c.args.deep (ports_kept l) (before (stood c.deliver.new.self) (ports_kept c.in-Some.rest.now)) in
-    on_err c.from_residual.result (subst P (sym c.in-Some.ensures.cases.0) (stopped_first _ _ _ _ _ c.in_err-deliver-in-Some.ensures.stopped))
+    stopped_on_err c.from_residual.result (subst P (sym c.in-Some.ensures.cases.0) (stopped_first _ _ _ _ _ c.in_err-deliver-in-Some.ensures.stopped))
 
 pub delivery::deliver_all-returns-in_ok-deliver-in-Some-clause-stopped : goal.delivery::deliver_all-returns-in_ok-deliver-in-Some-clause-stopped
 delivery::deliver_all-returns-in_ok-deliver-in-Some-clause-stopped t c =

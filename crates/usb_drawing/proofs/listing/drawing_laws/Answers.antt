@@ -3,4 +3,4 @@ use Rattle.usb_drawing.proofs.OneLines as lines
 use Rattle.usb_drawing.proofs.listing.drawing_laws.Goals as goal
 
 pub returns : goal.returns
-returns c = record { count = laws.count; order = laws.order; whole = lines.whole }
+returns c = record { count = laws.drawing_lines-length; order = laws.order; whole = lines.drawing_lines-one_line }

@@ -1,10 +1,10 @@
 use Rattle.std.proofs.Common.{◌≡◌, ◌++◌, length}
-use Rattle.usb_drawing.specs.Drawings.{deepest, entry_lines}
+use Rattle.usb_drawing.specs.Drawings.{deepest, drawn_entries}
 use Rattle.usb_drawing.proofs.listing.push_entries.Given as goal
 
 -- the lines of all entries but the rest are written
 abbrev pub invariant-entries : goal.invariant-entries
-invariant-entries l = l.lines ++ entry_lines l.style (deepest l.entries) l.entries l.rest ≡ l.fn.lines ++ entry_lines l.style (deepest l.entries) l.entries l.entries
+invariant-entries l = l.lines ++ drawn_entries l.style (deepest l.entries) l.entries l.rest ≡ l.fn.lines ++ drawn_entries l.style (deepest l.entries) l.entries l.entries
 
 abbrev pub decreases-entries : goal.decreases-entries
 decreases-entries l = length l.rest

@@ -2,7 +2,7 @@ use Rattle.std.proofs.Common.{◌++◌}
 use Rattle.std.specs.Prelude.{codes}
 use Rattle.usb_entry.specs.Speed.{is_taken_low}
 use Rattle.usb_entry.specs.Text.{descriptor_line, head_line, identity_lines, name_line, speed_line}
-use Rattle.usb_entry.proofs.Pieces.{last_one, one_more}
+use Rattle.usb_entry.proofs.Pieces.{last_one, pieces_more}
 use Rattle.usb_entry.proofs.text.push_identity.Goals as goal
 
 pub returns : goal.returns
@@ -13,7 +13,7 @@ returns c =
     let name = name_line c.args.name.now in
     let head = head_line e ++ codes "[[device]]\n" in
     let speed = speed_line (is_taken_low e) in
-    let first = one_more old (head_line e) c.push_head.new.out.items (codes "[[device]]\n") c.push_text.new.out.items c.in_ok-push_head.ensures c.in_ok-push_text.ensures in
-    let second = one_more old head c.push_text.new.out.items name c.push_name.new.out.items first c.in_ok-push_name.ensures in
-    let third = one_more old (head ++ name) c.push_name.new.out.items speed c.push_speed.new.out.items second c.in_ok-push_speed.ensures in
+    let first = pieces_more old (head_line e) c.push_head.new.out.items (codes "[[device]]\n") c.push_text.new.out.items c.in_ok-push_head.ensures c.in_ok-push_text.ensures in
+    let second = pieces_more old head c.push_text.new.out.items name c.push_name.new.out.items first c.in_ok-push_name.ensures in
+    let third = pieces_more old (head ++ name) c.push_name.new.out.items speed c.push_speed.new.out.items second c.in_ok-push_speed.ensures in
     last_one c.push_descriptor.result old (head ++ name ++ speed) c.push_speed.new.out.items (descriptor_line e.device) c.push_descriptor.new.out.items third c.push_descriptor.ensures

@@ -4,15 +4,15 @@ use Rattle.std.proofs.lemmas.Grind.{common_steps}
 use Rattle.usb_enum.specs.declared.fault.EnumFault.TheVariants.{Memory}
 use Rattle.usb_enum.specs.declared.stop.Stop.TheVariants.{Fault}
 use Rattle.usb_enum.specs.Bounds.{configuration_bound}
-use Rattle.usb_enum.specs.LearnedFacts.{Learns}
+use Rattle.usb_enum.specs.LearnedFacts.{DeviceFact}
 use Rattle.usb_enum.specs.Readings.{AtMaximum, HasConfigurations}
 use Rattle.usb_enum.specs.Text.{any_has_value}
 use Rattle.usb_enum.proofs.ConfigRefusals.{reading_failed, reading_refused, repeated_refused}
 use Rattle.usb_enum.proofs.Parts.{asking, part_fails, steps_again, steps_more, steps_none, steps_times}
 use Rattle.usb_enum.proofs.Readings.{learns_none, configurations_none, configurations_learned}
 use Rattle.usb_enum.proofs.Refusals.{handed_match}
-use Rattle.usb_enum.proofs.TextLengths.{texts_ended, texts_failed, texts_more, texts_none}
-use Rattle.usb_enum.proofs.Values.{one_more}
+use Rattle.usb_enum.proofs.TextLengths.{texts_ended, texts_failed, texts_read_more, texts_none}
+use Rattle.usb_enum.proofs.Values.{values_differ-push}
 use Rattle.usb_enum.specs.Reasons.{TextRead, none_yet, one_more as one_more_text, repeated}
 use Rattle.usb_enum.proofs.LastRequests.{leads_none, leads_went}
 use Rattle.usb_enum.proofs.Reasons.{told_after}
@@ -44,10 +44,10 @@ loop-index-preserved g c =
       steps = λ known. steps_again _ configuration_bound asking (before.steps known)
           (read known).steps;
       read = rw c.in_ok-push.ensures.ok (grind (arith, common_steps, before.read));
-      differ = rw c.in_ok-push.ensures.ok (one_more texts text before.differ differs);
+      differ = rw c.in_ok-push.ensures.ok (values_differ-push texts text before.differ differs);
       asked = λ known. rw c.in_ok-push.ensures.ok (one_more_text text (before.asked known)
           (subst IsRead (sym before.read) (read known).ends.told));
-      counted = λ known. texts_more c.args.target c.loop-index.index _ _ _ _ text
+      counted = λ known. texts_read_more c.args.target c.loop-index.index _ _ _ _ text
           (before.counted known) (read known).steps.went (c.in_ok-text.ensures.count known);
       learned = λ known. rw c.in_ok-push.ensures.ok (configurations_learned c.args.target
           c.loop-index.index _ texts text (g.B.Bus.world c.args.bus.now)
@@ -59,7 +59,7 @@ pub returns-clause-read : goal.returns-clause-read
 returns-clause-read g c known =
     let all : c.loop-index.index ≡ c.args.count = omega
     (arith, c.loop-index.auto.index-end, c.loop-index-test.false) in
-    let Learned : ℕ → Type 0 = λ n. Learns
+    let Learned : ℕ → Type 0 = λ n. DeviceFact
     (AtMaximum c.args.target (HasConfigurations n c.loop-index.texts)) c.args.target
     (g.B.Bus.world c.args.bus.now) (g.B.Bus.world c.loop-index.bus) in
     record {
@@ -126,13 +126,13 @@ returns-in_err-text-clause-few g c known =
 
 pub returns-then-has_value-clause-few : goal.returns-then-has_value-clause-few
 returns-then-has_value-clause-few g c known =
-    texts_ended c.args.target (c.loop-index.index + 1) _ _ (texts_more c.args.target
+    texts_ended c.args.target (c.loop-index.index + 1) _ _ (texts_read_more c.args.target
     c.loop-index.index _ _ _ _ c.in_ok-text.text (c.loop-index.invariant.counted known)
     (c.in_ok-text.ensures.read known).steps.went (c.in_ok-text.ensures.count known))
 
 pub returns-in_err-push-clause-few : goal.returns-in_err-push-clause-few
 returns-in_err-push-clause-few g c known =
-    texts_ended c.args.target (c.loop-index.index + 1) _ _ (texts_more c.args.target
+    texts_ended c.args.target (c.loop-index.index + 1) _ _ (texts_read_more c.args.target
     c.loop-index.index _ _ _ _ c.in_ok-text.text (c.loop-index.invariant.counted known)
     (c.in_ok-text.ensures.read known).steps.went (c.in_ok-text.ensures.count known))
 

@@ -1,8 +1,8 @@
 use Rattle.std.proofs.Common.{◌≡◌, ◌*◌, length, true}
 use Rattle.usb_enum.specs.Bounds.{configuration_bound}
 use Rattle.usb_enum.specs.Frames.{OnlyAsks}
-use Rattle.usb_enum.specs.LearnedFacts.{Learns}
-use Rattle.usb_enum.specs.Parts.{Steps}
+use Rattle.usb_enum.specs.LearnedFacts.{DeviceFact}
+use Rattle.usb_enum.specs.Parts.{KeepingSteps}
 use Rattle.usb_enum.specs.Readings.{AtMaximum, HasConfigurations}
 use Rattle.usb_enum.specs.Text.{ValuesDiffer}
 use Rattle.usb_enum.specs.Reasons.{TextsAsked}
@@ -11,7 +11,7 @@ use Rattle.usb_enum.proofs.configurations.read_configurations.Given as goal
 
 abbrev pub invariant-loop-index : goal.invariant-loop-index
 invariant-loop-index g l = record {
-  steps : g.B.Bus.modelled ≡ true → Steps OnlyAsks (l.index * configuration_bound)
+  steps : g.B.Bus.modelled ≡ true → KeepingSteps OnlyAsks (l.index * configuration_bound)
       (g.B.Bus.world l.initial.bus) (g.B.Bus.trace l.initial.bus)
       (g.B.Bus.world l.bus) (g.B.Bus.trace l.bus);
   read : length l.texts ≡ l.index;
@@ -20,6 +20,6 @@ invariant-loop-index g l = record {
       → TextsAsked l.target (g.B.Bus.world l.initial.bus) l.texts (g.B.Bus.world l.bus);
   counted : g.B.Bus.modelled ≡ true
       → TextsRead l.target l.index (g.B.Bus.world l.initial.bus) (g.B.Bus.world l.bus);
-  learned : g.B.Bus.modelled ≡ true → Learns (AtMaximum l.target (HasConfigurations l.index l.texts)) l.target
+  learned : g.B.Bus.modelled ≡ true → DeviceFact (AtMaximum l.target (HasConfigurations l.index l.texts)) l.target
       (g.B.Bus.world l.initial.bus) (g.B.Bus.world l.bus);
 }

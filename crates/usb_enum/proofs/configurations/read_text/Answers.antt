@@ -15,7 +15,7 @@ use Rattle.usb_enum.proofs.ToldFailures.{handed_on}
 use Rattle.usb_enum.specs.declared.cause.Cause.TheVariants.{Stalled}
 use Rattle.usb_enum.specs.declared.cause.Request.TheVariants.{Config}
 use Rattle.usb_enum.proofs.LastRequests.{leads_went}
-use Rattle.usb_enum.proofs.Reasons.{read_told, reading_after, told_after, was_read}
+use Rattle.usb_enum.proofs.Reasons.{read_stop_told, reading_after, told_after, was_read}
 use Rattle.usb_enum.proofs.configurations.read_text.Goals as goal
 
 pub returns-in_err-total-clause-read : goal.returns-in_err-total-clause-read
@@ -44,7 +44,7 @@ returns-in_err-bytes-clause-read g c known =
     (steps_then asking head.steps text (omega (arith, c.in_ok-total.ensures.fits.1)))
     (record {
       told = told_after stop t _ _ _ (leads_went head.steps.went)
-          (read_told Config stop (index, (total, refl)) failed asked);
+          (read_stop_told Config stop (index, (total, refl)) failed asked);
       so = explains_on (AtMaximum t (HasTotal index total))
           (Refuses t (λ spec. config_fault spec index) stop)
           (Refuses t (λ spec. config_fault spec index) stop) t _ _ old mid new (λ spec a b. b)
@@ -117,7 +117,7 @@ pub returns-in_err-bytes-clause-count : goal.returns-in_err-bytes-clause-count
 returns-in_err-bytes-clause-count g c known =
     let head = c.in_ok-total.ensures.read known in
     text_unread c.args.target c.args.index c.in_ok-total.total _ _ _ c.requires.max head.steps.went
-    (c.get_config.ensures.went known) head.ends.so head.ends.told
+    (c.get_config.ensures.steps known) head.ends.so head.ends.told
     c.from_residual-in_err-bytes.result c.in_err-bytes.field-0.0
     c.from_residual-in_err-bytes.ensures.1
 
@@ -125,7 +125,7 @@ pub returns-in-None-clause-count : goal.returns-in-None-clause-count
 returns-in-None-clause-count g c known =
     let head = c.in_ok-total.ensures.read known in
     text_malformed c.args.target c.args.index c.in_ok-total.total _ _ _ c.requires.max
-    head.steps.went (c.get_config.ensures.went known) head.ends.so head.ends.told _
+    head.steps.went (c.get_config.ensures.steps known) head.ends.so head.ends.told _
 
 pub returns-in-Some-clause-count : goal.returns-in-Some-clause-count
 returns-in-Some-clause-count g c known =

@@ -11,7 +11,7 @@ use Rattle.usb_enum.proofs.Refusals.{handed_match}
 use Rattle.usb_enum.proofs.TextLengths.{config_there}
 use Rattle.usb_enum.specs.declared.cause.Cause.TheVariants.{Stalled}
 use Rattle.usb_enum.specs.declared.cause.Request.TheVariants.{Config}
-use Rattle.usb_enum.proofs.Reasons.{read_told, was_read}
+use Rattle.usb_enum.proofs.Reasons.{read_stop_told, was_read}
 use Rattle.usb_enum.proofs.configurations.total_length.Goals as goal
 
 pub returns-in-Ok-clause-read : goal.returns-in-Ok-clause-read
@@ -47,7 +47,7 @@ returns-in_err-head-clause-read g c known =
     part_fails c.from_residual.result stop c.from_residual.ensures.1 (steps_asked
     (config_given c.args.index) 9 c.requires.max (answer.went known) asked what
     (answer.keeps known)) (record {
-      told = read_told Config stop (c.args.index, (9, refl)) failed asked;
+      told = read_stop_told Config stop (c.args.index, (9, refl)) failed asked;
       so = config_refused c.args.target c.args.index 9 c.get_config.result stop old new failed
           c.requires.max what (answer.why known);
     })

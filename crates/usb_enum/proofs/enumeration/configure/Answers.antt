@@ -7,7 +7,7 @@ use Rattle.std.proofs.lemmas.List.{get_or_read}
 use Rattle.usb_descriptor.specs.Config.{configuration_value}
 use Rattle.usb_enum.specs.declared.fault.EnumFault.TheVariants.{Memory}
 use Rattle.usb_enum.specs.declared.stop.Stop.TheVariants.{Fault}
-use Rattle.usb_enum.specs.LearnedFacts.{Learns}
+use Rattle.usb_enum.specs.LearnedFacts.{DeviceFact}
 use Rattle.usb_enum.specs.Readings.{AtMaximum, HasConfigurations}
 use Rattle.usb_enum.specs.Refusals.{configured_fault}
 use Rattle.usb_enum.proofs.Refusals.{answered_ok, fault_explains, handed_match}
@@ -20,8 +20,8 @@ use Rattle.usb_enum.specs.Bounds.{configured_by, texts_bound}
 use Rattle.usb_enum.proofs.Powers.{empties_ports}
 use Rattle.usb_enum.proofs.TextLengths.{few_then, few_wider}
 use Rattle.usb_enum.specs.declared.cause.Request.TheVariants.{SetConfig}
-use Rattle.usb_enum.specs.Reasons.{ToldAtStart, lacks_power}
-use Rattle.usb_enum.proofs.Reasons.{told_after, write_told}
+use Rattle.usb_enum.specs.Reasons.{CauseAllowedAtStart, lacks_power}
+use Rattle.usb_enum.proofs.Reasons.{told_after, write_stop_told}
 use Rattle.usb_enum.proofs.Stops.{fits_stop, hub_stops, stops_by}
 use Rattle.usb_enum.specs.StringRequests.{ReadsStrings}
 use Rattle.usb_enum.proofs.LastRequests.{leads_went}
@@ -79,7 +79,7 @@ returns-in_default-clause-part g c known =
     let none = sym c.in_ok-chosen.ensures.chosen ∙ c.in_default.is in
     let old = g.B.Bus.world c.args.bus.now in
     let mid = g.B.Bus.world c.read_configurations.new.bus in
-    let Learned : ℕ → Type 0 = λ n. Learns (AtMaximum t (HasConfigurations n configs)) t old mid in
+    let Learned : ℕ → Type 0 = λ n. DeviceFact (AtMaximum t (HasConfigurations n configs)) t old mid in
     record {
       steps = steps_wider (steps_as (sets_asked _) read.steps) (omega arith);
       ends = record {
@@ -112,7 +112,7 @@ returns-in_err-answered_or-clause-part g c known =
     let old = g.B.Bus.world c.args.bus.now in
     let mid = g.B.Bus.world c.read_configurations.new.bus in
     let new = g.B.Bus.world c.set_configuration.new.bus in
-    let Learned : ℕ → Type 0 = λ n. Learns (AtMaximum t (HasConfigurations n configs)) t old mid in
+    let Learned : ℕ → Type 0 = λ n. DeviceFact (AtMaximum t (HasConfigurations n configs)) t old mid in
     part_fails c.from_residual-in_err-answered_or.result stop
     c.from_residual-in_err-answered_or.ensures.1 (steps_as (sets_at c.requires) (steps_then
     (setting t.addr) (steps_as (sets_asked _) read.steps)
@@ -120,7 +120,7 @@ returns-in_err-answered_or-clause-part g c known =
     (omega arith))) (record {
       told = stops_by t device.bytes c.args.tier c.args.supply stop old new
           (told_after stop t old mid new (leads_went read.steps.went)
-          (write_told SetConfig stop (c.value-value.result, refl) failed (set.ordered known)));
+          (write_stop_told SetConfig stop (c.value-value.result, refl) failed (set.ordered known)));
       so = set_refused t c.args.tier c.args.supply device.bytes
           (sym c.fits_tier.ensures ∙ c.in_ok-fits_tier.was) configs c.in-Some.chosen
           (sym c.in_ok-chosen.ensures.chosen ∙ c.in-Some.is) c.value-value.result _ _
@@ -153,7 +153,7 @@ returns-in_err-hub-clause-part g c known =
     let mid = g.B.Bus.world c.read_configurations.new.bus in
     let before = g.B.Bus.world c.set_configuration.new.bus in
     let asked = g.B.Bus.world c.hub_facts.new.bus in
-    let Learned : ℕ → Type 0 = λ n. Learns (AtMaximum t (HasConfigurations n configs)) t old mid in
+    let Learned : ℕ → Type 0 = λ n. DeviceFact (AtMaximum t (HasConfigurations n configs)) t old mid in
     let steps = steps_joined (setting t.addr) (steps_as (sets_asked _) read.steps)
     (steps_set (set.went known) (set.ordered known) (set.what known) (set.keeps known)) in
     part_fails c.from_residual-in_err-hub.result stop c.from_residual-in_err-hub.ensures.1 (steps_as
@@ -165,7 +165,7 @@ returns-in_err-hub-clause-part g c known =
             all = c.in_ok-configs.ensures.all.0
                 ∙ c.configurations.ensures;
           }) c.in-Some.chosen choice (leads_went read.steps.went)
-          (leads_went (set.went known)) (subst (λ text. ToldAtStart t text stop before asked)
+          (leads_went (set.went known)) (subst (λ text. CauseAllowedAtStart t text stop before asked)
           same_text hub.ends.told);
       so = hub_refused t c.args.tier c.args.supply device.bytes fits configs c.in-Some.chosen choice
           c.value-value.result _ _ _ stop old before asked (λ z. omega (arith, z, c.requires))
@@ -275,28 +275,28 @@ returns-in_default-clause-few g c known =
 pub returns-in_err-answered_or-clause-few : goal.returns-in_err-answered_or-clause-few
 returns-in_err-answered_or-clause-few g c known =
     few_then texts_bound configured_by c.args.device.target _ _ _ _
-    (c.read_configurations.ensures.few known) (c.set_configuration.ensures.went known)
+    (c.read_configurations.ensures.few known) (c.set_configuration.ensures.steps known)
     (λ most. omega arith)
 
 pub returns-in_err-hub-clause-few : goal.returns-in_err-hub-clause-few
 returns-in_err-hub-clause-few g c known =
     few_then texts_bound configured_by c.args.device.target _ _ _ _
     (c.read_configurations.ensures.few known) (went_then _ _
-    (c.set_configuration.ensures.went known) (c.in_err-hub.ensures.part known).steps.went)
+    (c.set_configuration.ensures.steps known) (c.in_err-hub.ensures.part known).steps.went)
     (λ most. omega arith)
 
 pub returns-in_err-strings-clause-few : goal.returns-in_err-strings-clause-few
 returns-in_err-strings-clause-few g c known =
     few_then texts_bound configured_by c.args.device.target _ _ _ _
     (c.read_configurations.ensures.few known) (went_then _ _ (went_then _ _
-    (c.set_configuration.ensures.went known) (c.in_ok-hub.ensures.part known).steps.went)
+    (c.set_configuration.ensures.steps known) (c.in_ok-hub.ensures.part known).steps.went)
     (c.in_err-strings.ensures.read known).steps.went) (λ most. omega arith)
 
 pub returns-clause-few : goal.returns-clause-few
 returns-clause-few g c known =
     few_then texts_bound configured_by c.args.device.target _ _ _ _
     (c.read_configurations.ensures.few known) (went_then _ _ (went_then _ _
-    (c.set_configuration.ensures.went known) (c.in_ok-hub.ensures.part known).steps.went)
+    (c.set_configuration.ensures.steps known) (c.in_ok-hub.ensures.part known).steps.went)
     (c.in_ok-strings.ensures.read known).steps.went) (λ most. omega arith)
 
 pub returns-in_err-fits_tier-clause-whole : goal.returns-in_err-fits_tier-clause-whole

@@ -1,14 +1,14 @@
 use Rattle.usb_enum.proofs.PlainStops.{fits_found, without_found}
 use Rattle.std.proofs.Common.{arith, subst}
 use Rattle.usb_bus.proofs.Interface.{went_wider}
-use Rattle.usb_hub.proofs.Interface.{asked_stays}
-use Rattle.usb_enum.proofs.Counts.{went_on}
+use Rattle.usb_hub.proofs.Interface.{is_asked_stays}
+use Rattle.usb_enum.proofs.Counts.{went_on_more}
 use Rattle.usb_resources.specs.Pool.{HasAddresses, IsFull}
 use Rattle.usb_enum.proofs.Endings.{zero_untaken, zero_before, free_untaken, enumerated, given_up, none_true, found_true, device_placed, few_made, few_unaddressed, refused_placed, device_warranted, stopped_warranted, strings_asked, no_strings_asked, gives_left, device_left}
 use Rattle.usb_enum.proofs.Frames.{calls_then}
 use Rattle.usb_enum.specs.Refusals.{unaddressed_fault, whole_fault}
 use Rattle.usb_enum.proofs.Warrants.{unaddressed_right, whole_right}
-use Rattle.usb_enum.specs.Stop.{StopToldIn, StopToldWithout}
+use Rattle.usb_enum.specs.Stop.{CauseAllowedIn, CauseAllowedWithout}
 use Rattle.usb_enum.proofs.LastRequests.{leads_went}
 use Rattle.usb_enum.proofs.Stops.{given_told, gives_reason, stopped_reasoned, stopped_without, without_reasoned}
 use Rattle.usb_enum.proofs.enumeration.enumerate.Goals as goal
@@ -24,7 +24,7 @@ returns-in_default-clause-ends g c known =
     (subst HasAddresses c.in_default.ensures.none.1 c.take.ensures.range) in
     let steps = c.without_address-stop.ensures.steps known in
     let stops = c.without_address-stop.ensures.stops known in
-    let closing = c.give_up.ensures.went known in
+    let closing = c.give_up.ensures.steps known in
     let left = (c.give_up.ensures.left known).left in
     let closes = (c.give_up.ensures.left known).closes 0 in
     record {
@@ -81,7 +81,7 @@ returns-in-Err-clause-ends g c known =
     let examined = c.in-Err.ensures.part known in
     let steps = examined.steps in
     let stops = examined.ends in
-    let closing = c.give_up-finding.ensures.went known in
+    let closing = c.give_up-finding.ensures.steps known in
     let left = (c.give_up-finding.ensures.left known).left in
     let closes = (c.give_up-finding.ensures.left known).closes a in
     record {
@@ -104,34 +104,34 @@ returns-in-Err-clause-ends g c known =
 
 pub give_up-requires : goal.give_up-requires
 give_up-requires g c =
-    asked_stays _ _ _ _ _ (λ known. (c.without_address-stop.ensures.steps known).went.spends)
+    is_asked_stays _ _ _ _ _ (λ known. (c.without_address-stop.ensures.steps known).went.spends)
     c.requires.port
 
 pub give_up-finding-requires : goal.give_up-finding-requires
 give_up-finding-requires g c =
-    asked_stays _ _ _ _ _ (λ known. (c.examine.ensures.part known).steps.went.spends)
+    is_asked_stays _ _ _ _ _ (λ known. (c.examine.ensures.part known).steps.went.spends)
     c.requires.port
 
-pub returns-in_default-clause-went : goal.returns-in_default-clause-went
-returns-in_default-clause-went g c known =
-    went_on _ _ _ _ _ _ (c.without_address-stop.ensures.steps known).went
-    (c.give_up.ensures.went known) (omega arith)
+pub returns-in_default-clause-steps : goal.returns-in_default-clause-steps
+returns-in_default-clause-steps g c known =
+    went_on_more _ _ _ _ _ _ (c.without_address-stop.ensures.steps known).went
+    (c.give_up.ensures.steps known) (omega arith)
 
-pub returns-in-Ok-clause-went : goal.returns-in-Ok-clause-went
-returns-in-Ok-clause-went g c known = went_wider _ _ (c.examine.ensures.part known).steps.went
+pub returns-in-Ok-clause-steps : goal.returns-in-Ok-clause-steps
+returns-in-Ok-clause-steps g c known = went_wider _ _ (c.examine.ensures.part known).steps.went
     (omega arith)
 
-pub returns-in-Err-clause-went : goal.returns-in-Err-clause-went
-returns-in-Err-clause-went g c known =
-    went_on _ _ _ _ _ _ (c.examine.ensures.part known).steps.went
-    (c.give_up-finding.ensures.went known) (omega arith)
+pub returns-in-Err-clause-steps : goal.returns-in-Err-clause-steps
+returns-in-Err-clause-steps g c known =
+    went_on_more _ _ _ _ _ _ (c.examine.ensures.part known).steps.went
+    (c.give_up-finding.ensures.steps known) (omega arith)
 
 pub returns-in_default-clause-told : goal.returns-in_default-clause-told
 returns-in_default-clause-told g c known =
     let port = c.args.port in
     let stop = c.without_address-stop.result in
     let told = stopped_without port stop _ _ (c.without_address-stop.ensures.stops known).told in
-    given_told port stop _ _ c.give_up.result (λ why is. subst (λ s. StopToldWithout port s
+    given_told port stop _ _ c.give_up.result (λ why is. subst (λ s. CauseAllowedWithout port s
     (g.B.Bus.world c.without_address-stop.new.bus)) is told) (c.give_up.ensures.left known).left
 
 pub returns-in-Err-clause-told : goal.returns-in-Err-clause-told
@@ -139,7 +139,7 @@ returns-in-Err-clause-told g c known =
     let port = c.args.port in
     let told = (c.in-Err.ensures.part known).ends.told in
     given_told port c.in-Err.stop _ _ c.give_up-finding.result (λ why is. subst
-    (λ s. StopToldIn port c.args.tier s (g.B.Bus.world c.examine.new.bus)) is told.fits)
+    (λ s. CauseAllowedIn port c.args.tier s (g.B.Bus.world c.examine.new.bus)) is told.fits)
     (c.give_up-finding.ensures.left known).left
 
 pub returns-in_default-clause-found : goal.returns-in_default-clause-found

@@ -3,7 +3,7 @@ use Rattle.usb_enum.specs.Stop.{FitsStop}
 use Rattle.std.proofs.Common.{arith, inr}
 use Rattle.usb_enum.proofs.Frames.{at_configured}
 use Rattle.usb_enum.specs.Refusals.{addressed_fault, whole_fault}
-use Rattle.usb_enum.proofs.Counts.{went_on}
+use Rattle.usb_enum.proofs.Counts.{went_on_more}
 use Rattle.usb_enum.proofs.Fairness.{stops_wider}
 use Rattle.usb_enum.proofs.Parts.{part_fails, steps_wider}
 use Rattle.usb_enum.proofs.Refusals.{by_error, handed_match, matched_ok}
@@ -47,7 +47,7 @@ returns-clause-part g c known =
     let sets = set.steps.keeps in
     record {
       steps = record {
-        went = went_on _ _ _ _ _ _ went set.steps.went (omega arith);
+        went = went_on_more _ _ _ _ _ _ went set.steps.went (omega arith);
         keeps = at_configured _ _ _ _ _ _ at taken.takes set.steps.went sets;
       };
       ends = matched result _ (StopsExamining port a tier supply old new) (accepted _ _ _ _ _ _ _

@@ -11,7 +11,7 @@ use Rattle.usb_enum.proofs.Stretches.{clear_goes}
 use Rattle.usb_bus.proofs.Interface.{went_none, went_wider}
 use Rattle.usb_enum.proofs.Closings.{closed_fault, closed_handed, closed_lost, closed_refused}
 use Rattle.usb_enum.proofs.Endings.{port_done}
-use Rattle.usb_enum.proofs.Reasons.{cleared_by, fault_by}
+use Rattle.usb_enum.proofs.Reasons.{port_cleared_fault, fault_by}
 use Rattle.usb_enum.proofs.Refusals.{handed_match}
 use Rattle.usb_enum.proofs.enumeration.give_up.Goals as goal
 
@@ -24,7 +24,7 @@ returns-in_err-at_port-in-Refused-clause-left g c known =
     let told = sym c.in_err-at_port-in-Refused.was ∙ c.at_port.ensures in
     let By : Result (Unit {0}) EnumFault → Type 0 = λ r. IfErr r (λ fault. FaultBy port fault
     (g.B.Bus.world c.args.bus.now) (g.B.Bus.world c.clear_port.new.bus)) in
-    let by = subst By (sym told) (cleared_by port PORT_ENABLE c.clear_port.result _ _
+    let by = subst By (sym told) (port_cleared_fault port PORT_ENABLE c.clear_port.result _ _
     (call.fault known) (call.effect known)) in
     rw c.in-Refused.is (record {
       left = handed_match c.from_residual.result _ (λ fault. FaultBy port fault _ _) why
@@ -53,8 +53,8 @@ pub returns-in-Fault-clause-left : goal.returns-in-Fault-clause-left
 returns-in-Fault-clause-left g c known =
     rw c.in-Fault.is (record { left = (refl, refl); closes = λ a. closed_fault _ a _ _ })
 
-pub returns-in-Fault-clause-went : goal.returns-in-Fault-clause-went
-returns-in-Fault-clause-went g c known = went_wider 0 _ went_none (omega arith)
+pub returns-in-Fault-clause-steps : goal.returns-in-Fault-clause-steps
+returns-in-Fault-clause-steps g c known = went_wider 0 _ went_none (omega arith)
 
 pub returns-in_err-at_port-in-Refused-clause-hands :
     goal.returns-in_err-at_port-in-Refused-clause-hands

@@ -11,7 +11,7 @@ use Rattle.usb_enum.proofs.Parts.{part_fails, steps_asked}
 use Rattle.usb_enum.proofs.Refusals.{handed_match}
 use Rattle.usb_request.specs.Requests.{get_hub_descriptor}
 use Rattle.usb_enum.specs.Reasons.{bad_descriptor, no_descriptor}
-use Rattle.usb_enum.proofs.Reasons.{hub_told, reads_failed, was_read}
+use Rattle.usb_enum.proofs.Reasons.{bad_hub_told, reads_failed, was_read}
 use Rattle.usb_enum.proofs.hub.port_count.Goals as goal
 
 pub returns-in-Ok-clause-count : goal.returns-in-Ok-clause-count
@@ -57,7 +57,7 @@ returns-in_err-bytes-clause-read g c known =
     part_fails c.from_residual.result stop c.from_residual.ensures.1
     (steps_asked hub_given 9 c.requires.max (hub.went known) asked what (hub.keeps known))
     (record {
-      told = hub_told c.args.target get_hub_descriptor c.hub_descriptor.result stop 3 1 old new
+      told = bad_hub_told c.args.target get_hub_descriptor c.hub_descriptor.result stop 3 1 old new
           failed (reads_failed c.args.target get_hub_descriptor c.hub_descriptor.result old new
           asked.stages) asked.ends no_descriptor;
       so = count_unanswered c.args.target c.hub_descriptor.result stop old new failed c.requires.max

@@ -1,5 +1,5 @@
 use Rattle.usb_request.specs.Requests.{get_status}
-use Rattle.usb_hub.specs.Requests.{Told, device_status}
+use Rattle.usb_hub.specs.Requests.{ReadAs, device_status}
 use Rattle.usb_enum.proofs.PlainStops.{answered_hub}
 use Rattle.usb_enum.specs.Stop.{IsHubStop}
 use Rattle.std.proofs.Common.{◌≡◌, ◌∙◌, Some, sym, subst}
@@ -31,7 +31,7 @@ returns-clause-read g c known =
       ends = record {
         told = record {
           status = c.in_ok-status.status;
-          told = subst (λ r. Told device_status t get_status old r new)
+          told = subst (λ r. ReadAs device_status t get_status old r new)
               (answered_ok BadHub c.get_status.result c.in_ok-status.status read) told;
           said = c.supply.ensures;
         };

@@ -10,7 +10,7 @@ use Rattle.usb_enum.proofs.Refusals.{by_error}
 use Rattle.usb_request.specs.Features.{PORT_POWER}
 use Rattle.usb_request.specs.Requests.{set_port_feature}
 use Rattle.usb_enum.specs.Reasons.{no_power}
-use Rattle.usb_enum.proofs.Reasons.{hub_told, writes_failed}
+use Rattle.usb_enum.proofs.Reasons.{bad_hub_told, writes_failed}
 use Rattle.usb_enum.proofs.hub.power_port.Goals as goal
 
 pub returns-clause-part : goal.returns-clause-part
@@ -25,14 +25,14 @@ returns-clause-part g c known =
     let devices = c.set_hub_port.ensures.devices known (λ e. absurd cc) in
     record {
       steps = record {
-        went = c.set_hub_port.ensures.went known;
+        went = c.set_hub_port.ensures.steps known;
         keeps = power_tells t port _ _ _ ordered
             (c.set_hub_port.ensures.keeps known (λ e. absurd cc)) devices;
       };
       ends = matched c.answered_or.result _ (StopsPower t port old new)
           (powered_by t port _ _ outcome c.answered_or.result c.answered_or.ensures ordered)
           (by_error c.answered_or.result (StopsPower t port old new) (λ stop is. record {
-            told = hub_told t setup outcome stop 2 1 old new (sym c.answered_or.ensures ∙ is)
+            told = bad_hub_told t setup outcome stop 2 1 old new (sym c.answered_or.ensures ∙ is)
                 (writes_failed t setup outcome old new ordered.stages) ordered.ends (no_power port);
             so = power_explains t port outcome stop old new ordered (sym c.answered_or.ensures ∙ is)
                 devices;

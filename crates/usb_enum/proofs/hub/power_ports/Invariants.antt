@@ -2,12 +2,12 @@ use Rattle.std.proofs.Common.{◌*◌, ◌≡◌, true}
 use Rattle.usb_pipe.specs.Control.{write_bound}
 use Rattle.usb_enum.specs.Frames.{OnlyTells}
 use Rattle.usb_enum.specs.Hub.{Powered}
-use Rattle.usb_enum.specs.Parts.{Steps}
+use Rattle.usb_enum.specs.Parts.{KeepingSteps}
 use Rattle.usb_enum.proofs.hub.power_ports.Given as goal
 
 abbrev pub invariant-ports : goal.invariant-ports
 invariant-ports g l = record {
-  steps : g.B.Bus.modelled ≡ true → Steps (OnlyTells l.target.addr) (l.before * write_bound)
+  steps : g.B.Bus.modelled ≡ true → KeepingSteps (OnlyTells l.target.addr) (l.before * write_bound)
       (g.B.Bus.world l.initial.bus) (g.B.Bus.trace l.initial.bus)
       (g.B.Bus.world l.bus) (g.B.Bus.trace l.bus);
   powered : g.B.Bus.modelled ≡ true

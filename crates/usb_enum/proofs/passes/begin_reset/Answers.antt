@@ -4,7 +4,7 @@ use Rattle.usb_hub.proofs.Interface.{reset_went}
 use Rattle.usb_enum.proofs.Frames.{at_reset, reset_calls}
 use Rattle.usb_port.specs.declared.call.PortCall.TheVariants.{SetReset}
 use Rattle.usb_enum.proofs.Stretches.{set_goes}
-use Rattle.usb_enum.proofs.Reasons.{call_ends, set_by}
+use Rattle.usb_enum.proofs.Reasons.{call_ends, port_set_fault}
 use Rattle.usb_enum.proofs.passes.begin_reset.Goals as goal
 
 pub returns-clause-part : goal.returns-clause-part
@@ -17,7 +17,7 @@ returns-clause-part g c known a =
         keeps = at_reset _ a _ _ resets
             (reset_calls _ a _ _ _ (call.fault known) (call.ports known) resets);
       };
-      ends = call_ends c.args.port _ c.set_port.result _ _ c.at_port.ensures (set_by c.args.port
+      ends = call_ends c.args.port _ c.set_port.result _ _ c.at_port.ensures (port_set_fault c.args.port
           PORT_RESET c.set_port.result _ _ (call.fault known) (call.effect known));
     }
 

@@ -14,7 +14,7 @@ use Rattle.usb_enum.proofs.Refusals.{handed_match}
 use Rattle.usb_request.specs.Requests.{get_device_descriptor}
 use Rattle.usb_enum.specs.declared.cause.Cause.TheVariants.{Stalled}
 use Rattle.usb_enum.specs.declared.cause.Request.TheVariants.{Device}
-use Rattle.usb_enum.proofs.Reasons.{read_told, unanswered, was_read}
+use Rattle.usb_enum.proofs.Reasons.{read_stop_told, unanswered_ends_failing, was_read}
 use Rattle.usb_enum.proofs.passes.descriptor.Goals as goal
 
 pub returns-then-eq-clause-read : goal.returns-then-eq-clause-read
@@ -30,7 +30,7 @@ returns-then-eq-clause-read g c known =
       steps = steps_asked device_given 18 c.requires.max (device.went known) asked what
           (device.addresses known).keeps;
       ends = record {
-        told = unanswered t (get_device_descriptor 18) outcome _ _ silent asked.stages;
+        told = unanswered_ends_failing t (get_device_descriptor 18) outcome _ _ silent asked.stages;
         so = descriptor_none t outcome _ _ silent c.requires.max what (device.why known) asked;
       };
     }
@@ -48,7 +48,7 @@ returns-in_err-bytes-clause-read g c known =
     let failed = sym c.answered_or.ensures ∙ c.in_err-bytes.was in
     part_fails c.from_residual.result stop c.from_residual.ensures.1 (steps_asked device_given 18
     c.requires.max (device.went known) asked what (device.addresses known).keeps) (record {
-      told = read_told Device stop (18, refl) failed asked;
+      told = read_stop_told Device stop (18, refl) failed asked;
       so = record {
         why = descriptor_unanswered t outcome stop old new failed c.requires.max what
             (device.why known);

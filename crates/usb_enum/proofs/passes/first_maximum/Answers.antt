@@ -11,7 +11,7 @@ use Rattle.usb_enum.proofs.Refusals.{handed_match}
 use Rattle.usb_enum.proofs.Stretches.{device_goes}
 use Rattle.usb_enum.specs.declared.cause.Cause.TheVariants.{Stalled}
 use Rattle.usb_enum.specs.declared.cause.Request.TheVariants.{Device}
-use Rattle.usb_enum.proofs.Reasons.{read_told, was_read}
+use Rattle.usb_enum.proofs.Reasons.{read_stop_told, was_read}
 use Rattle.usb_enum.proofs.passes.first_maximum.Goals as goal
 
 pub returns-in-Ok-clause-read : goal.returns-in-Ok-clause-read
@@ -40,7 +40,7 @@ returns-in_err-bytes-clause-read g c known =
     let failed = sym c.answered_or.ensures ∙ c.in_err-bytes.was in
     part_fails c.from_residual.result stop c.from_residual.ensures.1 (steps_asked device_given 8
     wide (device.went known) asked (device.what known) (device.addresses known).keeps) (record {
-      told = read_told Device stop (8, refl) failed asked;
+      told = read_stop_told Device stop (8, refl) failed asked;
       so = head_unanswered c.args.unaddressed c.get_device.result stop old new failed wide
           (device.what known) (device.why known);
     })

@@ -13,7 +13,7 @@ use Rattle.usb_enum.proofs.Refusals.{answered_ok, handed_match}
 use Rattle.usb_enum.proofs.StopReasons.{address_stops, addressed_early, descriptor_stops, pass_misses}
 use Rattle.usb_enum.specs.declared.cause.Request.TheVariants.{Address}
 use Rattle.usb_enum.proofs.LastRequests.{leads_went}
-use Rattle.usb_enum.proofs.Reasons.{at_after, descriptor_after, failing_after, told_at, told_faults, write_told}
+use Rattle.usb_enum.proofs.Reasons.{at_after, descriptor_after, failing_after, stop_told_at, told_faults, write_stop_told}
 use Rattle.usb_enum.proofs.passes.pass.Goals as goal
 
 pub returns-in_err-target-clause-part : goal.returns-in_err-target-clause-part
@@ -43,9 +43,9 @@ returns-in_err-answered_or-clause-part g c known =
     let failed = sym c.answered_or.ensures ∙ c.in_err-answered_or.was in
     part_fails c.from_residual-in_err-answered_or.result stop
     c.from_residual-in_err-answered_or.ensures.1 (steps_wider addressed (omega arith)) (record {
-      told = at_after stop port a _ _ _ (leads_went early.steps.went) (told_at stop port a t _ _
+      told = at_after stop port a _ _ _ (leads_went early.steps.went) (stop_told_at stop port a t _ _
           (record { at = inl is.zero; pre = is.pre })
-          (write_told Address stop (a, refl) failed ordered));
+          (write_stop_told Address stop (a, refl) failed ordered));
       so = address_stops port a _ _ t c.set_address.result early.steps.went (set.went known)
           early.steps.keeps zero.steps.keeps addressed.keeps is zero.ends ordered (set.what known)
           (set.why known) stop failed;
@@ -69,7 +69,7 @@ returns-in_err-bytes-clause-part g c known =
     part_fails c.from_residual-in_err-bytes.result stop c.from_residual-in_err-bytes.ensures.1
     (steps_then (enumerating port a) addressed (steps_as (at_asked port a) bytes.steps)
     (omega arith)) (record {
-      told = at_after stop port a _ _ _ (leads_went addressed.went) (told_at stop port a
+      told = at_after stop port a _ _ _ (leads_went addressed.went) (stop_told_at stop port a
           (record t { addr = a }) _ _ (record { at = inr refl; pre = is.pre }) bytes.ends.told);
       so = descriptor_stops port a _ _ _ t early.steps.went (set.went known) bytes.steps.went
           early.steps.keeps zero.steps.keeps addressed.keeps bytes.steps.keeps is zero.ends

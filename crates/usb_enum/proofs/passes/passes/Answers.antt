@@ -1,11 +1,11 @@
 use Rattle.usb_enum.specs.Stop.{IsPlainStop}
 use Rattle.std.proofs.Common.{◌≡◌, ◌⊎◌, ℕ, inl, inr, arith, refl, subst}
-use Rattle.usb_hub.proofs.Interface.{asked_stays}
+use Rattle.usb_hub.proofs.Interface.{is_asked_stays}
 use Rattle.usb_enum.specs.Bounds.{pass_bound}
 use Rattle.usb_enum.proofs.Enumerations.{takes_after}
 use Rattle.usb_enum.proofs.Parts.{enumerating, part_fails, steps_again, steps_more, steps_none, steps_times}
 use Rattle.usb_enum.proofs.Presence.{finds_after}
-use Rattle.usb_enum.proofs.ReachedDevices.{reaches_after}
+use Rattle.usb_enum.proofs.ReachedDevices.{reaches_device_after}
 use Rattle.usb_enum.specs.FairEnumerations.{Misses}
 use Rattle.usb_enum.specs.Refusals.{addressed_fault}
 use Rattle.usb_enum.proofs.Refusals.{handed_match}
@@ -25,7 +25,7 @@ loop-pass-init g c = record {
 
 pub pass-requires : goal.pass-requires
 pass-requires g c = record {
-  port = asked_stays _ _ _ _ _ (λ known. (c.loop-pass.invariant.steps known).went.spends)
+  port = is_asked_stays _ _ _ _ _ (λ known. (c.loop-pass.invariant.steps known).went.spends)
       c.requires.port;
   least = c.requires.least;
   most = c.requires.most;
@@ -63,7 +63,7 @@ returns-in-Some-clause-part g c known =
           takes = takes_after _ _ _ _ _ steps.keeps.within taken.takes;
           still = taken.still;
           found = finds_after _ _ _ _ steps.went steps.keeps.within taken.found;
-          reaches = reaches_after _ _ _ _ steps.went one.steps.went steps.keeps taken.reaches;
+          reaches = reaches_device_after _ _ _ _ steps.went one.steps.went steps.keeps taken.reaches;
         };
       };
     }

@@ -2,13 +2,13 @@ use Rattle.std.proofs.Common.{◌≡◌, ◌⊎◌, ◌*◌, true}
 use Rattle.usb_enum.specs.Addresses.{AtPort}
 use Rattle.usb_enum.specs.Bounds.{pass_bound}
 use Rattle.usb_enum.specs.FairEnumerations.{Misses}
-use Rattle.usb_enum.specs.Parts.{Steps}
+use Rattle.usb_enum.specs.Parts.{KeepingSteps}
 use Rattle.usb_enum.specs.Reasons.{NoAnswerTold}
 use Rattle.usb_enum.proofs.passes.passes.Given as goal
 
 abbrev pub invariant-loop-pass : goal.invariant-loop-pass
 invariant-loop-pass g l = record {
-  steps : g.B.Bus.modelled ≡ true → Steps (AtPort l.port l.address) (l._pass * pass_bound l.port)
+  steps : g.B.Bus.modelled ≡ true → KeepingSteps (AtPort l.port l.address) (l._pass * pass_bound l.port)
       (g.B.Bus.world l.initial.bus) (g.B.Bus.trace l.initial.bus)
       (g.B.Bus.world l.bus) (g.B.Bus.trace l.bus);
   silent : g.B.Bus.modelled ≡ true → (l._pass ≡ 0)

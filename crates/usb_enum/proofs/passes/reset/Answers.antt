@@ -1,7 +1,7 @@
 use Rattle.usb_enum.specs.Stop.{IsPlainStop}
 use Rattle.std.proofs.Common.{arith, subst}
 use Rattle.usb_request.specs.Features.{PORT_RESET, C_PORT_RESET}
-use Rattle.usb_hub.proofs.Interface.{asked_stays}
+use Rattle.usb_hub.proofs.Interface.{is_asked_stays}
 use Rattle.usb_enum.proofs.Frames.{at_asked}
 use Rattle.usb_enum.proofs.Parts.{enumerating, part_fails, steps_as, steps_joined, steps_then, steps_wider}
 use Rattle.usb_enum.proofs.Presence.{reset_finds}
@@ -11,7 +11,7 @@ use Rattle.usb_enum.specs.Refusals.{no_fault}
 use Rattle.usb_enum.specs.declared.stop.Stop.TheVariants.{Fault}
 use Rattle.usb_enum.proofs.Fairness.{called_faulted, faulted_after, status_faulted, stops_faulted}
 use Rattle.usb_enum.proofs.StopReasons.{reset_goes, reset_lost, settle_failed, unfalse}
-use Rattle.usb_world.proofs.Interface.{not_true}
+use Rattle.usb_world.proofs.Interface.{not-true}
 use Rattle.usb_hub.specs.Port.{PortRead}
 use Rattle.usb_enum.specs.Reasons.{not_enabled}
 use Rattle.usb_enum.proofs.LastRequests.{leads_went}
@@ -21,13 +21,13 @@ use Rattle.usb_enum.proofs.passes.reset.Goals as goal
 
 pub read_status-requires : goal.read_status-requires
 read_status-requires g c =
-    asked_stays _ _ _ _ _ (λ known. (c.begin_reset.ensures.part known 0).steps.went.spends)
+    is_asked_stays _ _ _ _ _ (λ known. (c.begin_reset.ensures.part known 0).steps.went.spends)
     c.requires.port
 
 pub settle-requires : goal.settle-requires
 settle-requires g c =
-    asked_stays _ _ _ _ _ (λ known. (c.read_status.ensures.read known).steps.went.spends)
-    (asked_stays _ _ _ _ _ (λ known. (c.begin_reset.ensures.part known 0).steps.went.spends)
+    is_asked_stays _ _ _ _ _ (λ known. (c.read_status.ensures.read known).steps.went.spends)
+    (is_asked_stays _ _ _ _ _ (λ known. (c.begin_reset.ensures.part known 0).steps.went.spends)
     c.requires.port)
 
 pub returns-in_err-begin_reset-clause-part : goal.returns-in_err-begin_reset-clause-part
@@ -66,7 +66,7 @@ returns-then-not-status-clause-part g c known a =
     let status = (c.read_status.ensures.read known).steps in
     let called = rw c.in_ok-begin_reset.was at (c.begin_reset.ensures.calls known) in
     let shown = rw c.in_ok-status.was at (c.read_status.ensures.status known) in
-    let off = not_true c.in_ok-status.status.enabled c.if-not-status.true in
+    let off = not-true c.in_ok-status.status.enabled c.if-not-status.true in
     record {
       steps = steps_then (enumerating port a) begun (steps_as (at_asked port a) status)
           (omega arith);

@@ -6,7 +6,7 @@ use Rattle.usb_enum.proofs.Frames.{at_reset_cleared}
 use Rattle.usb_enum.proofs.Parts.{enumerating, steps_none}
 use Rattle.usb_port.specs.declared.call.PortCall.TheVariants.{ClearResetChange}
 use Rattle.usb_enum.proofs.Stretches.{clear_goes}
-use Rattle.usb_enum.proofs.Reasons.{call_ends, cleared_by}
+use Rattle.usb_enum.proofs.Reasons.{call_ends, port_cleared_fault}
 use Rattle.usb_enum.proofs.passes.settle.Goals as goal
 
 pub returns-then-not-changed-clause-part : goal.returns-then-not-changed-clause-part
@@ -32,7 +32,7 @@ returns-clause-part g c known a =
         keeps = at_reset_cleared _ a _ _ _ (call.fault known) (call.ports known)
             (call.addresses known);
       };
-      ends = call_ends c.args.port _ c.clear_port.result _ _ c.at_port.ensures (cleared_by
+      ends = call_ends c.args.port _ c.clear_port.result _ _ c.at_port.ensures (port_cleared_fault
           c.args.port C_PORT_RESET c.clear_port.result _ _ (call.fault known) (call.effect known));
     }
 

@@ -9,10 +9,10 @@ use Rattle.usb_enum.proofs.ReachedDevices.{reaches_rest}
 use Rattle.usb_enum.proofs.Refusals.{handed_match}
 use Rattle.usb_enum.proofs.Courses.{went_sound}
 use Rattle.usb_enum.proofs.StopReasons.{head_stops}
-use Rattle.usb_enum.proofs.Stretches.{goes_then}
+use Rattle.usb_enum.proofs.Stretches.{no_stretch_then}
 use Rattle.usb_enum.specs.Device.{needs_pre}
 use Rattle.usb_enum.proofs.LastRequests.{leads_went}
-use Rattle.usb_enum.proofs.Reasons.{at_after, told_at, told_faults}
+use Rattle.usb_enum.proofs.Reasons.{at_after, stop_told_at, told_faults}
 use Rattle.usb_transaction.specs.declared.target.Target.{Target}
 use Rattle.usb_enum.proofs.passes.unaddressed.Goals as goal
 use Rattle.usb_enum.proofs.passes.unaddressed.Goals.{then-low, else-low}
@@ -45,7 +45,7 @@ returns-in_err-max-clause-part g c known a =
     (steps_then (enumerating port a) reset.steps (steps_as (at_asked port a) head.steps)
     (omega arith)) (record {
       told = at_after stop port a _ _ _ (leads_went reset.steps.went)
-          (told_at stop port a t _ _ (record { at = inl refl; pre = pre }) head.ends.told);
+          (stop_told_at stop port a t _ _ (record { at = inl refl; pre = pre }) head.ends.told);
       so = head_stops port a _ _ low _ _ reset.steps.went head.steps.went reset.steps.keeps
           zero.steps.keeps head.steps.keeps zero.ends pre (told_faults stop t _ _ head.ends.told)
           head.ends.so;
@@ -63,7 +63,7 @@ returns-clause-part g c known a =
         found = unaddressed_finds _ a _ c.in_ok-low.low _ _ reset.ends.speed head.ends.answers
             head.steps.went reset.steps.keeps.within head.steps.keeps.addresses;
         reaches = reaches_rest _ a _ head.steps.went head.steps.keeps.ports reset.ends.reaches;
-        goes = λ none. goes_then _ _ _ (reset.ends.goes (went_sound _ _ _ head.steps.went none))
+        goes = λ none. no_stretch_then _ _ _ (reset.ends.goes (went_sound _ _ _ head.steps.went none))
             head.ends.goes;
       };
     }

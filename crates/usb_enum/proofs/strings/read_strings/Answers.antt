@@ -1,6 +1,6 @@
 use Rattle.usb_enum.specs.Stop.{IsPlainStop}
 use Rattle.std.proofs.Common.{◌≡◌, ℕ, Option, None, Some, arith, refl, subst}
-use Rattle.usb_enum.specs.LearnedFacts.{Learns}
+use Rattle.usb_enum.specs.LearnedFacts.{DeviceFact}
 use Rattle.usb_enum.specs.Readings.{AtMaximum, language_of}
 use Rattle.usb_enum.specs.StringRequests.{AsksLanguage, asked, unnamed}
 use Rattle.usb_enum.proofs.Parts.{asking, part_fails, steps_joined, steps_none, steps_then, steps_wider}
@@ -29,7 +29,7 @@ returns-in_default-clause-read g c known =
     let t = c.args.target in
     let old = g.B.Bus.world c.args.bus.now in
     let new = g.B.Bus.world c.language.new.bus in
-    let Said : Option ℕ → Type 0 = λ o. Learns (AtMaximum t (λ spec. o ≡ language_of spec)) t old
+    let Said : Option ℕ → Type 0 = λ o. DeviceFact (AtMaximum t (λ spec. o ≡ language_of spec)) t old
     new in
     record {
       steps = steps_wider language.steps (omega arith);
@@ -50,7 +50,7 @@ returns-clause-read g c known =
     let t = c.args.target in
     let old = g.B.Bus.world c.args.bus.now in
     let said = g.B.Bus.world c.language.new.bus in
-    let Said : Option ℕ → Type 0 = λ o. Learns (AtMaximum t (λ spec. o ≡ language_of spec)) t old
+    let Said : Option ℕ → Type 0 = λ o. DeviceFact (AtMaximum t (λ spec. o ≡ language_of spec)) t old
     said in
     record {
       steps = steps_then asking (steps_joined asking

@@ -1,10 +1,10 @@
 use Rattle.std.proofs.Common.{arith}
 use Rattle.usb_far.specs.Serving.{scene}
-use Rattle.usb_far.proofs.Lines.{begun, served_more, served_one}
+use Rattle.usb_far.proofs.Lines.{served_none, served_more, served_one}
 use Rattle.usb_far.proofs.serving.serve.Goals as goal
 
 pub lines-init : goal.lines-init
-lines-init g c = begun (scene g.R.Read.remaining g.W.Write.contents c.args.far.now c.args.reader.now c.args.writer.now)
+lines-init g c = served_none (scene g.R.Read.remaining g.W.Write.contents c.args.far.now c.args.reader.now c.args.writer.now)
 
 pub lines-preserved : goal.lines-preserved
 lines-preserved g c =

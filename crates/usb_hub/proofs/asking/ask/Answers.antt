@@ -1,5 +1,5 @@
-use Rattle.usb_hub.proofs.Backlogs.{read_backlog}
-use Rattle.usb_hub.proofs.RestingRequests.{read_rests}
+use Rattle.usb_hub.proofs.Backlogs.{reads_backlog}
+use Rattle.usb_hub.proofs.RestingRequests.{reads_rests}
 use Rattle.usb_hub.proofs.asking.ask.Goals as goal
 
 pub returns-clause-asked : goal.returns-clause-asked
@@ -8,6 +8,6 @@ returns-clause-asked g c known = record {
   ends = (c.control_in.ensures.transfer known).ends;
   stages = (c.control_in.ensures.transfer known).stages;
   most = (c.control_in.ensures.transfer known).most;
-  rests = read_rests c.args.target c.args.setup c.control_in.result _ _ c.requires.reads (c.control_in.ensures.transfer known).settled (c.control_in.ensures.transfer known).stages;
-  backlog = read_backlog c.args.target c.args.setup c.control_in.result _ _ c.requires.reads (c.control_in.ensures.transfer known).settled (c.control_in.ensures.transfer known).stages;
+  rests = reads_rests c.args.target c.args.setup c.control_in.result _ _ c.requires.reads (c.control_in.ensures.transfer known).settled (c.control_in.ensures.transfer known).stages;
+  backlog = reads_backlog c.args.target c.args.setup c.control_in.result _ _ c.requires.reads (c.control_in.ensures.transfer known).settled (c.control_in.ensures.transfer known).stages;
 }

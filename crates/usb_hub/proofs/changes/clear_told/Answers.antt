@@ -5,8 +5,8 @@ use Rattle.usb_hub.proofs.AddressesKept.{hub_feature_keeps}
 use Rattle.usb_hub.proofs.HubChanges.{told_done}
 use Rattle.usb_hub.proofs.changes.clear_told.Goals as goal
 
-pub returns-then-not-told-clause-went : goal.returns-then-not-told-clause-went
-returns-then-not-told-clause-went g c known = went_wider 0 write_bound went_none (omega arith)
+pub returns-then-not-told-clause-steps : goal.returns-then-not-told-clause-steps
+returns-then-not-told-clause-steps g c known = went_wider 0 write_bound went_none (omega arith)
 
 pub returns-then-not-told-clause-cleared : goal.returns-then-not-told-clause-cleared
 returns-then-not-told-clause-cleared g c known = rw c.if-not-told.true (refl, refl)

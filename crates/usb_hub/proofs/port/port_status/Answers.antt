@@ -5,11 +5,11 @@ use Rattle.usb_hub.proofs.Moments.{root_tells, hub_tells}
 use Rattle.usb_hub.proofs.Ports.{asked_port}
 use Rattle.usb_hub.proofs.port.port_status.Goals as goal
 
-pub returns-in-Root-clause-went : goal.returns-in-Root-clause-went
-returns-in-Root-clause-went g c known = rw c.in-Root.is went_none
+pub returns-in-Root-clause-steps : goal.returns-in-Root-clause-steps
+returns-in-Root-clause-steps g c known = rw c.in-Root.is went_none
 
-pub returns-in-External-clause-went : goal.returns-in-External-clause-went
-returns-in-External-clause-went g c known = rw c.in-External.is (c.hub_port_status.ensures.went known)
+pub returns-in-External-clause-steps : goal.returns-in-External-clause-steps
+returns-in-External-clause-steps g c known = rw c.in-External.is (c.hub_port_status.ensures.steps known)
 
 pub returns-in-Root-clause-status : goal.returns-in-Root-clause-status
 returns-in-Root-clause-status g c known = search rules

@@ -1,10 +1,10 @@
 use Rattle.std.proofs.Common.{subst}
-use Rattle.usb_hub.specs.Requests.{Ordered}
+use Rattle.usb_hub.specs.Requests.{Commanded}
 use Rattle.usb_hub.proofs.Settings.{address_asked, address_why}
 use Rattle.usb_hub.proofs.requests.set_address.Goals as goal
 
 pub returns-clause-ordered : goal.returns-clause-ordered
-returns-clause-ordered g c known = subst (λ r. Ordered c.args.target r (g.B.Bus.world c.args.bus.now) c.order.result (g.B.Bus.world c.order.new.bus)) c.set_address.ensures.setup (c.order.ensures.ordered known)
+returns-clause-ordered g c known = subst (λ r. Commanded c.args.target r (g.B.Bus.world c.args.bus.now) c.order.result (g.B.Bus.world c.order.new.bus)) c.set_address.ensures.setup (c.order.ensures.ordered known)
 
 pub returns-clause-what : goal.returns-clause-what
 returns-clause-what g c known = address_asked c.args.target c.args.address c.order.result _ _ c.requires.most (returns-clause-ordered g c known)

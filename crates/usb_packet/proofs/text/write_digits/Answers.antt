@@ -1,6 +1,6 @@
 use Rattle.std.proofs.Common.{◌≡◌, ◌+◌, ◌*◌, ◌∙◌, ℕ, ap, sym, refl, arith, length, take, drop, length-set}
 use Rattle.std.proofs.lemmas.List.{drop-set-lt}
-use Rattle.usb_packet.proofs.TextLemmas.{digits_more, drop_more_both, encode_upper_none}
+use Rattle.usb_packet.proofs.TextLemmas.{encode_upper-set, drop_more_both, encode_upper_none}
 use Rattle.usb_packet.proofs.text.write_digits.Goals as goal
 
 pub bytes-init : goal.bytes-init
@@ -14,7 +14,7 @@ bytes-preserved c =
       room = length-set _ _ _ ∙ length-set _ _ _ ∙ room;
       behind = drop-set-lt (2 * (i + 1)) _ (2 * i + 1) _ (omega arith) ∙ drop-set-lt (2 * (i + 1)) c.bytes.digits (2 * i) _ (omega arith)
           ∙ drop_more_both c.bytes.digits c.args.digits.now (2 * i) (2 * (i + 1)) (omega arith) c.bytes.invariant.behind;
-      text = digits_more c.args.bytes.now c.bytes.digits c.hex_digits.result c.bytes.i c.bytes-test.true (omega (arith, room, c.requires)) c.hex_digits.ensures c.bytes.invariant.text;
+      text = encode_upper-set c.args.bytes.now c.bytes.digits c.hex_digits.result c.bytes.i c.bytes-test.true (omega (arith, room, c.requires)) c.hex_digits.ensures c.bytes.invariant.text;
     }
 
 pub returns-clause-text : goal.returns-clause-text

@@ -1,5 +1,5 @@
 use Rattle.std.proofs.Common.{sym, ◌∙◌, arith}
-use Rattle.usb_pcap.proofs.Items.{number_ends, number_goes, number_halts, number_over}
+use Rattle.usb_pcap.proofs.Items.{number_on-end, number_goes, number_halts, number_over}
 use Rattle.usb_pcap.proofs.text.number_of.Goals as goal
 
 pub returns-then-not-is_ascii_digit : goal.returns-then-not-is_ascii_digit
@@ -15,4 +15,4 @@ digits-preserved c =
     number_goes c.digits.value c.digits.digit-index _ c.args.text.now _ (omega arith) c.digits.invariant (sym c.is_ascii_digit.ensures.value ∙ c.if-not-is_ascii_digit.false) c.with_digit.ensures c.in-Some.is
 
 pub returns : goal.returns
-returns c = number_ends c.digits.value c.digits.digit-index c.args.text.now (omega arith) c.digits.invariant
+returns c = number_on-end c.digits.value c.digits.digit-index c.args.text.now (omega arith) c.digits.invariant

@@ -2,7 +2,7 @@ use Rattle.std.proofs.Common.{arith, rules, Ok, ◌≡◌, true}
 use Rattle.usb_bus.proofs.Interface.{went_then, went_wider}
 use Rattle.usb_pipe.specs.Control.{control_bound}
 use Rattle.usb_pipe.specs.Stages.{Reads}
-use Rattle.usb_pipe.proofs.ControlTransfers.{read_at_status, read_done, read_told}
+use Rattle.usb_pipe.proofs.ControlTransfers.{read_at_status, control_read_done, read_told}
 use Rattle.usb_pipe.proofs.control.control_in.Given as given
 use Rattle.usb_pipe.proofs.control.control_in.Goals as goal
 use Rattle.usb_pipe.proofs.control.control_in.Goals.{After-from_residual-in_err-data_out, In_ok-data_out}
@@ -16,7 +16,7 @@ at_status g c known =
 
 done : (g : given.Over) (c : goal.In_ok-data_out g) → g.B.Bus.modelled ≡ true → Reads c.args.target c.args.setup (g.B.Bus.world c.args.bus.now) (Ok c.in_ok-bytes.bytes) (g.B.Bus.world c.data_out.new.bus)
 done g c known =
-    read_done c.args.target c.args.setup c.to_bytes-request.result c.in_ok-setup.field-0 c.in_ok-data_out.field-0 c.in_ok-bytes.bytes c.to_bytes-request.ensures.bytes (c.in_ok-setup.ensures.sets_up known).nothing (c.in_ok-data_out.ensures.sends known).nothing (c.in_ok-setup.ensures.sets_up known).heard (c.in_ok-bytes.ensures.packets known) (c.in_ok-data_out.ensures.sends known).heard
+    control_read_done c.args.target c.args.setup c.to_bytes-request.result c.in_ok-setup.field-0 c.in_ok-data_out.field-0 c.in_ok-bytes.bytes c.to_bytes-request.ensures.bytes (c.in_ok-setup.ensures.sets_up known).nothing (c.in_ok-data_out.ensures.sends known).nothing (c.in_ok-setup.ensures.sets_up known).heard (c.in_ok-bytes.ensures.packets known) (c.in_ok-data_out.ensures.sends known).heard
 
 -- What it tells
 
@@ -52,18 +52,18 @@ returns-clause-transfer g c known =
 
 -- What went
 
-pub returns-in_err-setup-clause-went : goal.returns-in_err-setup-clause-went
+pub returns-in_err-setup-clause-steps : goal.returns-in_err-setup-clause-steps
 unfolding control_bound
-returns-in_err-setup-clause-went g c known = went_wider 3 _ (c.setup.ensures.went known) (omega arith)
+returns-in_err-setup-clause-steps g c known = went_wider 3 _ (c.setup.ensures.steps known) (omega arith)
 
-pub returns-in_err-bytes-clause-went : goal.returns-in_err-bytes-clause-went
+pub returns-in_err-bytes-clause-steps : goal.returns-in_err-bytes-clause-steps
 unfolding control_bound
-returns-in_err-bytes-clause-went g c known = went_wider _ _ (went_then _ _ (c.setup.ensures.went known) (c.data_stage.ensures.went known)) (omega arith)
+returns-in_err-bytes-clause-steps g c known = went_wider _ _ (went_then _ _ (c.setup.ensures.steps known) (c.data_stage.ensures.steps known)) (omega arith)
 
-pub returns-in_err-data_out-clause-went : goal.returns-in_err-data_out-clause-went
+pub returns-in_err-data_out-clause-steps : goal.returns-in_err-data_out-clause-steps
 unfolding control_bound
-returns-in_err-data_out-clause-went g c known = went_wider _ _ (went_then _ _ (went_then _ _ (c.setup.ensures.went known) (c.data_stage.ensures.went known)) (c.data_out.ensures.went known)) (omega arith)
+returns-in_err-data_out-clause-steps g c known = went_wider _ _ (went_then _ _ (went_then _ _ (c.setup.ensures.steps known) (c.data_stage.ensures.steps known)) (c.data_out.ensures.steps known)) (omega arith)
 
-pub returns-clause-went : goal.returns-clause-went
+pub returns-clause-steps : goal.returns-clause-steps
 unfolding control_bound
-returns-clause-went g c known = went_wider _ _ (went_then _ _ (went_then _ _ (c.setup.ensures.went known) (c.data_stage.ensures.went known)) (c.data_out.ensures.went known)) (omega arith)
+returns-clause-steps g c known = went_wider _ _ (went_then _ _ (went_then _ _ (c.setup.ensures.steps known) (c.data_stage.ensures.steps known)) (c.data_out.ensures.steps known)) (omega arith)

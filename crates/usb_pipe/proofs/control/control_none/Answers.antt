@@ -39,11 +39,11 @@ returns-clause-transfer g c known =
 
 -- What went
 
-pub returns-in_err-setup-clause-went : goal.returns-in_err-setup-clause-went
-returns-in_err-setup-clause-went g c known = went_wider 3 write_bound (c.setup.ensures.went known) (omega arith)
+pub returns-in_err-setup-clause-steps : goal.returns-in_err-setup-clause-steps
+returns-in_err-setup-clause-steps g c known = went_wider 3 write_bound (c.setup.ensures.steps known) (omega arith)
 
-pub returns-in_err-data_in-clause-went : goal.returns-in_err-data_in-clause-went
-returns-in_err-data_in-clause-went g c known = went_wider (3 + transaction_bound) write_bound (went_then 3 transaction_bound (c.setup.ensures.went known) (c.data_in.ensures.went known)) (omega arith)
+pub returns-in_err-data_in-clause-steps : goal.returns-in_err-data_in-clause-steps
+returns-in_err-data_in-clause-steps g c known = went_wider (3 + transaction_bound) write_bound (went_then 3 transaction_bound (c.setup.ensures.steps known) (c.data_in.ensures.steps known)) (omega arith)
 
-pub returns-clause-went : goal.returns-clause-went
-returns-clause-went g c known = went_wider (3 + transaction_bound) write_bound (went_then 3 transaction_bound (c.setup.ensures.went known) (c.data_in.ensures.went known)) (omega arith)
+pub returns-clause-steps : goal.returns-clause-steps
+returns-clause-steps g c known = went_wider (3 + transaction_bound) write_bound (went_then 3 transaction_bound (c.setup.ensures.steps known) (c.data_in.ensures.steps known)) (omega arith)

@@ -9,15 +9,15 @@ pub packets-preserved : goal.packets-preserved
 packets-preserved g c known =
     let again = ap length c.bytes-in-packets.ensures.value in
     let full : length c.in_ok-packet.packet ≡ c.args.target.max = omega (arith, again, c.if-bytes-from.false, c.from.ensures, (c.in_ok-packet.ensures.asks known).short) in
-    coming_more c.args.target c.args.ep _ c.args.wanted c.requires.target.max_least c.packets-test.true (c.packets.invariant known) (c.data_in.ensures.went known) (c.in_ok-packet.ensures.asks known) c.in_ok-packet.ensures.toggle
+    coming_more c.args.target c.args.ep _ c.args.wanted c.requires.target.max_least c.packets-test.true (c.packets.invariant known) (c.data_in.ensures.steps known) (c.in_ok-packet.ensures.asks known) c.in_ok-packet.ensures.toggle
     c.bytes.ensures.value c.in_ok-extend_from_slice.ensures.items (omega arith) full
 
 pub returns-then-bytes-from : goal.returns-then-bytes-from
 returns-then-bytes-from g c =
     let again = ap length c.bytes-in-packets.ensures.value in
     let short : length c.in_ok-packet.packet < c.args.target.max = omega (arith, again, c.if-bytes-from.true, c.from.ensures) in record {
-      went = λ known. moved_went (c.packets.invariant known).moved c.packets-test.true (c.data_in.ensures.went known);
-      received = λ known. short_received c.args.target c.args.ep _ c.args.wanted c.requires.target.max_least c.packets-test.true (c.packets.invariant known) (c.data_in.ensures.went known) (c.in_ok-packet.ensures.asks known) c.in_ok-packet.ensures.toggle
+      went = λ known. moved_went (c.packets.invariant known).moved c.packets-test.true (c.data_in.ensures.steps known);
+      received = λ known. short_received c.args.target c.args.ep _ c.args.wanted c.requires.target.max_least c.packets-test.true (c.packets.invariant known) (c.data_in.ensures.steps known) (c.in_ok-packet.ensures.asks known) c.in_ok-packet.ensures.toggle
           c.bytes.ensures.value c.in_ok-extend_from_slice.ensures.items refl short;
     }
 
@@ -29,14 +29,14 @@ returns g c = record {
 
 pub returns-in_err-packet : goal.returns-in_err-packet
 returns-in_err-packet g c = record {
-  went = λ known. moved_went (c.packets.invariant known).moved c.packets-test.true (c.data_in.ensures.went known);
-  received = λ known. lost_received c.args.target c.args.ep _ c.args.wanted c.requires.target.max_least c.packets-test.true (c.packets.invariant known) (c.data_in.ensures.went known)
+  went = λ known. moved_went (c.packets.invariant known).moved c.packets-test.true (c.data_in.ensures.steps known);
+  received = λ known. lost_received c.args.target c.args.ep _ c.args.wanted c.requires.target.max_least c.packets-test.true (c.packets.invariant known) (c.data_in.ensures.steps known)
       c.in_err-packet.field-0.0 c.from_residual.result c.from_residual.ensures.0 c.from_residual.ensures.1 (c.in_err-packet.ensures.asks known) c.in_err-packet.ensures.toggle;
 }
 
 pub returns-in_err-extend_from_slice : goal.returns-in_err-extend_from_slice
 returns-in_err-extend_from_slice g c = record {
-  went = λ known. moved_went (c.packets.invariant known).moved c.packets-test.true (c.data_in.ensures.went known);
-  received = λ known. room_received c.args.target c.args.ep _ c.args.wanted c.requires.target.max_least c.packets-test.true (c.packets.invariant known) (c.data_in.ensures.went known)
+  went = λ known. moved_went (c.packets.invariant known).moved c.packets-test.true (c.data_in.ensures.steps known);
+  received = λ known. room_received c.args.target c.args.ep _ c.args.wanted c.requires.target.max_least c.packets-test.true (c.packets.invariant known) (c.data_in.ensures.steps known)
       c.in_ok-packet.packet c.from_residual-in_err-extend_from_slice.result c.from_residual-in_err-extend_from_slice.ensures.0 c.from_residual-in_err-extend_from_slice.ensures.1 (c.in_ok-packet.ensures.asks known) c.in_ok-packet.ensures.toggle;
 }

@@ -1,11 +1,11 @@
 use Rattle.std.proofs.Common.{rules, ◌≡◌, ◌∙◌, sym, Bool, nat_eq, ℕ, ◌<◌, length, arith, false, true, ◌≢◌}
 use Rattle.std.proofs.lemmas.Bool.{eqb-true, eqb-false}
 use Rattle.std.proofs.lemmas.List.{nil_from_length}
-use Rattle.usb_pipe.proofs.MovedPackets.{going_none, going_more, all_sent, lost_sent}
+use Rattle.usb_pipe.proofs.MovedPackets.{moving_none, going_more, all_sent, lost_sent}
 use Rattle.usb_pipe.proofs.packets.send_packets.Goals as goal
 
 pub packets-init : goal.packets-init
-packets-init g c known = going_none c.args.target c.args.ep _ c.args.bytes.now _ _
+packets-init g c known = moving_none c.args.target c.args.ep _ c.args.bytes.now _ _
 
 nonzero : (n : ℕ) (b : Bool) → b ≡ nat_eq n 0 → b ≡ false → 0 < n
 nonzero n b is e = let no : n ≢ 0 = eqb-false n 0 (sym is ∙ e) in omega arith
@@ -18,7 +18,7 @@ packets-smaller g c =
 pub packets-preserved : goal.packets-preserved
 packets-preserved g c known =
     going_more c.args.target c.args.ep _ c.args.bytes.now c.requires.target.max_least c.min.result (nonzero _ _ c.is_empty.ensures c.packets-test.true) (omega (arith, c.min.ensures, c.from.ensures))
-    c.split_at.ensures.front (c.packets.invariant known) (c.data_out.ensures.went known) c.split_at.ensures.back (c.in_ok-data_out.ensures.sends known) c.in_ok-data_out.ensures.toggle
+    c.split_at.ensures.front (c.packets.invariant known) (c.data_out.ensures.steps known) c.split_at.ensures.back (c.in_ok-data_out.ensures.sends known) c.in_ok-data_out.ensures.toggle
 
 pub returns : goal.returns
 returns g c =
@@ -29,5 +29,5 @@ returns g c =
 pub returns-in_err-data_out : goal.returns-in_err-data_out
 returns-in_err-data_out g c =
     let front = λ (known : g.B.Bus.modelled ≡ true). lost_sent c.args.target c.args.ep _ c.args.bytes.now c.requires.target.max_least c.min.result (nonzero _ _ c.is_empty.ensures c.packets-test.true) (omega (arith, c.min.ensures, c.from.ensures))
-    c.split_at.ensures.front (c.packets.invariant known) (c.data_out.ensures.went known) c.in_err-data_out.field-0.0 c.from_residual.result c.from_residual.ensures.0 c.from_residual.ensures.1 (search rules)
+    c.split_at.ensures.front (c.packets.invariant known) (c.data_out.ensures.steps known) c.in_err-data_out.field-0.0 c.from_residual.result c.from_residual.ensures.0 c.from_residual.ensures.1 (search rules)
     (c.in_err-data_out.ensures.sends known) c.in_err-data_out.ensures.toggle in record { went = λ known. (front known).1; sent = λ known. (front known).0 }

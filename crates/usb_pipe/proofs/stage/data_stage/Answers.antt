@@ -1,10 +1,10 @@
 use Rattle.std.proofs.Common.{rules, ◌≤◌, ◌≡◌, ◌-◌, ◌++◌, take, length, arith, sym, ap, ◌∙◌, true, false}
 use Rattle.usb_pipe.specs.Control.{ends_stage}
-use Rattle.usb_pipe.proofs.ControlTransfers.{onward_none, onward_more, onward_went, data_ends, lost_ends, no_room_ends}
+use Rattle.usb_pipe.proofs.ControlTransfers.{read_progress_none, onward_more, onward_went, data_ends, lost_ends, no_room_ends}
 use Rattle.usb_pipe.proofs.stage.data_stage.Goals as goal
 
 pub packets-init : goal.packets-init
-packets-init g c = (search rules, λ known. onward_none c.args.target c.args.wanted _ _ _ c.requires.some c.new-bytes.ensures.items)
+packets-init g c = (search rules, λ known. read_progress_none c.args.target c.args.wanted _ _ _ c.requires.some c.new-bytes.ensures.items)
 
 pub packets-preserved : goal.packets-preserved
 packets-preserved g c =
@@ -15,7 +15,7 @@ packets-preserved g c =
     (fits, λ known.
     let asked = c.in_ok-packet.ensures.asks known in
     onward_more c.in_ok-packet.packet c.requires.target.max_least (c.packets.invariant.1 known)
-        asked.heard asked.ends (c.data_in.ensures.went known) kept more
+        asked.heard asked.ends (c.data_in.ensures.steps known) kept more
             c.in_ok-packet.ensures.toggle)
 
 pub returns-then-last-clause-packets : goal.returns-then-last-clause-packets
@@ -31,11 +31,11 @@ returns-in_err-packet-clause-packets g c known = lost_ends _ c.in_err-packet.fie
 pub returns-in_err-keep-clause-packets : goal.returns-in_err-keep-clause-packets
 returns-in_err-keep-clause-packets g c known = no_room_ends c.in_ok-packet.packet c.from_residual-in_err-keep.result c.from_residual-in_err-keep.ensures.0 c.from_residual-in_err-keep.ensures.1 (c.packets.invariant.1 known) (c.in_ok-packet.ensures.asks known).heard
 
-pub returns-in_err-packet-clause-went : goal.returns-in_err-packet-clause-went
-returns-in_err-packet-clause-went g c known = onward_went (c.packets.invariant.1 known) (c.data_in.ensures.went known)
+pub returns-in_err-packet-clause-steps : goal.returns-in_err-packet-clause-steps
+returns-in_err-packet-clause-steps g c known = onward_went (c.packets.invariant.1 known) (c.data_in.ensures.steps known)
 
-pub returns-in_err-keep-clause-went : goal.returns-in_err-keep-clause-went
-returns-in_err-keep-clause-went g c known = onward_went (c.packets.invariant.1 known) (c.data_in.ensures.went known)
+pub returns-in_err-keep-clause-steps : goal.returns-in_err-keep-clause-steps
+returns-in_err-keep-clause-steps g c known = onward_went (c.packets.invariant.1 known) (c.data_in.ensures.steps known)
 
-pub returns-then-last-clause-went : goal.returns-then-last-clause-went
-returns-then-last-clause-went g c known = onward_went (c.packets.invariant.1 known) (c.data_in.ensures.went known)
+pub returns-then-last-clause-steps : goal.returns-then-last-clause-steps
+returns-then-last-clause-steps g c known = onward_went (c.packets.invariant.1 known) (c.data_in.ensures.steps known)

@@ -11,7 +11,7 @@ use Rattle.usb_plan.specs.Event.{event_in}
 use Rattle.usb_plan.proofs.Parts.{event_in_ok, entry_at_ok}
 use Rattle.usb_plan.proofs.MemoryRefusals.{entry_at_told, entry_at_read, unless_handed}
 use Rattle.usb_plan.proofs.Growth.{events_from-step, events_from-fault, events_from-end, events_fit-push}
-use Rattle.usb_world.proofs.Interface.{plugged_next}
+use Rattle.usb_world.proofs.Interface.{plugged_by-next}
 use Rattle.usb_plan.proofs.event.events_of.Goals as goal
 
 pub loop-i-init : goal.loop-i-init
@@ -39,7 +39,7 @@ loop-i-preserved c =
     let same : EqualUnless Memory c.event_in-read.result spelled = rw (c.loop-i.invariant.scene, c.as_slice-count.ensures.value, c.as_table.ensures) at c.event_in-read.ensures in
     let good = entry_at_read (place.Event (c.loop-i.i + 1)) c.event_in-read.result spelled c.entry_at.result c.in_ok-event.event same c.entry_at.ensures c.in_ok-event.was in
     let follows = event_in_ok (scene_after c.args.roots c.args.devices.now c.loop-i.done) (length c.loop-i.done) (as_table (view v)) c.in_ok-event.event (entry_at_ok _ spelled c.in_ok-event.event good) in
-    let grown = plugged_next [] c.loop-i.done c.in_ok-event.event in
+    let grown = plugged_by-next [] c.loop-i.done c.in_ok-event.event in
     record {
       so_far = rw c.in_ok-push.ensures.ok (events_from-step c.args.roots c.args.devices.now c.loop-i.done c.args.values.now c.loop-i.i v spelled c.in_ok-event.event _ c.loop-i-test.true c.index-values-i.is refl good c.loop-i.invariant.so_far);
       fit = rw c.in_ok-push.ensures.ok (events_fit-push c.args.roots c.args.devices.now [] c.loop-i.done c.in_ok-event.event c.loop-i.invariant.fit follows.fits);

@@ -4,10 +4,10 @@ use Rattle.usb_world.specs.World.{to_come}
 use Rattle.usb_serve.specs.RunSegments.{Arrives, idle}
 use Rattle.usb_serve.specs.Transcript.{asked, in_item}
 use Rattle.usb_serve.specs.Transfers.{IsItemOf}
-use Rattle.usb_serve.proofs.Ends.{failed_on}
+use Rattle.usb_serve.proofs.Ends.{error_runs_on}
 use Rattle.usb_serve.proofs.KnowledgeKept.{ran_knows}
 use Rattle.usb_serve.proofs.Moments.{item_right}
-use Rattle.usb_serve.proofs.RunParts.{does_spent, no_more_events, ran_silent, reaches_after, spent_none, spent_then, stops_after}
+use Rattle.usb_serve.proofs.RunParts.{does_spent, no_more_events, ran_silent, arrival_reaches, spent_none, spent_then, stops_after}
 use Rattle.usb_serve.proofs.runs.item_of_events.Goals as goal
 
 pub events-init : goal.events-init
@@ -15,25 +15,25 @@ events-init g c = record { running = c.requires.running; goes = λ s. idle; spen
 
 pub returns-in_err-due-clause-on : goal.returns-in_err-due-clause-on
 returns-in_err-due-clause-on g c =
-    failed_on _ c.from_residual.result c.in_err-due.field-0.0 c.from_residual.ensures.1
+    error_runs_on _ c.from_residual.result c.in_err-due.field-0.0 c.from_residual.ensures.1
     (λ s. let before = c.events.invariant.goes s in stops_after before (c.in_err-due.ensures.on.goes (ran_knows before s))) c.in_err-due.ensures.on.caused
 
 pub returns-in_default-clause-on : goal.returns-in_default-clause-on
 returns-in_default-clause-on g c = record {
   goes = λ s.
       let before = c.events.invariant.goes s in
-      reaches_after before (subst (λ x. Arrives c.events.host (Ok x) c.next_due.new.host) c.in_default.is (c.in_ok-due.ensures.on.goes (ran_knows before s)));
+      arrival_reaches before (subst (λ x. Arrives c.events.host (Ok x) c.next_due.new.host) c.in_default.is (c.in_ok-due.ensures.on.goes (ran_knows before s)));
   running = c.in_ok-due.ensures.on.running;
   caused = tt;
 }
 
 pub returns-in_err-item-clause-on : goal.returns-in_err-item-clause-on
 returns-in_err-item-clause-on g c =
-    failed_on _ c.from_residual-in_err-item.result c.in_err-item.field-0.0 c.from_residual-in_err-item.ensures.1
+    error_runs_on _ c.from_residual-in_err-item.result c.in_err-item.field-0.0 c.from_residual-in_err-item.ensures.1
     (λ s.
     let before = c.events.invariant.goes s in
     let arrives = subst (λ x. Arrives c.events.host (Ok x) c.next_due.new.host) c.in-Some.is (c.in_ok-due.ensures.on.goes (ran_knows before s)) in
-    in_item c.in-Some.due (reaches_after before arrives) c.in_err-item.ensures.on.goes)
+    in_item c.in-Some.due (arrival_reaches before arrives) c.in_err-item.ensures.on.goes)
     c.in_err-item.ensures.on.caused
 
 pub returns-in-Some-2-clause-on : goal.returns-in-Some-2-clause-on
@@ -41,7 +41,7 @@ returns-in-Some-2-clause-on g c = record {
   goes = λ s.
       let before = c.events.invariant.goes s in
       let arrives = subst (λ x. Arrives c.events.host (Ok x) c.next_due.new.host) c.in-Some.is (c.in_ok-due.ensures.on.goes (ran_knows before s)) in
-      let reaches = reaches_after before arrives in
+      let reaches = arrival_reaches before arrives in
       let is = subst (λ x. IsItemOf c.in-Some.due x c.next_due.new.host c.item_of.new.host) c.in-Some-2.is c.in_ok-item.ensures.on.goes in
       asked c.in-Some.due reaches is (item_right c.in-Some.due c.in-Some-2.item _ _ _ reaches is);
   running = c.in_ok-item.ensures.on.running;

@@ -1,6 +1,6 @@
 use Rattle.std.proofs.Common.{◌≡◌, false}
 use Rattle.usb_world.specs.World.{to_come}
-use Rattle.usb_host.specs.Ownership.{Owning}
+use Rattle.usb_host.specs.Ownership.{HostMapHolds}
 use Rattle.usb_serve.specs.Run.{Spent}
 use Rattle.usb_serve.specs.RunSegments.{Knows, Ran}
 use Rattle.usb_serve.proofs.runs.item_of_events.Given as goal
@@ -10,7 +10,7 @@ invariant-events g l = record {
   running : l.host.stopped ≡ false;
   goes : Knows l.fn.host → Ran l.fn.host l.host;
   spent : Spent l.fn.host l.host;
-  owning : Owning l.fn.host → Owning l.host;
+  owning : HostMapHolds l.fn.host → HostMapHolds l.host;
 }
 
 -- events to come

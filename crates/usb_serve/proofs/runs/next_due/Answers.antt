@@ -3,8 +3,8 @@ use Rattle.usb_bus.specs.Sim.{world_of}
 use Rattle.usb_serve.specs.RunSegments.{idle}
 use Rattle.usb_serve.specs.Run.{run_fault}
 use Rattle.usb_serve.specs.Transcript.{at_event, in_round}
-use Rattle.usb_serve.proofs.RunParts.{arrives_taken, reaches_after, settling_spent, taken_fewer, taken_spent}
-use Rattle.usb_serve.proofs.Ends.{caused_by, failed_on}
+use Rattle.usb_serve.proofs.RunParts.{arrives_taken, arrival_reaches, settling_spent, taken_fewer, taken_spent}
+use Rattle.usb_serve.proofs.Ends.{failed_is_caused, error_runs_on}
 use Rattle.usb_serve.proofs.Ownership.{owning_event}
 use Rattle.usb_serve.proofs.runs.next_due.Goals as goal
 
@@ -30,14 +30,14 @@ returns-clause-on g c = record {
 
 pub returns-in_err-apply_next_event-clause-on : goal.returns-in_err-apply_next_event-clause-on
 returns-in_err-apply_next_event-clause-on g c =
-    failed_on _ c.from_residual-in_err-apply_next_event.result (run_fault c.in_err-apply_next_event.field-0.0) c.from_residual-in_err-apply_next_event.ensures.1
-    (λ s. at_event c.in_err-apply_next_event.field-0.0 (reaches_after idle
+    error_runs_on _ c.from_residual-in_err-apply_next_event.result (run_fault c.in_err-apply_next_event.field-0.0) c.from_residual-in_err-apply_next_event.ensures.1
+    (λ s. at_event c.in_err-apply_next_event.field-0.0 (arrival_reaches idle
     (arrives_taken c.args.host.now c.settle.new.host _ _ c.in_ok-settle.ensures.on.goes (c.in_ok-settle.ensures.leaves.settled c.bus_mut.ensures.agree s) c.bus_mut.ensures.agree refl c.bus_mut.ensures.world c.bus_mut.ensures.trace c.in_err-apply_next_event.ensures.takes)))
-    (caused_by _ _ c.in_err-apply_next_event.ensures.takes.took.ends)
+    (failed_is_caused _ _ c.in_err-apply_next_event.ensures.takes.took.ends)
 
 pub returns-in_err-settle-clause-on : goal.returns-in_err-settle-clause-on
 returns-in_err-settle-clause-on g c =
-    failed_on _ c.from_residual.result c.in_err-settle.field-0.0 c.from_residual.ensures.1 (λ s. in_round idle c.in_err-settle.ensures.on.goes) c.in_err-settle.ensures.on.caused
+    error_runs_on _ c.from_residual.result c.in_err-settle.field-0.0 c.from_residual.ensures.1 (λ s. in_round idle c.in_err-settle.ensures.on.goes) c.in_err-settle.ensures.on.caused
 
 pub returns-in_err-settle-clause-spent : goal.returns-in_err-settle-clause-spent
 returns-in_err-settle-clause-spent g c = settling_spent c.args.host.now c.settle.new.host c.settle.result c.settle.ensures.on.goes

@@ -1,10 +1,10 @@
 use Rattle.std.proofs.Common.{◌∙◌, refl, sym}
-use Rattle.usb_serve.proofs.Ends.{failed_on, answered_goes, answered_caused}
+use Rattle.usb_serve.proofs.Ends.{error_runs_on, answered_goes, answered_caused}
 use Rattle.usb_serve.proofs.runs.receive.Goals as goal
 
 pub returns-in_err-received-clause-on : goal.returns-in_err-received-clause-on
 returns-in_err-received-clause-on g c =
-    failed_on _ c.from_residual.result c.in_err-received.field-0.0 c.from_residual.ensures.1
+    error_runs_on _ c.from_residual.result c.in_err-received.field-0.0 c.from_residual.ensures.1
     (record {
       answer = c.receive.result;
       call = c.receive.ensures.tells refl;

@@ -1,7 +1,7 @@
 use Rattle.std.proofs.Common.{◌≡◌, ◌≢◌, ◌∙◌, ap, inl, refl, subst, Some, Err}
 use Rattle.usb_world.specs.declared.types.BusFault.TheVariants as bus
 use Rattle.usb_world.specs.World.{World}
-use Rattle.usb_host.specs.Hosting.{Hosting}
+use Rattle.usb_host.specs.HostState.{HostState}
 use Rattle.usb_serve.specs.declared.runs.RunFault.TheVariants.{Memory}
 use Rattle.usb_serve.proofs.Ends.{knows_opened}
 use Rattle.usb_serve.proofs.Enough.{ends_enough}
@@ -15,7 +15,7 @@ pub returns-clause-ends : goal.returns-clause-ends
 returns-clause-ends c =
     let opened = c.in-Ok.ensures.opened in
     let same : c.bus.result.now.fault ≡ c.finish-report.new.self.host.world.fault =
-    ap (λ (w : World). w.fault) c.bus.ensures.world ∙ ap (λ (h : Hosting). h.world.fault) c.host.ensures in
+    ap (λ (w : World). w.fault) c.bus.ensures.world ∙ ap (λ (h : HostState). h.world.fault) c.host.ensures in
     let other : c.finish-report.new.self.host.world.fault ≢ Some bus.TraceFailed = subst (λ f. f ≢ Some bus.TraceFailed) same c.untraced_fault.ensures in
     ends_untraced c.args.plan.now _ _ c.in-Ok.runner.host c.finish-report.new.self.host c.finish-report.result opened c.in-Ok.ensures.going (c.finish-report.ensures.finishes (λ _. knows_opened c.args.plan.now c.in-Ok.runner.host opened)) c.finish-report.new.self.owning.single other
 

@@ -1,11 +1,11 @@
 use Rattle.std.proofs.Common.{refl, ◌∙◌, sym, ap, Some}
 use Rattle.usb_serve.specs.declared.runs.Item.TheVariants.{Sent}
-use Rattle.usb_serve.proofs.Ends.{failed_on, answered_goes, answered_caused}
+use Rattle.usb_serve.proofs.Ends.{error_runs_on, answered_goes, answered_caused}
 use Rattle.usb_serve.proofs.runs.send.Goals as goal
 
 pub returns-in_err-sent-clause-on : goal.returns-in_err-sent-clause-on
 returns-in_err-sent-clause-on g c =
-    failed_on _ c.from_residual.result c.in_err-sent.field-0.0 c.from_residual.ensures.1
+    error_runs_on _ c.from_residual.result c.in_err-sent.field-0.0 c.from_residual.ensures.1
     (record {
       answer = c.send.result;
       call = c.send.ensures.tells refl;

@@ -5,7 +5,7 @@ use Rattle.usb_host.specs.contracts.host.Round.{the_type}
 use Rattle.usb_host.specs.declared.host.Round.{Round}
 use Rattle.usb_host.specs.declared.host.Round.TheVariants.{Quiet}
 use Rattle.usb_serve.specs.RunSegments.{EndsSettling, none, more}
-use Rattle.usb_serve.proofs.Ends.{failed_on}
+use Rattle.usb_serve.proofs.Ends.{error_runs_on}
 use Rattle.usb_serve.proofs.KnowledgeKept.{settles_leaves}
 use Rattle.usb_serve.proofs.RoundEnds.{rounds_fall}
 use Rattle.usb_serve.proofs.runs.settle.Goals.{else-eq-via-then-eq+else-events_taken-taken, else-eq-via-else-eq}
@@ -47,7 +47,7 @@ rounds-preserved g c =
 
 pub returns-in_err-round-clause-on : goal.returns-in_err-round-clause-on
 returns-in_err-round-clause-on g c =
-    failed_on _ c.from_residual.result c.in_err-round.field-0.0 c.from_residual.ensures.1 (record { before = c.rounds.host; rounds = c.rounds.invariant.goes; last = c.in_err-round.ensures.on.goes })
+    error_runs_on _ c.from_residual.result c.in_err-round.field-0.0 c.from_residual.ensures.1 (record { before = c.rounds.host; rounds = c.rounds.invariant.goes; last = c.in_err-round.ensures.on.goes })
     c.in_err-round.ensures.on.caused
 
 pub returns-then-events_taken-taken-clause-on : goal.returns-then-events_taken-taken-clause-on

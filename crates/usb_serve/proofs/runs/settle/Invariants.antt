@@ -1,5 +1,5 @@
 use Rattle.std.proofs.Common.{◌≡◌, false}
-use Rattle.usb_host.specs.Ownership.{Owning}
+use Rattle.usb_host.specs.Ownership.{HostMapHolds}
 use Rattle.usb_serve.specs.RunSegments.{Rounds}
 use Rattle.usb_serve.proofs.RoundEnds.{rounds_left}
 use Rattle.usb_serve.proofs.runs.settle.Given as goal
@@ -8,7 +8,7 @@ abbrev pub invariant-rounds : goal.invariant-rounds
 invariant-rounds g l = record {
   running : l.host.stopped ≡ false;
   goes : Rounds l.fn.host l.host;
-  owning : Owning l.fn.host → Owning l.host;
+  owning : HostMapHolds l.fn.host → HostMapHolds l.host;
 }
 
 -- what is left to do, and what may still come

@@ -1,7 +1,7 @@
 use Rattle.std.proofs.Common.{◌≡◌, ◌≢◌, ◌∙◌, ap, subst, Some}
 use Rattle.usb_world.specs.declared.types.BusFault.TheVariants as bus
 use Rattle.usb_world.specs.World.{World}
-use Rattle.usb_host.specs.Hosting.{Hosting}
+use Rattle.usb_host.specs.HostState.{HostState}
 use Rattle.usb_serve.proofs.Causes.{untold_fault}
 use Rattle.usb_serve.proofs.serving.next_untraced.Goals as goal
 
@@ -11,5 +11,5 @@ returns-clause-next c = λ knows. c.next_item-item.ensures.next knows
 pub returns-clause-untraced : goal.returns-clause-untraced
 returns-clause-untraced c =
     let same : c.bus.result.now.fault ≡ c.next_item-item.new.self.host.world.fault =
-    ap (λ (w : World). w.fault) c.bus.ensures.world ∙ ap (λ (h : Hosting). h.world.fault) c.host.ensures in
+    ap (λ (w : World). w.fault) c.bus.ensures.world ∙ ap (λ (h : HostState). h.world.fault) c.host.ensures in
     untold_fault c.next_item-item.result c.next_item-item.new.self.host.world c.next_item-item.ensures.caused (subst (λ f. f ≢ Some bus.TraceFailed) same c.untraced_fault.ensures)

@@ -5,7 +5,7 @@ use Rattle.std.specs.Prelude.{All}
 use Rattle.usb_bus.specs.Watch.{AppendsFront}
 use Rattle.usb_serve.specs.ServeResults.{IsLine}
 use Rattle.usb_serve.proofs.Causes.{line_calm, line_kept}
-use Rattle.usb_serve.proofs.Transcripts.{texts_split, texts_more, puts_line, cuts_line}
+use Rattle.usb_serve.proofs.Transcripts.{texts_split, flat_map-take, puts_line, cuts_line}
 use Rattle.usb_serve.proofs.serving.put_lines.Goals as goal
 
 -- a line without its newline, and the newline
@@ -41,7 +41,7 @@ lines-preserved g c =
     rw (add-one)
     (record {
       puts = puts_line (flat_map (λ x. x.items) (take i vs)) v.items (flat_map (λ x. x.items) (take (suc i) vs)) c.lines.invariant.puts c.put_line.ensures.puts.rests
-          c.in_default.ensures.puts.step.ends.1 (subst (Appends h.trace l.trace) line c.in_default.ensures.puts.ok) (texts_more vs i v c.lines-test.true c.line-item.is);
+          c.in_default.ensures.puts.step.ends.1 (subst (Appends h.trace l.trace) line c.in_default.ensures.puts.ok) (flat_map-take vs i v c.lines-test.true c.line-item.is);
       over = c.put_line.ensures.over ∙ c.lines.invariant.over;
       calm = line_calm c.args.runner.now.host h l c.in_default.ensures.puts.step.ends;
     })

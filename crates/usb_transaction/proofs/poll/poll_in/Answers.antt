@@ -4,8 +4,8 @@ use Rattle.usb_transaction.specs.HeardOutcomes.{heard_as, polled}
 use Rattle.usb_transaction.specs.declared.heard_outcome.HeardOutcome.TheVariants.{Repeat}
 use Rattle.usb_transaction.specs.declared.fault.TransFault.TheVariants.{Stalled, Busy, NoAnswer, Bus}
 use Rattle.usb_transaction.proofs.Calls.{polls_in}
-use Rattle.usb_transaction.proofs.LastOutcomes.{heard_nak, heard_stall}
-use Rattle.usb_transaction.proofs.TransactionTries.{once, read_fits, stands_error, stands_new, stands_waited, told_busy, told_cut, told_moved, told_silent, told_stalled, told_waiting, went_last}
+use Rattle.usb_transaction.proofs.LastOutcomes.{heard_as-nak, heard_stall}
+use Rattle.usb_transaction.proofs.TransactionTries.{attempted_once, read_fits, stands_error, stands_new, stands_waited, told_busy, told_cut, told_moved, told_silent, told_stalled, told_waiting, went_last}
 use Rattle.usb_transaction.proofs.poll.poll_in.Goals as goal
 
 pub tries-init : goal.tries-init
@@ -17,7 +17,7 @@ tries-preserved-in-Continue-1 g c = (
   (search rules, search rules),
   λ known.
     let asked = c.attempt_of_in-attempt.ensures in
-    let one = once asked.value asked.fits (c.in-Ok.ensures.attempts known) in
+    let one = attempted_once asked.value asked.fits (c.in-Ok.ensures.attempts known) in
     let awaited = ap (λ t. heard_as t c.in-Ok.outcome) c.tries.invariant.0 in
     stands_waited (c.tries.invariant.2 known) one Repeat _
         (ap polled (c.in-Repeat.ensures ∙ awaited)) (inr refl) c.wait.ensures.count
@@ -30,7 +30,7 @@ tries-preserved g c = (
   (search rules, search rules),
   λ known.
     let asked = c.attempt_of_in-attempt.ensures in
-    let one = once asked.value asked.fits (c.in-Ok.ensures.attempts known) in
+    let one = attempted_once asked.value asked.fits (c.in-Ok.ensures.attempts known) in
     let awaited = ap (λ t. heard_as t c.in-Ok.outcome) c.tries.invariant.0 in
     stands_error (c.tries.invariant.2 known) one _ (ap polled (c.in-Lost.ensures ∙ awaited))
         c.error.ensures.count c.in_ok-error-in-Lost.ensures.end,
@@ -40,7 +40,7 @@ pub returns-in-Moved-clause-polls : goal.returns-in-Moved-clause-polls
 returns-in-Moved-clause-polls g c known =
     let settled = g.met.B.Bus.settled known c.args.bus.now in
     let asked = c.attempt_of_in-attempt.ensures in
-    let one = once asked.value asked.fits (c.in-Ok.ensures.attempts known) in
+    let one = attempted_once asked.value asked.fits (c.in-Ok.ensures.attempts known) in
     let awaited = ap (λ t. heard_as t c.in-Ok.outcome) c.tries.invariant.0 in
     let moved = c.in-Moved.ensures ∙ awaited in
     let it = told_moved (c.tries.invariant.2 known) one c.in-Moved.bytes (sym (ap polled moved)) in
@@ -52,9 +52,9 @@ pub returns-in-NotReady-clause-polls : goal.returns-in-NotReady-clause-polls
 returns-in-NotReady-clause-polls g c known =
     let settled = g.met.B.Bus.settled known c.args.bus.now in
     let asked = c.attempt_of_in-attempt.ensures in
-    let one = once asked.value asked.fits (c.in-Ok.ensures.attempts known) in
+    let one = attempted_once asked.value asked.fits (c.in-Ok.ensures.attempts known) in
     let awaited = ap (λ t. heard_as t c.in-Ok.outcome) c.tries.invariant.0 in
-    let it = told_waiting (c.tries.invariant.2 known) one (heard_nak _ _ (c.in-NotReady.ensures ∙ awaited)) in
+    let it = told_waiting (c.tries.invariant.2 known) one (heard_as-nak _ _ (c.in-NotReady.ensures ∙ awaited)) in
     polls_in c.args.target c.args.ep c.args.toggle.now _ _ c.requires.target.max_least settled
         (Ok None) it tt
 
@@ -62,7 +62,7 @@ pub returns-in_err-wait-in-Repeat-clause-polls : goal.returns-in_err-wait-in-Rep
 returns-in_err-wait-in-Repeat-clause-polls g c known =
     let settled = g.met.B.Bus.settled known c.args.bus.now in
     let asked = c.attempt_of_in-attempt.ensures in
-    let one = once asked.value asked.fits (c.in-Ok.ensures.attempts known) in
+    let one = attempted_once asked.value asked.fits (c.in-Ok.ensures.attempts known) in
     let awaited = ap (λ t. heard_as t c.in-Ok.outcome) c.tries.invariant.0 in
     let end = c.in_err-wait-in-Repeat.ensures.end in
     let told = err_from_is_err_and c.from_residual.result c.from_residual.ensures.1 in
@@ -74,7 +74,7 @@ pub returns-in-Refused-clause-polls : goal.returns-in-Refused-clause-polls
 returns-in-Refused-clause-polls g c known =
     let settled = g.met.B.Bus.settled known c.args.bus.now in
     let asked = c.attempt_of_in-attempt.ensures in
-    let one = once asked.value asked.fits (c.in-Ok.ensures.attempts known) in
+    let one = attempted_once asked.value asked.fits (c.in-Ok.ensures.attempts known) in
     let awaited = ap (λ t. heard_as t c.in-Ok.outcome) c.tries.invariant.0 in
     let it = told_stalled (c.tries.invariant.2 known) one (heard_stall _ _ (c.in-Refused.ensures ∙ awaited)) in
     polls_in c.args.target c.args.ep c.args.toggle.now _ _ c.requires.target.max_least settled
@@ -84,7 +84,7 @@ pub returns-in_err-error-in-Lost-clause-polls : goal.returns-in_err-error-in-Los
 returns-in_err-error-in-Lost-clause-polls g c known =
     let settled = g.met.B.Bus.settled known c.args.bus.now in
     let asked = c.attempt_of_in-attempt.ensures in
-    let one = once asked.value asked.fits (c.in-Ok.ensures.attempts known) in
+    let one = attempted_once asked.value asked.fits (c.in-Ok.ensures.attempts known) in
     let awaited = ap (λ t. heard_as t c.in-Ok.outcome) c.tries.invariant.0 in
     let end = c.in_err-error-in-Lost.ensures.end in
     let told = err_from_is_err_and c.from_residual-in_err-error-in-Lost.result c.from_residual-in_err-error-in-Lost.ensures.1 in
@@ -101,20 +101,20 @@ returns-in-Err-clause-polls g c known =
     polls_in c.args.target c.args.ep c.args.toggle.now _ _ c.requires.target.max_least settled
         (Err (Bus c.in-Err.fault)) it tt
 
-pub returns-in-Moved-clause-went : goal.returns-in-Moved-clause-went
-returns-in-Moved-clause-went g c known = went_last (c.tries.invariant.2 known) c.attempt_of_in-attempt.ensures.fits (c.in-Ok.ensures.attempts known)
+pub returns-in-Moved-clause-steps : goal.returns-in-Moved-clause-steps
+returns-in-Moved-clause-steps g c known = went_last (c.tries.invariant.2 known) c.attempt_of_in-attempt.ensures.fits (c.in-Ok.ensures.attempts known)
 
-pub returns-in-NotReady-clause-went : goal.returns-in-NotReady-clause-went
-returns-in-NotReady-clause-went g c known = went_last (c.tries.invariant.2 known) c.attempt_of_in-attempt.ensures.fits (c.in-Ok.ensures.attempts known)
+pub returns-in-NotReady-clause-steps : goal.returns-in-NotReady-clause-steps
+returns-in-NotReady-clause-steps g c known = went_last (c.tries.invariant.2 known) c.attempt_of_in-attempt.ensures.fits (c.in-Ok.ensures.attempts known)
 
-pub returns-in_err-wait-in-Repeat-clause-went : goal.returns-in_err-wait-in-Repeat-clause-went
-returns-in_err-wait-in-Repeat-clause-went g c known = went_last (c.tries.invariant.2 known) c.attempt_of_in-attempt.ensures.fits (c.in-Ok.ensures.attempts known)
+pub returns-in_err-wait-in-Repeat-clause-steps : goal.returns-in_err-wait-in-Repeat-clause-steps
+returns-in_err-wait-in-Repeat-clause-steps g c known = went_last (c.tries.invariant.2 known) c.attempt_of_in-attempt.ensures.fits (c.in-Ok.ensures.attempts known)
 
-pub returns-in-Refused-clause-went : goal.returns-in-Refused-clause-went
-returns-in-Refused-clause-went g c known = went_last (c.tries.invariant.2 known) c.attempt_of_in-attempt.ensures.fits (c.in-Ok.ensures.attempts known)
+pub returns-in-Refused-clause-steps : goal.returns-in-Refused-clause-steps
+returns-in-Refused-clause-steps g c known = went_last (c.tries.invariant.2 known) c.attempt_of_in-attempt.ensures.fits (c.in-Ok.ensures.attempts known)
 
-pub returns-in_err-error-in-Lost-clause-went : goal.returns-in_err-error-in-Lost-clause-went
-returns-in_err-error-in-Lost-clause-went g c known = went_last (c.tries.invariant.2 known) c.attempt_of_in-attempt.ensures.fits (c.in-Ok.ensures.attempts known)
+pub returns-in_err-error-in-Lost-clause-steps : goal.returns-in_err-error-in-Lost-clause-steps
+returns-in_err-error-in-Lost-clause-steps g c known = went_last (c.tries.invariant.2 known) c.attempt_of_in-attempt.ensures.fits (c.in-Ok.ensures.attempts known)
 
-pub returns-in-Err-clause-went : goal.returns-in-Err-clause-went
-returns-in-Err-clause-went g c known = went_last (c.tries.invariant.2 known) c.attempt_of_in-attempt.ensures.fits (c.in-Err.ensures.attempts known)
+pub returns-in-Err-clause-steps : goal.returns-in-Err-clause-steps
+returns-in-Err-clause-steps g c known = went_last (c.tries.invariant.2 known) c.attempt_of_in-attempt.ensures.fits (c.in-Err.ensures.attempts known)

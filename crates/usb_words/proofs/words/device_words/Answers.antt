@@ -2,13 +2,13 @@ use Rattle.std.proofs.Common.{◌∙◌, sym, codes}
 use Rattle.clap.specs.Walk.{one_of, rows_of}
 use Rattle.clap.specs.Matches.{found_of, one_text, first_value}
 use Rattle.clap.proofs.WalkLemmas.{first_value-rows, one_text-rows}
-use Rattle.usb_words.proofs.Numbers.{text_of}
+use Rattle.usb_words.proofs.Numbers.{number_text}
 use Rattle.usb_words.proofs.words.device_words.Goals as goal
 
 pub returns : goal.returns
 returns c =
     let found = found_of c.args.found.now in
-    let text = text_of (one_text found (codes "ports")) c.get_one.result c.in_ok-ports.ports c.get_one.ensures.none c.in_ok-ports.was in
+    let text = number_text (one_text found (codes "ports")) c.get_one.result c.in_ok-ports.ports c.get_one.ensures.none c.in_ok-ports.was in
     let read = c.in_ok-ports.ensures.value text.0 text.1 in
     record {
       name = sym (first_value-rows found (codes "name")) ∙ sym c.in_ok-name.ensures;

@@ -7,7 +7,7 @@ use Rattle.clap.specs.declared.parser.matches.ArgMatches.TheViews.{out-ArgMatche
 use Rattle.std.specs.Box.{box_value}
 use Rattle.clap.proofs.WalkLemmas.{first_value-rows, one_text-rows}
 use Rattle.usb_words.specs.CommandLine.{HasSubcommand, program_app}
-use Rattle.usb_words.proofs.Numbers.{text_of}
+use Rattle.usb_words.proofs.Numbers.{number_text}
 use Rattle.usb_words.proofs.words.words_of.Goals as goal
 
 -- the subcommand's name and rows as one pair
@@ -78,7 +78,7 @@ pub returns-in_ok-get_one-in-Some-live-default : goal.returns-in_ok-get_one-in-S
 returns-in_ok-get_one-in-Some-live-default c = λ words read.
     let arm = c.in-Some-live-default in
     let found = found_of arm.found.now in
-    let text = text_of (one_text found (codes "limit")) c.get_one.result _ c.get_one.ensures.none c.in_ok-get_one-in-Some-live-default.was in
+    let text = number_text (one_text found (codes "limit")) c.get_one.result _ c.get_one.ensures.none c.in_ok-get_one-in-Some-live-default.was in
     let value = c.in_ok-get_one-in-Some-live-default.ensures.value text.0 text.1 in
     record {
       rows = rows_of found;

@@ -1,5 +1,5 @@
 use Rattle.std.proofs.Common.{◌+◌, None, refl, ap, sym, ◌∙◌}
-use Rattle.usb_device.proofs.Interface.{on_err}
+use Rattle.usb_device.proofs.Interface.{stopped_on_err}
 use Rattle.usb_world.specs.Wire.{marked_some}
 use Rattle.usb_world.specs.Exchange.{ack_if}
 use Rattle.usb_world.specs.declared.exchange.Exchange.{Exchange}
@@ -34,7 +34,7 @@ returns-in_err-attempt_at-clause-settled c =
 
 pub returns-in_err-attempt_at-clause-cut : goal.returns-in_err-attempt_at-clause-cut
 returns-in_err-attempt_at-clause-cut c =
-    on_err c.from_residual.result (walk_cut _ _ _ _ _ c.requires.way c.requires.alone (cut_short c))
+    stopped_on_err c.from_residual.result (walk_cut _ _ _ _ _ c.requires.way c.requires.alone (cut_short c))
 
 abbrev made : (c : goal.After-keeps_address) → Exchange
 made c = record {

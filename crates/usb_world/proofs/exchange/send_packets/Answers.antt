@@ -38,13 +38,13 @@ returns-clause-made c =
       to_both = c.send-2.new.heard;
       token = c.put_token.ensures.value;
       token_heard =
-          c.in_ok-send.ensures.went.heard ∙ ap (λ h. both h (heard_of (answers_to c.goes_out.result c.args.roots.now))) c.nothing-heard.ensures
+          c.in_ok-send.ensures.steps.heard ∙ ap (λ h. both h (heard_of (answers_to c.goes_out.result c.args.roots.now))) c.nothing-heard.ensures
           ∙ ap (λ q. heard_of (answers_to q c.args.roots.now)) c.goes_out.ensures;
-      token_went = c.in_ok-send.ensures.went.ports ∙ ap (λ q. after_sent q c.args.roots.now) c.goes_out.ensures;
+      token_went = c.in_ok-send.ensures.steps.ports ∙ ap (λ q. after_sent q c.args.roots.now) c.goes_out.ensures;
       payload = c.put_payload.ensures.value;
       cleared = c.clears_change-exchange.ensures.clears ∙ ap (λ q. clears_at q c.send.new.roots) c.some_goes_out-data.ensures;
-      payload_heard = c.in_ok-send-2.ensures.went.heard ∙ ap (λ q. both c.send.new.heard (heard_of (answers_to q c.send.new.roots))) c.some_goes_out-data.ensures;
-      payload_went = c.in_ok-send-2.ensures.went.ports ∙ ap (λ q. after_sent q c.send.new.roots) c.some_goes_out-data.ensures;
+      payload_heard = c.in_ok-send-2.ensures.steps.heard ∙ ap (λ q. both c.send.new.heard (heard_of (answers_to q c.send.new.roots))) c.some_goes_out-data.ensures;
+      payload_went = c.in_ok-send-2.ensures.steps.ports ∙ ap (λ q. after_sent q c.send.new.roots) c.some_goes_out-data.ensures;
       answer = c.put_answer.ensures;
       answer_mark = c.answer_mark-exchange.ensures ∙ ap (λ h. answer_mark h c.put_answer.new.answer) (c.harm_to.ensures ∙ ap (harm_to damage) c.answer_place-place.ensures.value);
       reply = c.put_reply.ensures.value ∙ ap₂ (λ n o. marked_some damage (n + 1) a.pre o) c.answer_place-place.ensures.value c.is_acknowledged-acknowledged.ensures;

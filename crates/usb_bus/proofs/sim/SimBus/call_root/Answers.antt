@@ -1,7 +1,7 @@
 use Rattle.std.proofs.Common.{◌≡◌, length, sym, subst, ap, ◌∙◌, arith, [], ◌∷◌}
 use Rattle.usb_device.specs.Tree.{row_of, called}
 use Rattle.usb_world.specs.AttemptPackets.{IsSettled}
-use Rattle.usb_world.specs.SanePorts.{IsSane}
+use Rattle.usb_world.specs.SanePorts.{Consistent}
 use Rattle.usb_world.specs.declared.losses.Losses.{Losses}
 use Rattle.usb_world.specs.Losses.{AreOfDamages}
 use Rattle.usb_world.proofs.Interface.{losses_cleared, row_long, sane_called_at, settled_called}
@@ -19,7 +19,7 @@ invariant_of-self g c =
       some_root = omega (arith, long, s.some_root);
       few_roots = omega (arith, long, s.few_roots);
       settled = subst IsSettled (sym e) (settled_called call s.roots (port ∷ []) s.settled);
-      sane = λ none. subst IsSane (sym e) (sane_called_at call s.roots (port ∷ []) (s.sane none));
+      sane = λ none. subst Consistent (sym e) (sane_called_at call s.roots (port ∷ []) (s.sane none));
       ruled = s.ruled;
       planned = s.planned;
       few_events = s.few_events;

@@ -11,11 +11,11 @@ use Rattle.usb_world.specs.World.{World}
 use Rattle.usb_bus.specs.Sim.{world_of}
 use Rattle.usb_bus.specs.Lines.{lines_between, step_lines}
 use Rattle.usb_bus.specs.Watch.{tells_failure, AppendsFront}
-use Rattle.usb_world.specs.SanePorts.{IsSane}
+use Rattle.usb_world.specs.SanePorts.{Consistent}
 use Rattle.usb_world.specs.Steps.{made_in, IsCut}
 use Rattle.usb_bus.proofs.Endings.{without_fault, left_at_event, left_at_packet, left_at_line}
 use Rattle.usb_world.proofs.Interface.{losses_after, losses_cleared, sane_ports, spends_wider, until_most}
-use Rattle.usb_bus.proofs.Arrivals.{attempt_made, outcome_made_in, lines_made, lines_alone, writes_alone, writes_told, writes_line, writes_memory}
+use Rattle.usb_bus.proofs.Arrivals.{made_in-attempt, outcome_made_in, lines_made, lines_alone, writes_alone, writes_told, writes_line, writes_memory}
 use Rattle.usb_bus.proofs.Fronts.{front_after_first}
 use Rattle.std.specs.Io.KnownBytes.{Appends}
 use Rattle.std.proofs.KnownBytes.{Appends-trans}
@@ -77,7 +77,7 @@ invariant_of-self-2 g c =
       some_root = omega (arith, size, mid.some_root);
       few_roots = omega (arith, size, mid.few_roots);
       settled = c.in_ok-make_exchange_by.ensures.settled;
-      sane = λ _. subst IsSane (sym c.in_ok-make_exchange_by.ensures.made.ports) (sane_ports a c.damage_of-damage.result mid.roots (mid.sane (c.in_ok-take_due_events.ensures.came.told)));
+      sane = λ _. subst Consistent (sym c.in_ok-make_exchange_by.ensures.made.ports) (sane_ports a c.damage_of-damage.result mid.roots (mid.sane (c.in_ok-take_due_events.ensures.came.told)));
       ruled = mid.ruled;
       planned = mid.planned;
       few_events = mid.few_events;
@@ -139,7 +139,7 @@ returns-clause-made g c =
     = λ l s. record (world_of mid) { roots = c.make_exchange_by.new.roots; attempts = mid.attempts + 1; losses = l; shared = mid.shared || s } in
     let exact = without_fault (world c.counted-self.result c.is_shared.result) _ None
     (ap₂ world (c.counted-self.ensures ∙ ap (counted x.address_lost) c.after_clearing.ensures) (c.is_shared.ensures ∙ mid.indexed.1)
-    ∙ attempt_made a w (world_of mid) x c.make_exchange_by.new.roots came.exact made ports)
+    ∙ made_in-attempt a w (world_of mid) x c.make_exchange_by.new.roots came.exact made ports)
     came.told refl in
     let same : mid.attempts ≡ c.args.self.now.attempts = omega (arith, c.take_due_events.ensures.came.spends.later, c.take_due_events.ensures.came.spends.most) in
     let one : mid.attempts + 1 ≡ c.args.self.now.attempts + 1 = omega (arith, same) in
@@ -172,7 +172,7 @@ returns-in_err-put_attempt-clause-made g c =
     = λ l s. record (world_of mid) { roots = c.make_exchange_by.new.roots; attempts = mid.attempts + 1; losses = l; shared = mid.shared || s } in
     let exact = without_fault (world c.counted-self.result c.is_shared.result) _ None
     (ap₂ world (c.counted-self.ensures ∙ ap (counted x.address_lost) c.after_clearing.ensures) (c.is_shared.ensures ∙ mid.indexed.1)
-    ∙ attempt_made a w (world_of mid) x c.make_exchange_by.new.roots came.exact made ports)
+    ∙ made_in-attempt a w (world_of mid) x c.make_exchange_by.new.roots came.exact made ports)
     came.told refl in
     let same : mid.attempts ≡ c.args.self.now.attempts = omega (arith, c.take_due_events.ensures.came.spends.later, c.take_due_events.ensures.came.spends.most) in
     let one : mid.attempts + 1 ≡ c.args.self.now.attempts + 1 = omega (arith, same) in

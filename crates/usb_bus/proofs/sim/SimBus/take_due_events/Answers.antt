@@ -2,7 +2,7 @@ use Rattle.std.proofs.Common.{rules, sym, ◌∙◌}
 use Rattle.usb_world.specs.Steps.{nothing_yet}
 use Rattle.usb_bus.specs.Sim.{world_of}
 use Rattle.usb_world.proofs.Interface.{spends_none, spends_then}
-use Rattle.usb_bus.proofs.Arrivals.{came_next, coming_cut, on_err, due_begins, due_goes_on, due_ends, due_cut, writes_told}
+use Rattle.usb_bus.proofs.Arrivals.{came_next, coming_cut, on_err_holds, due_begins, due_goes_on, due_ends, due_cut, writes_told}
 use Rattle.usb_bus.proofs.sim.SimBus.take_due_events.Goals as goal
 
 pub due-init : goal.due-init
@@ -60,7 +60,7 @@ returns-in_err-take_event-clause-came g c =
       spends = spends_then 0 0 _ _ _ c.due.invariant.spends came.spends;
       told = search rules;
       exact = search rules;
-      cut = on_err c.from_residual.result (coming_cut c.take_event.result _ first w v c.in_err-take_event.was c.due.invariant.coming is_due c.due.invariant.fault came.other came.kept came.cut);
+      cut = on_err_holds c.from_residual.result (coming_cut c.take_event.result _ first w v c.in_err-take_event.was c.due.invariant.coming is_due c.due.invariant.fault came.other came.kept came.cut);
       other = search rules;
       text = writes_told c.take_event.result c.from_residual.result _ _ _ _ c.in_err-take_event.was c.from_residual.ensures.1 text;
     }

@@ -3,17 +3,17 @@ use Rattle.std.proofs.lemmas.Bool.{and_parts}
 use Rattle.std.specs.List.{list_all}
 use Rattle.usb_device.specs.Tree.{row_of}
 use Rattle.usb_world.specs.AttemptPackets.{IsSettled}
-use Rattle.usb_world.specs.SanePorts.{IsSane}
+use Rattle.usb_world.specs.SanePorts.{Consistent}
 use Rattle.usb_world.specs.PlanData.{can_come}
 use Rattle.usb_world.proofs.Interface.{came_spends, happened_long, sane_happened, settled_happened, spends_none}
 use Rattle.usb_world.specs.declared.event.Event.{Event}
-use Rattle.usb_world.specs.Steps.{happened}
+use Rattle.usb_world.specs.Steps.{after_change}
 use Rattle.usb_world.specs.declared.event.Ask.{Ask}
 use Rattle.usb_world.specs.declared.types.BusFault.{BusFault}
 use Rattle.usb_world.specs.declared.types.BusFault.TheVariants.{TraceFailed}
 use Rattle.usb_bus.specs.Watch.{tells_failure}
 use Rattle.usb_bus.specs.Sim.{world_of}
-use Rattle.usb_bus.proofs.Arrivals.{came_sound, came_faulted, appends_event, writes_event, writes_none, due_next, popped, front_is, next_none, due_none}
+use Rattle.usb_bus.proofs.Arrivals.{came_sound, came_faulted, appends_event, writes_event, writes_none, due_next, popped, get_or-head, next_none, due_none}
 use Rattle.usb_bus.proofs.sim.SimBus.take_event.Goals as goal
 
 none_came : Result (Option (Option Ask)) BusFault
@@ -59,9 +59,9 @@ returns-in_err-put_action-clause-came g c =
     let e = c.unwrap-event.result in
     let rest = c.pop_front.new.self.items in
     let split = popped s.left.items rest c.pop_front.result e c.pop_front.ensures.items c.unwrap-event.ensures in
-    let same = front_is s.left.items rest e c.in-Some.event.now split c.in-Some.ensures.lookup in
+    let same = get_or-head s.left.items rest e c.in-Some.event.now split c.in-Some.ensures.lookup in
     let size : length s.left.items ≡ suc (length rest) = ap length split in
-    let done = c.in_ok-carry_out.ensures.ok ∙ ap (λ (x : Event). happened x.action s.devices s.roots) same in
+    let done = c.in_ok-carry_out.ensures.ok ∙ ap (λ (x : Event). after_change x.action s.devices s.roots) same in
     record {
       spends = came_spends (world_of s) _ c.in-Some.event.now.action s.devices c.in_ok-carry_out.ensures.ok refl (omega (arith, size)) refl refl;
       told = search rules;
@@ -82,9 +82,9 @@ returns-clause-came g c =
     let e = c.unwrap-event.result in
     let rest = c.pop_front.new.self.items in
     let split = popped s.left.items rest c.pop_front.result e c.pop_front.ensures.items c.unwrap-event.ensures in
-    let same = front_is s.left.items rest e c.in-Some.event.now split c.in-Some.ensures.lookup in
+    let same = get_or-head s.left.items rest e c.in-Some.event.now split c.in-Some.ensures.lookup in
     let size : length s.left.items ≡ suc (length rest) = ap length split in
-    let done = c.in_ok-carry_out.ensures.ok ∙ ap (λ (x : Event). happened x.action s.devices s.roots) same in
+    let done = c.in_ok-carry_out.ensures.ok ∙ ap (λ (x : Event). after_change x.action s.devices s.roots) same in
     record {
       spends = came_spends (world_of s) _ c.in-Some.event.now.action s.devices c.in_ok-carry_out.ensures.ok refl (omega (arith, size)) refl refl;
       told = search rules;
@@ -114,7 +114,7 @@ invariant_of-self-2 g c =
       some_root = omega (arith, long, s.some_root);
       few_roots = omega (arith, long, s.few_roots);
       settled = subst IsSettled (sym done) (settled_happened a s.devices s.roots s.settled);
-      sane = λ _. subst IsSane (sym done) (sane_happened a s.devices s.ruled s.roots (s.sane c.requires.sound));
+      sane = λ _. subst Consistent (sym done) (sane_happened a s.devices s.ruled s.roots (s.sane c.requires.sound));
       ruled = s.ruled;
       planned = (and_parts (can c.unwrap-event.result) (list_all can rest) all).1;
       few_events = omega (arith, size, s.few_events);

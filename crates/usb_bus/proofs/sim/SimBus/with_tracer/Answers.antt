@@ -3,7 +3,7 @@ use Rattle.std.specs.Prelude.{All}
 use Rattle.usb_device.specs.Spec.{IsSpec}
 use Rattle.usb_device.specs.Tree.{row_of}
 use Rattle.usb_world.specs.AttemptPackets.{IsSettled}
-use Rattle.usb_world.specs.SanePorts.{IsSane}
+use Rattle.usb_world.specs.SanePorts.{Consistent}
 use Rattle.usb_world.proofs.Interface.{new_long, sane_new_ports, settled_new}
 use Rattle.usb_bus.specs.Lines.{shown_names}
 use Rattle.usb_bus.proofs.Plans.{copies_come}
@@ -18,7 +18,7 @@ pub invariant_of-result-clause-settled : goal.invariant_of-result-clause-settled
 invariant_of-result-clause-settled g c = subst IsSettled (sym c.in-Ok.ensures.roots) (settled_new c.args.plan.now.roots)
 
 pub invariant_of-result-clause-sane : goal.invariant_of-result-clause-sane
-invariant_of-result-clause-sane g c = λ _. subst IsSane (sym c.in-Ok.ensures.roots) (sane_new_ports c.args.plan.now.roots)
+invariant_of-result-clause-sane g c = λ _. subst Consistent (sym c.in-Ok.ensures.roots) (sane_new_ports c.args.plan.now.roots)
 
 pub invariant_of-result-clause-ruled : goal.invariant_of-result-clause-ruled
 invariant_of-result-clause-ruled g c = subst (All IsSpec) (sym c.in-Ok.ensures.devices.0) c.limit.ensures.plan.devices.ruled

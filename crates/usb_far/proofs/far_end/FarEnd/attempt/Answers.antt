@@ -1,9 +1,9 @@
 use Rattle.std.proofs.Common.{refl}
 use Rattle.usb_far.specs.FarEnd.{played_of}
-use Rattle.usb_far.proofs.Deeds.{attempt_made}
+use Rattle.usb_far.proofs.Deeds.{played_attempt}
 use Rattle.usb_far.proofs.far_end.FarEnd.attempt.Goals as goal
 
 pub returns-clause-done : goal.returns-clause-done
 returns-clause-done g c =
-    attempt_made c.args.attempt.now (played_of c.args.self.now) _ _ _ _ _ _ _ c.in-Ok.ensures.attempts c.answer_of.ensures c.is_poll-poll.ensures
+    played_attempt c.args.attempt.now (played_of c.args.self.now) _ _ _ _ _ _ _ c.in-Ok.ensures.attempts c.answer_of.ensures c.is_poll-poll.ensures
     c.events_taken-taken.ensures c.events_taken.ensures c.came_in-self.ensures refl

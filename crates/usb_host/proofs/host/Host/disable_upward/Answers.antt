@@ -1,8 +1,8 @@
 use Rattle.std.proofs.Common.{arith, refl, sym}
 use Rattle.usb_world.proofs.Interface.{way_itself, way_parent, way_trans}
-use Rattle.usb_host.proofs.Climbs.{parent_length}
+use Rattle.usb_host.proofs.ParentPaths.{parent_length}
 use Rattle.usb_host.proofs.DroppedHubs.{failed_by}
-use Rattle.usb_host.proofs.Joins.{rests_then}
+use Rattle.usb_host.proofs.StepSums.{host_rests_then}
 use Rattle.usb_host.proofs.PortDrops.{climb_done, climb_fails, climb_top, climbed_none, climbed_on}
 use Rattle.usb_host.proofs.host.Host.disable_upward.Goals as goal
 
@@ -30,7 +30,7 @@ up-preserved g c =
           climbed_on c.args.first c.up.path c.args.self.now c.up.self c.disable.new.self
           (i.so known) i.most c.disable.result (c.disable.ensures.disables known) c.in-Some.above
           (failed_by c.in_ok-disable.was c.if-branch.false) parent;
-      rests = rests_then c.args.self.now c.up.self _ i.rests c.disable.ensures.rests;
+      rests = host_rests_then c.args.self.now c.up.self _ i.rests c.disable.ensures.rests;
       on = way_trans c.in-Some.above c.up.path c.args.first
           (way_parent c.up.path c.in-Some.above parent) i.on;
       least = omega (arith, one);

@@ -1,13 +1,13 @@
 use Rattle.std.proofs.Common.{◌≡◌, ◌≤◌, length, true}
 use Rattle.usb_world.specs.Paths.{is_way}
-use Rattle.usb_host.specs.Progress.{Rests}
+use Rattle.usb_host.specs.Progress.{OnlyBusSteps}
 use Rattle.usb_host.proofs.PortDrops.{ClimbedTo}
 use Rattle.usb_host.proofs.host.Host.disable_upward.Given as goal
 
 abbrev pub invariant-up : goal.invariant-up
 invariant-up g l = record {
   so : g.B.Bus.modelled ≡ true → ClimbedTo l.initial.path l.path l.initial.self l.self;
-  rests : Rests l.initial.self l.self;
+  rests : OnlyBusSteps l.initial.self l.self;
   on : is_way l.path l.initial.path ≡ true;
   least : 1 ≤ length l.path;
   most : length l.path ≤ 7;

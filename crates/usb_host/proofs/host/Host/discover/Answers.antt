@@ -3,21 +3,21 @@ use Rattle.std.proofs.lemmas.Result.{err_from_is_err_and}
 use Rattle.usb_table.specs.Entries.{has_at}
 use Rattle.usb_table.specs.KnownPorts.{known_port}
 use Rattle.usb_table.specs.Table.{Table}
-use Rattle.usb_host.specs.Hosting.{Hosting}
+use Rattle.usb_host.specs.HostState.{HostState}
 use Rattle.usb_host.specs.Ports.{StandsAt}
 use Rattle.usb_host.proofs.Agreements.{nested_entered, known_some}
 use Rattle.usb_host.proofs.Balances.{accounts_entered, range_claimed}
 use Rattle.usb_host.proofs.PortLooks.{discover_done, discover_fails, discover_lost}
 use Rattle.usb_host.proofs.RisingEntries.{rises_entered}
-use Rattle.usb_host.proofs.Stations.{placed}
+use Rattle.usb_host.proofs.PortLocations.{placed}
 use Rattle.usb_host.proofs.host.Host.discover.Goals as goal
 
 pub invariant_of-self-2 : goal.invariant_of-self-2
 invariant_of-self-2 g c =
     let path = c.args.path.now in
     let finding = c.in_ok-finding.finding in
-    let away = subst (λ (h : Hosting). has_at path h.entries ≡ false) (sym c.self.view_is) c.requires.away in
-    let known = subst (λ (h : Hosting). known_port path h.entries ≡ Some c.args.port) (sym c.self.view_is) c.requires.port.known in
+    let away = subst (λ (h : HostState). has_at path h.entries ≡ false) (sym c.self.view_is) c.requires.away in
+    let known = subst (λ (h : HostState). known_port path h.entries ≡ Some c.args.port) (sym c.self.view_is) c.requires.port.known in
     let claims = c.in_ok-finding.ensures.pool in
     rw (c.in_ok-enter.ensures.ok.0, c.duplicate.ensures, c.in_ok-enter.ensures.ok.1) (record {
       rises = rises_entered path finding c.self.inside.table.entries c.self.invariant.rises;
@@ -29,12 +29,12 @@ invariant_of-self-2 g c =
 pub returns-in_err-finding-clause-finds : goal.returns-in_err-finding-clause-finds
 returns-in_err-finding-clause-finds g c known =
     let told = err_from_is_err_and c.from_residual.result c.from_residual.ensures.1 in
-    let s = subst (λ (h : Hosting). StandsAt c.args.path.now c.args.port h) (sym c.self.view_is)
+    let s = subst (λ (h : HostState). StandsAt c.args.path.now c.args.port h) (sym c.self.view_is)
     (placed known c.requires.port) in
-    let away = subst (λ (h : Hosting). has_at c.args.path.now h.entries ≡ false)
+    let away = subst (λ (h : HostState). has_at c.args.path.now h.entries ≡ false)
     (sym c.self.view_is) c.requires.away in
     rw (← c.self.view_is, told.1, told.2) (discover_fails c.args.path.now c.args.port _ _ s away
-    c.self.invariant.accounts (c.enumerate.ensures.went known) refl c.in_err-finding.field-0.0
+    c.self.invariant.accounts (c.enumerate.ensures.steps known) refl c.in_err-finding.field-0.0
     (rw c.tier.ensures at (c.in_err-finding.ensures.ends known)) refl refl
     c.in_err-finding.ensures.pool (c.in_err-finding.ensures.told known))
 
@@ -42,22 +42,22 @@ pub returns-in_err-enter-clause-finds : goal.returns-in_err-enter-clause-finds
 returns-in_err-enter-clause-finds g c known =
     let told = err_from_is_err_and c.from_residual-in_err-enter.result
     c.from_residual-in_err-enter.ensures.1 in
-    let s = subst (λ (h : Hosting). StandsAt c.args.path.now c.args.port h) (sym c.self.view_is)
+    let s = subst (λ (h : HostState). StandsAt c.args.path.now c.args.port h) (sym c.self.view_is)
     (placed known c.requires.port) in
-    let away = subst (λ (h : Hosting). has_at c.args.path.now h.entries ≡ false)
+    let away = subst (λ (h : HostState). has_at c.args.path.now h.entries ≡ false)
     (sym c.self.view_is) c.requires.away in
     rw (← c.self.view_is, told.1, told.2) (discover_lost c.args.path.now c.args.port _ _ s away
-    c.self.invariant.accounts (c.enumerate.ensures.went known) refl c.in_ok-finding.finding
+    c.self.invariant.accounts (c.enumerate.ensures.steps known) refl c.in_ok-finding.finding
     (rw c.tier.ensures at (c.in_ok-finding.ensures.ends known))
     (ap (λ (t : Table). t.entries) c.in_err-enter.ensures.err.0))
 
 pub returns-clause-finds : goal.returns-clause-finds
 returns-clause-finds g c known =
-    let s = subst (λ (h : Hosting). StandsAt c.args.path.now c.args.port h) (sym c.self.view_is)
+    let s = subst (λ (h : HostState). StandsAt c.args.path.now c.args.port h) (sym c.self.view_is)
     (placed known c.requires.port) in
-    let away = subst (λ (h : Hosting). has_at c.args.path.now h.entries ≡ false)
+    let away = subst (λ (h : HostState). has_at c.args.path.now h.entries ≡ false)
     (sym c.self.view_is) c.requires.away in
     rw (← c.self.view_is) (discover_done c.args.path.now c.args.port _ _ s away
-    c.self.invariant.accounts (c.enumerate.ensures.went known) refl c.in_ok-finding.finding
+    c.self.invariant.accounts (c.enumerate.ensures.steps known) refl c.in_ok-finding.finding
     (rw c.tier.ensures at (c.in_ok-finding.ensures.ends known))
     (rw c.duplicate.ensures at c.in_ok-enter.ensures.ok.0))

@@ -7,7 +7,7 @@ use Rattle.usb_table.specs.Entries.{Entries, has_at, without}
 use Rattle.usb_table.specs.KnownPorts.{known_port}
 use Rattle.usb_table.specs.Table.{Table, entered}
 use Rattle.usb_table.proofs.Interface.{known_port-without}
-use Rattle.usb_host.specs.Hosting.{Hosting}
+use Rattle.usb_host.specs.HostState.{HostState}
 use Rattle.usb_host.specs.Transfers.{table_in}
 use Rattle.usb_host.proofs.Agreements.{nested_entered}
 use Rattle.usb_host.proofs.Balances.{accounts_entered}
@@ -19,10 +19,10 @@ pub invariant_of-self-2 : goal.invariant_of-self-2
 invariant_of-self-2 g c =
     let path = c.in_ok-lost.lost in
     let f = c.forget.ensures in
-    let away = subst (λ (h : Hosting). has_at path h.entries ≡ false) (sym c.self.view_is) f.gone in
+    let away = subst (λ (h : HostState). has_at path h.entries ≡ false) (sym c.self.view_is) f.gone in
     let left : c.self.inside.table.entries ≡ without path c.args.self.now.entries =
-    ap (λ (h : Hosting). h.entries) c.self.view_is ∙ f.rest
-    ∙ ap (λ (h : Hosting). without path h.entries) c.in_ok-lost.ensures.rests in
+    ap (λ (h : HostState). h.entries) c.self.view_is ∙ f.rest
+    ∙ ap (λ (h : HostState). without path h.entries) c.in_ok-lost.ensures.rests in
     let known = subst (λ (es : Entries). IsSome (known_port path es)) (sym left)
     (subst IsSome (sym (known_port-without path c.args.self.now.entries)) c.in_ok-lost.ensures.ends) in
     rw c.in_ok-insert.ensures.ok (record {
@@ -44,26 +44,26 @@ pub returns-in_err-insert-clause-drops : goal.returns-in_err-insert-clause-drops
 returns-in_err-insert-clause-drops g c known =
     let told = err_from_is_err_and c.from_residual-in_err-insert.result
     c.from_residual-in_err-insert.ensures.1 in
-    let others = ap (λ (h : Hosting). record h {
+    let others = ap (λ (h : HostState). record h {
       entries = c.insert.new.self.entries;
       pipes = c.insert.new.self.pipes;
       addresses = c.self.inside.pool;
     }) c.self.view_is in
     let same = ap (λ (t : Table). t.entries) c.in_err-insert.ensures.err
-    ∙ ap (λ (h : Hosting). h.entries) c.self.view_is in
+    ∙ ap (λ (h : HostState). h.entries) c.self.view_is in
     rw told.1 (drop_unlisted c.args.hub c.in_ok-lost.lost c.args.self.now
     c.disable_upward.new.self c.forget.new.self _ c.in_ok-lost.ensures.rests
     (c.in_ok-lost.ensures.climbs known) c.forget.ensures others told.0 same)
 
 pub returns-clause-drops : goal.returns-clause-drops
 returns-clause-drops g c known =
-    let others = ap (λ (h : Hosting). record h {
+    let others = ap (λ (h : HostState). record h {
       entries = c.insert.new.self.entries;
       pipes = c.insert.new.self.pipes;
       addresses = c.self.inside.pool;
     }) c.self.view_is in
     let table = c.in_ok-insert.ensures.ok
-    ∙ ap (λ (h : Hosting). entered c.in_ok-lost.lost (Refused Lost) (table_in h)) c.self.view_is in
+    ∙ ap (λ (h : HostState). entered c.in_ok-lost.lost (Refused Lost) (table_in h)) c.self.view_is in
     drop_done c.args.hub c.in_ok-lost.lost c.args.self.now c.disable_upward.new.self
     c.forget.new.self _ c.in_ok-lost.ensures.rests (c.in_ok-lost.ensures.climbs known)
     c.forget.ensures others c.numbers-numbers.ensures.path table

@@ -8,7 +8,7 @@ use Rattle.usb_table.specs.Table.{Table, pipes_at}
 use Rattle.usb_world.proofs.Interface.{at_or_below_way}
 use Rattle.usb_host.specs.Accounts.{Accounts}
 use Rattle.usb_host.specs.Agreement.{Agrees}
-use Rattle.usb_host.specs.Hosting.{Hosting}
+use Rattle.usb_host.specs.HostState.{HostState}
 use Rattle.usb_host.specs.Transfers.{table_in}
 use Rattle.usb_host.proofs.Agreements.{nested_without}
 use Rattle.usb_host.proofs.RisingEntries.{rises_without}
@@ -44,12 +44,12 @@ returns g c =
     record {
       others = first_of (search rules, grind (arith, common_steps));
       gone = rw same c.in_default.ensures.none;
-      rest = left ∙ ap (λ (h : Hosting). without c.args.path.now h.entries) c.self.view_is;
-      full = λ full. subst (λ (h : Hosting). IsFull h.addresses) c.self.view_is (i.full full);
+      rest = left ∙ ap (λ (h : HostState). without c.args.path.now h.entries) c.self.view_is;
+      full = λ full. subst (λ (h : HostState). IsFull h.addresses) c.self.view_is (i.full full);
       pipes = λ q away.
           ap (λ (t : Table). pipes_at q t) same
           ∙ i.pipes q (at_or_below_way q c.args.path.now ∙ away)
-          ∙ ap (λ (h : Hosting). pipes_at q (table_in h)) c.self.view_is;
+          ∙ ap (λ (h : HostState). pipes_at q (table_in h)) c.self.view_is;
       agrees = agrees_left c.args.path.now c.self.inside.table.entries c.self.inside.pool _ _
           c.self.invariant left (rw same i.accounts) i.range;
     }

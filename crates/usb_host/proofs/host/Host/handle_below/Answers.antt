@@ -32,12 +32,12 @@ returns-clause-handles g c known =
     ∙ ap (λ hub. hub ++ c.args.number ∷ []) c.duplicate-path.ensures in
     let at = subst (λ p. known_port p c.args.self.now.entries ≡ Some c.in-Some.port) path
     c.in-Some.ensures.some.known in
-    number_handled c.args.hub.now c.args.number _ _ c.args.self.now c.handle.new.self path
+    number_handled c.args.hub.now c.args.number _ _ c.args.self.now c.service_port.new.self path
     (below_due c.args.hub.now c.args.number c.args.self.now.entries c.in-Some.port
-    c.args.self.now.world c.requires.0 at) (c.in_ok-handle.ensures.handles known)
+    c.args.self.now.world c.requires.0 at) (c.in_ok-service_port.ensures.handles known)
 
-pub returns-in_err-handle-clause-handles : goal.returns-in_err-handle-clause-handles
-returns-in_err-handle-clause-handles g c known =
-    number_stops c.args.hub.now c.args.number _ _ c.args.self.now c.handle.new.self
-    c.in_err-handle.field-0.0 c.from_residual.result c.from_residual.ensures.0
-    (c.in_err-handle.ensures.handles known)
+pub returns-in_err-service_port-clause-handles : goal.returns-in_err-service_port-clause-handles
+returns-in_err-service_port-clause-handles g c known =
+    number_stops c.args.hub.now c.args.number _ _ c.args.self.now c.service_port.new.self
+    c.in_err-service_port.field-0.0 c.from_residual.result c.from_residual.ensures.0
+    (c.in_err-service_port.ensures.handles known)

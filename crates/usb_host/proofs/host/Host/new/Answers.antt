@@ -7,10 +7,10 @@ use Rattle.usb_host.proofs.Powers.{powered_none, powered_length, powers_one, pow
 use Rattle.usb_host.proofs.Agreements.{nested_none}
 use Rattle.usb_host.proofs.RisingEntries.{rises_none}
 use Rattle.usb_host.proofs.Balances.{accounts_none, range_none}
-use Rattle.usb_host.proofs.Openings.{opened, owning_opening, sound_opening}
-use Rattle.usb_host.specs.Hosting.{Hosting}
-use Rattle.usb_host.specs.Ownership.{Owning}
-use Rattle.usb_host.specs.Soundness.{IsSound}
+use Rattle.usb_host.proofs.Openings.{powered_is_opening, owning_opening, sound_opening}
+use Rattle.usb_host.specs.HostState.{HostState}
+use Rattle.usb_host.specs.Ownership.{HostMapHolds}
+use Rattle.usb_host.specs.Soundness.{HostInvariant}
 use Rattle.usb_host.proofs.host.Host.new.Goals as goal
 
 pub ports-init : goal.ports-init
@@ -40,11 +40,11 @@ returns g c known =
     let w0 : World = g.B.Bus.world c.args.bus in
     let t0 = g.B.Bus.trace c.args.bus in
     let all : c.ports.port - 1 ≡ roots_of w0 = omega (arith, c.ports-test.false, c.ports.auto.port-end, c.root_ports-roots.ensures.count known, c.root_ports-roots.ensures.least) in
-    let opens = opened w0 _ _ _ _ _ (powered_all w0 _ (c.ports.port - 1) all (c.ports.invariant.powered known)) (c.ports.invariant.silent known) c.new-2.ensures c.new.ensures.empty in
+    let opens = powered_is_opening w0 _ _ _ _ _ (powered_all w0 _ (c.ports.port - 1) all (c.ports.invariant.powered known)) (c.ports.invariant.silent known) c.new-2.ensures c.new.ensures.empty in
     record {
       opens = opens;
       traced = c.ports.invariant.traced known;
-      owning = λ untouched. subst Owning (sym opens) (owning_opening w0 t0 untouched);
+      owning = λ untouched. subst HostMapHolds (sym opens) (owning_opening w0 t0 untouched);
       sound = λ untouched unpowered.
-          subst IsSound (sym opens) (sound_opening w0 t0 (subst (λ (h : Hosting). Traced w0 t0 h.world h.trace) opens (c.ports.invariant.traced known)) untouched unpowered);
+          subst HostInvariant (sym opens) (sound_opening w0 t0 (subst (λ (h : HostState). Traced w0 t0 h.world h.trace) opens (c.ports.invariant.traced known)) untouched unpowered);
     }

@@ -2,8 +2,8 @@ use Rattle.std.proofs.Common.{arith, rules, ◌*◌, ap, sym, ◌∙◌}
 use Rattle.std.proofs.lemmas.Bool.{false≢true}
 use Rattle.std.proofs.lemmas.Grind.{common_steps}
 use Rattle.usb_backlog.proofs.Interface.{all_none}
-use Rattle.usb_host.specs.Hosting.{Hosting}
-use Rattle.usb_host.proofs.Joins.{goes_none}
+use Rattle.usb_host.specs.HostState.{HostState}
+use Rattle.usb_host.proofs.StepSums.{host_goes_none}
 use Rattle.usb_host.proofs.Owners.{owning_kept}
 use Rattle.usb_host.proofs.Soundness.{sound_none, sound_kept}
 use Rattle.usb_host.proofs.host.Host.receive.Goals as goal
@@ -14,9 +14,9 @@ returns-then-self-clause-stopped g c = first_of (search rules, grind (arith, com
 pub returns-then-self-clause-tells : goal.returns-then-self-clause-tells
 returns-then-self-clause-tells g c known = record {
   stopped = returns-then-self-clause-stopped g c;
-  went = (goes_none (768 * c.args.packets) c.args.self.now).went;
+  went = (host_goes_none (768 * c.args.packets) c.args.self.now).went;
   told = tt;
-  did = λ running. absurd (false≢true (sym running ∙ ap (λ (h : Hosting). h.stopped) (sym c.self.view_is) ∙ c.if-self.true));
+  did = λ running. absurd (false≢true (sym running ∙ ap (λ (h : HostState). h.stopped) (sym c.self.view_is) ∙ c.if-self.true));
   keeps = record { owning = λ o. o; sound = sound_none _; backlog = λ still. all_none c.args.self.now.world };
 }
 

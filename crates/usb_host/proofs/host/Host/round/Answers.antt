@@ -3,13 +3,13 @@ use Rattle.std.specs.Prelude.{IfOk}
 use Rattle.std.proofs.lemmas.Grind.{common_steps}
 use Rattle.usb_host.specs.Bounds.{round_bound}
 use Rattle.usb_host.specs.Budget.{PaysRound}
-use Rattle.usb_host.specs.Hosting.{Hosting}
+use Rattle.usb_host.specs.HostState.{HostState}
 use Rattle.usb_host.proofs.RoundPayments.{pays_stopped, stopped_pays}
-use Rattle.usb_host.specs.Progress.{HostWent}
+use Rattle.usb_host.specs.Progress.{HostSteps}
 use Rattle.usb_host.specs.Service.{DidParts}
 use Rattle.usb_host.specs.Soundness.{RoundsSound}
 use Rattle.usb_host.proofs.IdleRounds.{round_rests}
-use Rattle.usb_host.proofs.Joins.{goes_none}
+use Rattle.usb_host.proofs.StepSums.{host_goes_none}
 use Rattle.usb_host.proofs.Owners.{round_owning}
 use Rattle.usb_host.proofs.RoundServices.{parts_done}
 use Rattle.usb_host.proofs.Soundness.{rounds_stopped}
@@ -21,7 +21,7 @@ returns-then-self-clause-stopped g c = first_of (search rules, grind (arith, com
 pub returns-then-self-clause-tells : goal.returns-then-self-clause-tells
 returns-then-self-clause-tells g c known = record {
   stopped = returns-then-self-clause-stopped g c;
-  went = (goes_none round_bound c.args.self.now).went;
+  went = (host_goes_none round_bound c.args.self.now).went;
   told = tt;
   did = tt;
   keeps = record { owning = λ o. o; sound = record { keeps = tt; rest = λ s is. absurd (cc is) }; pays = λ w plan x. stopped_pays w plan _ c.args.self.now; rests = λ entries none. refl };
@@ -32,33 +32,33 @@ returns-clause-stopped g c = first_of (search rules, grind (arith, common_steps)
 
 pub returns-clause-tells : goal.returns-clause-tells
 returns-clause-tells g c known =
-    let x = c.parts-round.ensures.parts known in
+    let x = c.run_round-round.ensures.parts known in
     let a = c.args.self.now in
-    let b = c.parts-round.new.self in
-    let result = c.parts-round.result in
+    let b = c.run_round-round.new.self in
+    let result = c.run_round-round.result in
     let stopped = c.is_err-self-inside.result in
-    let going = ap (λ (h : Hosting). h.stopped) (sym c.self.view_is) ∙ c.if-self.false in
+    let going = ap (λ (h : HostState). h.stopped) (sym c.self.view_is) ∙ c.if-self.false in
     let value = c.is_err-self-inside.ensures.value in
     let sound : RoundsSound a result b = record { keeps = x.keeps.part.sound; rest = x.keeps.rest } in
     record {
       stopped = returns-clause-stopped g c;
-      went = subst (λ (h : Hosting). HostWent round_bound a h) (sym c.self-2.view_is)
+      went = subst (λ (h : HostState). HostSteps round_bound a h) (sym c.self-2.view_is)
           x.keeps.part.goes.went;
       told = first_of (search rules, grind (arith, common_steps));
-      did = subst (λ (h : Hosting). IfOk result
+      did = subst (λ (h : HostState). IfOk result
           (λ round. DidParts round a (record h { stopped = stopped }))) (sym c.self-2.view_is)
           (parts_done result a b stopped going value x);
       keeps = record {
-        owning = round_owning result a b _ going (ap (λ (h : Hosting). h.world) c.self-2.view_is)
-            (ap (λ (h : Hosting). h.entries) c.self-2.view_is) value x.keeps.part.owned;
+        owning = round_owning result a b _ going (ap (λ (h : HostState). h.world) c.self-2.view_is)
+            (ap (λ (h : HostState). h.entries) c.self-2.view_is) value x.keeps.part.owned;
         sound = rounds_stopped result a _ stopped
-            (subst (λ (h : Hosting). RoundsSound a result h) (sym c.self-2.view_is) sound);
+            (subst (λ (h : HostState). RoundsSound a result h) (sym c.self-2.view_is) sound);
         pays = λ w plan works.
             pays_stopped w plan result a _ stopped
-            (subst (λ (h : Hosting). PaysRound w plan a result h) (sym c.self-2.view_is)
+            (subst (λ (h : HostState). PaysRound w plan a result h) (sym c.self-2.view_is)
             (x.pays w plan works));
         rests = λ entries none.
-            subst (λ (h : Hosting). record h { stopped = stopped } ≡ a) (sym c.self-2.view_is)
+            subst (λ (h : HostState). record h { stopped = stopped } ≡ a) (sym c.self-2.view_is)
             (round_rests result a b stopped going value (x.idle entries none));
       };
     }

@@ -2,11 +2,11 @@ use Rattle.std.proofs.Common.{◌∙◌, sym}
 use Rattle.std.proofs.lemmas.Result.{err_from_is_err_and}
 use Rattle.usb_enum.specs.Bounds.{read_bound}
 use Rattle.usb_host.proofs.PortServes.{serve_failed, serve_fails, serve_looked, serve_settled}
-use Rattle.usb_host.proofs.Stations.{placed, placed_on}
+use Rattle.usb_host.proofs.PortLocations.{placed, placed_on}
 use Rattle.usb_host.proofs.host.Host.serve.Goals as goal
 
-pub look-requires : goal.look-requires
-look-requires g c =
+pub enumerate_again-requires : goal.enumerate_again-requires
+enumerate_again-requires g c =
     placed_on _ (read_bound 4) c.args.path.now c.args.port c.args.self.now c.status.new.self
     c.in_ok-status.ensures.rests (λ known. (c.status.ensures.shows known).requested.goes.went)
     c.requires
@@ -28,8 +28,8 @@ pub returns-then-status : goal.returns-then-status
 returns-then-status g c known =
     serve_looked c.args.path.now c.args.port c.args.self.now c.status.new.self
     (placed known c.requires) c.in_ok-status.ensures.rests c.in_ok-status.status
-    (c.in_ok-status.ensures.shows known) c.if-status.true c.look.result c.look.new.self
-    (c.look.ensures known)
+    (c.in_ok-status.ensures.shows known) c.if-status.true c.enumerate_again.result c.enumerate_again.new.self
+    (c.enumerate_again.ensures known)
 
 pub returns-then-has_failed : goal.returns-then-has_failed
 returns-then-has_failed g c known =

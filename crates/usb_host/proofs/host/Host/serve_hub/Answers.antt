@@ -2,7 +2,7 @@ use Rattle.std.proofs.Common.{◌∙◌, ap, refl, rules, arith, sym, subst}
 use Rattle.std.proofs.lemmas.Grind.{common_steps}
 use Rattle.std.specs.Prelude.{IsSome}
 use Rattle.usb_table.specs.Listing.{hub_facts_at}
-use Rattle.usb_host.specs.Hosting.{Hosting}
+use Rattle.usb_host.specs.HostState.{HostState}
 use Rattle.usb_host.specs.Service.{first_byte}
 use Rattle.usb_host.proofs.HubPolls.{poll_cut, poll_lost, poll_quiet, poll_served, poll_undropped, poll_unserved}
 use Rattle.usb_host.proofs.HubServices.{failed_more}
@@ -11,43 +11,43 @@ use Rattle.usb_host.proofs.host.Host.serve_hub.Goals as goal
 pub returns-in-Ok-None-clause-polls : goal.returns-in-Ok-None-clause-polls
 returns-in-Ok-None-clause-polls g c known =
     let p = c.poll.ensures in
-    let listed = subst (λ (h : Hosting). IsSome (hub_facts_at c.args.hub.now h.entries))
+    let listed = subst (λ (h : HostState). IsSome (hub_facts_at c.args.hub.now h.entries))
     (sym c.self.view_is) c.requires in
     rw (← c.self.view_is) (poll_quiet c.args.hub.now _ _ c.self.invariant p.through.entries refl
     refl (p.polls known).went p.through listed _ (c.in-Ok-None.ensures.polls known).polled
     (c.in-Ok-None.ensures.polls known).keeps c.in-Ok-None.field-0-is)
 
-pub returns-in_ok-serve_told-in-Ok-Some-clause-polls : goal.returns-in_ok-serve_told-in-Ok-Some-clause-polls
-returns-in_ok-serve_told-in-Ok-Some-clause-polls g c known =
+pub returns-in_ok-service_reported-in-Ok-Some-clause-polls : goal.returns-in_ok-service_reported-in-Ok-Some-clause-polls
+returns-in_ok-service_reported-in-Ok-Some-clause-polls g c known =
     let p = c.poll.ensures in
     let some = c.in-Ok-Some.ensures in
     let ends = rw c.in-Ok-Some.field-0-is at (some.polls known).took in
-    let listed = subst (λ (h : Hosting). IsSome (hub_facts_at c.args.hub.now h.entries))
+    let listed = subst (λ (h : HostState). IsSome (hub_facts_at c.args.hub.now h.entries))
     (sym c.self.view_is) c.requires in
     rw (← c.self.view_is) (poll_served c.args.hub.now _ _ c.self.invariant p.through.entries refl
     refl (p.polls known).went p.through listed _ (some.polls known).polled (some.polls known).keeps
     c.in-Ok-Some.bits c.first_byte.result c.in-Ok-Some.field-0-is
     (c.first_byte.ensures ∙ ap first_byte c.as_slice.ensures.value) ends.still
-    c.serve_told.new.self ends.least (c.in_ok-serve_told-in-Ok-Some.ensures.serves known))
+    c.service_reported.new.self ends.least (c.in_ok-service_reported-in-Ok-Some.ensures.serves known))
 
-pub returns-in_err-serve_told-in-Ok-Some-clause-polls : goal.returns-in_err-serve_told-in-Ok-Some-clause-polls
-returns-in_err-serve_told-in-Ok-Some-clause-polls g c known =
+pub returns-in_err-service_reported-in-Ok-Some-clause-polls : goal.returns-in_err-service_reported-in-Ok-Some-clause-polls
+returns-in_err-service_reported-in-Ok-Some-clause-polls g c known =
     let p = c.poll.ensures in
     let some = c.in-Ok-Some.ensures in
     let ends = rw c.in-Ok-Some.field-0-is at (some.polls known).took in
-    let listed = subst (λ (h : Hosting). IsSome (hub_facts_at c.args.hub.now h.entries))
+    let listed = subst (λ (h : HostState). IsSome (hub_facts_at c.args.hub.now h.entries))
     (sym c.self.view_is) c.requires in
     rw (← c.self.view_is) (poll_unserved c.args.hub.now _ _ c.self.invariant p.through.entries
     refl refl (p.polls known).went p.through listed _ (some.polls known).polled (some.polls known).keeps
     c.in-Ok-Some.bits c.first_byte.result c.in-Ok-Some.field-0-is
     (c.first_byte.ensures ∙ ap first_byte c.as_slice.ensures.value) ends.still
-    c.serve_told.new.self c.in_err-serve_told-in-Ok-Some.field-0.0 c.from_residual.result
-    c.from_residual.ensures.0 (c.in_err-serve_told-in-Ok-Some.ensures.serves known))
+    c.service_reported.new.self c.in_err-service_reported-in-Ok-Some.field-0.0 c.from_residual.result
+    c.from_residual.ensures.0 (c.in_err-service_reported-in-Ok-Some.ensures.serves known))
 
 pub returns-in-Err-Bus-clause-polls : goal.returns-in-Err-Bus-clause-polls
 returns-in-Err-Bus-clause-polls g c known =
     let p = c.poll.ensures in
-    let listed = subst (λ (h : Hosting). IsSome (hub_facts_at c.args.hub.now h.entries))
+    let listed = subst (λ (h : HostState). IsSome (hub_facts_at c.args.hub.now h.entries))
     (sym c.self.view_is) c.requires in
     rw (← c.self.view_is) (poll_cut c.args.hub.now _ _ c.self.invariant p.through.entries refl
     refl (p.polls known).went p.through listed _ (p.polls known).keeps _)
@@ -55,7 +55,7 @@ returns-in-Err-Bus-clause-polls g c known =
 pub returns-in_err-drop_hub-in-Err-clause-polls : goal.returns-in_err-drop_hub-in-Err-clause-polls
 returns-in_err-drop_hub-in-Err-clause-polls g c known =
     let p = c.poll.ensures in
-    let listed = subst (λ (h : Hosting). IsSome (hub_facts_at c.args.hub.now h.entries))
+    let listed = subst (λ (h : HostState). IsSome (hub_facts_at c.args.hub.now h.entries))
     (sym c.self.view_is) c.requires in
     rw (← c.self.view_is) (poll_undropped c.args.hub.now _ _ c.self.invariant p.through.entries
     refl refl (p.polls known).went p.through listed c.in-Err.field-0 (c.in-Err.ensures.polls known).polled
@@ -66,7 +66,7 @@ returns-in_err-drop_hub-in-Err-clause-polls g c known =
 pub returns-in_ok-drop_hub-in-Err-clause-polls : goal.returns-in_ok-drop_hub-in-Err-clause-polls
 returns-in_ok-drop_hub-in-Err-clause-polls g c known =
     let p = c.poll.ensures in
-    let listed = subst (λ (h : Hosting). IsSome (hub_facts_at c.args.hub.now h.entries))
+    let listed = subst (λ (h : HostState). IsSome (hub_facts_at c.args.hub.now h.entries))
     (sym c.self.view_is) c.requires in
     let more = failed_more _ _ c.in-Err.field-0
     (λ told is. first_of (search rules, grind (arith, common_steps)))

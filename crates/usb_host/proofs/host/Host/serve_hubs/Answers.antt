@@ -3,7 +3,7 @@ use Rattle.usb_table.specs.Findings.{is_hub}
 use Rattle.usb_host.proofs.IdleRounds.{none_next}
 use Rattle.usb_host.proofs.Ranks.{rank_most, rank_rises}
 use Rattle.usb_host.proofs.RestingRounds.{next_listed}
-use Rattle.usb_host.proofs.RoundLoops.{hubs_begin, hubs_cut, hubs_end, hubs_handled}
+use Rattle.usb_host.proofs.RoundLoops.{hubs_begin, hubs_cut, hubs_all_handled, hubs_handled}
 use Rattle.usb_host.proofs.host.Host.serve_hubs.Goals as goal
 
 pub hubs-init : goal.hubs-init
@@ -44,5 +44,5 @@ returns-in_err-serve_hub-clause-hubs g c known =
 pub returns-clause-hubs : goal.returns-clause-hubs
 returns-clause-hubs g c known =
     let i = c.hubs.invariant in
-    hubs_end c.hubs.last c.hubs.round c.args.self.now c.hubs.self (i.so known) i.path
+    hubs_all_handled c.hubs.last c.hubs.round c.args.self.now c.hubs.self (i.so known) i.path
     c.in_default.ensures.none c.in_default.ensures.agree i.idle

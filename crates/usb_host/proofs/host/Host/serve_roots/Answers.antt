@@ -1,6 +1,6 @@
 use Rattle.std.proofs.Common.{◌∙◌, ap, arith, sym}
 use Rattle.usb_world.specs.World.{roots_of}
-use Rattle.usb_host.specs.Hosting.{Hosting}
+use Rattle.usb_host.specs.HostState.{HostState}
 use Rattle.usb_host.proofs.RoundLoops.{roots_begin, roots_cut, roots_end, roots_handled, roots_steady}
 use Rattle.usb_host.proofs.host.Host.serve_roots.Goals as goal
 use Rattle.usb_host.proofs.host.Host.serve_roots.Goals.{then-has_changed+in_ok-handle_root, else-has_changed}
@@ -22,7 +22,7 @@ ports-preserved g c =
               c.ports-test.true,
               c.root_ports-roots.ensures.count known,
               (i.so known).part.goes.went.spends.roots,
-              ap (λ (h : Hosting). roots_of h.world) c.self.view_is,
+              ap (λ (h : HostState). roots_of h.world) c.self.view_is,
             ))
             (w.in_ok-handle_root.ensures.handles known);
       })
@@ -54,5 +54,5 @@ returns-clause-roots g c known =
       c.ports.auto.number,
       c.ports.auto.number-end,
       c.root_ports-roots.ensures.count known,
-      ap (λ (h : Hosting). roots_of h.world) c.self.view_is,
+      ap (λ (h : HostState). roots_of h.world) c.self.view_is,
     ))

@@ -1,12 +1,12 @@
 use Rattle.std.proofs.Common.{true, subst, refl, ◌∙◌, arith, length-set, set, get_or-set_other, false}
 use Rattle.usb_resources.specs.Pool.{HasAddresses, Takes, IsFull, addresses_marked}
-use Rattle.usb_resources.proofs.Marks.{takes, full, has_addresses}
+use Rattle.usb_resources.proofs.Marks.{marks_take, full, has_addresses}
 use Rattle.usb_resources.proofs.pool.AddressPool.take.Goals as goal
 
 pub returns-clause-some : goal.returns-clause-some
 returns-clause-some c =
     let marks = c.self.inside.taken in
-    subst (λ old. Takes old c.in_ok-number.number (addresses_marked (set marks c.in_ok-number.number true))) c.self.view_is (takes marks c.in_ok-number.number c.self.told c.in_ok-number.ensures.some)
+    subst (λ old. Takes old c.in_ok-number.number (addresses_marked (set marks c.in_ok-number.number true))) c.self.view_is (marks_take marks c.in_ok-number.number c.self.told c.in_ok-number.ensures.some)
 
 pub returns-clause-range : goal.returns-clause-range
 returns-clause-range c =

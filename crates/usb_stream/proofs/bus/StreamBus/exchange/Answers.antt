@@ -1,12 +1,12 @@
 use Rattle.std.proofs.Common.{◌∙◌, subst}
 use Rattle.usb_bus.specs.Watch.{AppendsFront, inner_of}
 use Rattle.usb_stream.specs.Stream.{kept_of}
-use Rattle.usb_stream.proofs.Hearing.{at_limit, not_written}
+use Rattle.usb_stream.proofs.Hearing.{asks_no_more_at_limit, not_written}
 use Rattle.usb_stream.proofs.bus.StreamBus.exchange.Goals as goal
 
 pub returns-then-self-eq0 : goal.returns-then-self-eq0
 returns-then-self-eq0 g c =
-    at_limit c.args.question.now (g.R.Read.remaining (inner_of c.args.self.now.reader))
+    asks_no_more_at_limit c.args.question.now (g.R.Read.remaining (inner_of c.args.self.now.reader))
     (g.W.Write.contents (inner_of c.args.self.now.writer)) (kept_of c.args.self.now) c.if-self-eq0.true
 
 pub returns-in-Err : goal.returns-in-Err

@@ -1,12 +1,12 @@
 use Rattle.std.proofs.Common.{◌∙◌, refl}
 use Rattle.usb_bus.specs.Watch.{inner_of}
 use Rattle.usb_stream.specs.Stream.{kept_of}
-use Rattle.usb_stream.proofs.Hearing.{hear_more, hear_same, heard_so, read_all, read_so, told_none}
+use Rattle.usb_stream.proofs.Hearing.{hear_more, hear_same, heard_so, read_all, read_so, told_so_none}
 use Rattle.usb_stream.proofs.bus.StreamBus.hear.Goals as goal
 
 pub lines-init : goal.lines-init
 lines-init g c = record {
-  told = told_none c.args.asked (g.R.Read.remaining (inner_of c.args.self.now.reader))
+  told = told_so_none c.args.asked (g.R.Read.remaining (inner_of c.args.self.now.reader))
       (kept_of c.args.self.now);
   same = refl;
   writer = refl;

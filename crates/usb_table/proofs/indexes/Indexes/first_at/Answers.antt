@@ -7,7 +7,7 @@ use Rattle.std.specs.Map.Iter.{deref_pair}
 use Rattle.std.proofs.lemmas.Map.Iter.{rest_more, rest_all}
 use Rattle.usb_port.specs.Order.{path_cmp}
 use Rattle.usb_table.specs.Keys.{PathKeys}
-use Rattle.usb_table.proofs.Ranges.{away_if_first, from_path, has_below, FirstIsAway}
+use Rattle.usb_table.proofs.Ranges.{away_if_first, from_path, has_path_below, FirstIsAway}
 use Rattle.usb_table.proofs.indexes.Indexes.first_at.Goals as goal
 
 on_none : {A : Type 0} (r : Option A) (P : Type 0) → P → IfNone r P
@@ -16,7 +16,7 @@ on_none (Some x) P p = tt
 
 none_if : (paths rest : PathKeys) (path start : List ℕ) → start ≡ path
     → rest ≡ from_path start paths → IsStrictlySortedBy path_cmp (keys_of paths)
-    → FirstIsAway path rest → has_below path paths ≡ false
+    → FirstIsAway path rest → has_path_below path paths ≡ false
 none_if paths rest path start same is rises away =
     let rest_is = is ∙ ap (λ (s : List ℕ). from_path s paths) same in
     away_if_first path paths rises (subst (FirstIsAway path) rest_is away)

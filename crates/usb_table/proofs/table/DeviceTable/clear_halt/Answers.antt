@@ -5,7 +5,7 @@ use Rattle.usb_world.proofs.Interface.{spends_none, spends_wider}
 use Rattle.usb_table.specs.declared.pipes.Pipes.{Pipes}
 use Rattle.usb_table.specs.declared.fault.EndpointFault.TheVariants.{NoDevice}
 use Rattle.usb_table.specs.Transfers.{PipesCleared}
-use Rattle.usb_table.proofs.PipeCalls.{Through, through_none, through_slot}
+use Rattle.usb_table.proofs.PipeCalls.{CallThrough, through_none, through_slot}
 use Rattle.usb_table.proofs.TransferLeaves.{table_clears}
 use Rattle.usb_table.proofs.table.DeviceTable.clear_halt.Goals as goal
 
@@ -17,7 +17,7 @@ did g c p q =
 
 -- the entry is written back with the pipes that the call left
 passed : (g : _) (c : goal.After-self-1 g)
-    → Through (did g c) c.args.path.now (get c.self.inside.entries)
+    → CallThrough (did g c) c.args.path.now (get c.self.inside.entries)
     (get (with_value c.self.inside.entries c.in-Some.key.now
     (record c.index_mut.result.now { pipes = c.clear_halt.new.self })))
     c.self.inside.indexes.by_path.entries c.self.inside.indexes.by_address.entries
@@ -36,8 +36,8 @@ pub returns-in-Some-clause-clears : goal.returns-in-Some-clause-clears
 returns-in-Some-clause-clears g c known =
     rw (← c.self.view_is)
     (table_clears c.args.path.now _ _ _ _ _ _ (passed g c).goes
-    (c.clear_halt.ensures.went known).traced c.clear_halt.result
-    (c.clear_halt.ensures.went known).spends ((passed g c).did known))
+    (c.clear_halt.ensures.steps known).traced c.clear_halt.result
+    (c.clear_halt.ensures.steps known).spends ((passed g c).did known))
 
 pub returns-in-None-clause-through : goal.returns-in-None-clause-through
 returns-in-None-clause-through g c =

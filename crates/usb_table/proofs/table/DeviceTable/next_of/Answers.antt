@@ -12,7 +12,7 @@ use Rattle.usb_port.specs.Order.{path_cmp}
 use Rattle.usb_table.specs.Keys.{PathKeys, findings, finding_under, entries_of}
 use Rattle.usb_table.specs.Table.{Table}
 use Rattle.usb_table.specs.Kinds.{fits}
-use Rattle.usb_table.proofs.Keys.{entries_rise, finding_stands, found_in, some_standing}
+use Rattle.usb_table.proofs.Keys.{entries_rise, finding_stands, findings-standing, some_standing}
 use Rattle.usb_table.proofs.NextEntries.{first_from, first_behind, next_is, last_is}
 use Rattle.usb_table.proofs.table.DeviceTable.next_of.Goals as goal
 
@@ -45,7 +45,7 @@ pub returns-then-fits-clause-some : goal.returns-then-fits-clause-some
 returns-then-fits-clause-some c =
     let s = c.self.inside in
     let turn = rest_more deref_pair _ _ _ _ c.in-Some.is c.next.ensures.steps in
-    let stands : finding_under (findings (get s.entries)) c.in-Some.key.now ≡ c.finding.result.now = finding_stands (findings (get s.entries)) c.in-Some.key.now c.index.result.now.finding (found_in (get s.entries) c.in-Some.key.now c.index.result.now c.index.ensures) ∙ sym c.finding.ensures in
+    let stands : finding_under (findings (get s.entries)) c.in-Some.key.now ≡ c.finding.result.now = finding_stands (findings (get s.entries)) c.in-Some.key.now c.index.result.now.finding (findings-standing (get s.entries) c.in-Some.key.now c.index.result.now c.index.ensures) ∙ sym c.finding.ensures in
     let kind : fits c.args.kind (finding_under (findings (get s.entries)) c.in-Some.key.now) ≡ true = ap (fits c.args.kind) stands ∙ sym c.fits.ensures ∙ c.if-fits.true in
     let found : first_from (fits c.args.kind) (option_copied c.args.last) c.args.self.now.entries ≡ Some c.duplicate.result =
     sym c.entries.invariant

@@ -3,7 +3,7 @@ use Rattle.slab.specs.Slab.{get, with_value}
 use Rattle.usb_bus.proofs.Interface.{went_none, went_wider}
 use Rattle.usb_table.specs.declared.pipes.Pipes.{Pipes}
 use Rattle.usb_table.specs.Transfers.{PipesPolled}
-use Rattle.usb_table.proofs.PipeCalls.{Through, through_none, through_slot}
+use Rattle.usb_table.proofs.PipeCalls.{CallThrough, through_none, through_slot}
 use Rattle.usb_table.proofs.HubPolls.{table_polls}
 use Rattle.usb_table.proofs.table.DeviceTable.poll.Goals as goal
 
@@ -15,7 +15,7 @@ did g c p q =
 
 -- the entry is written back with the pipes that the call left
 passed : (g : _) (c : goal.After-self-1 g)
-    → Through (did g c) c.args.hub.now (get c.self.inside.entries)
+    → CallThrough (did g c) c.args.hub.now (get c.self.inside.entries)
     (get (with_value c.self.inside.entries c.in-Some.key.now
     (record c.index_mut.result.now { pipes = c.poll.new.self })))
     c.self.inside.indexes.by_path.entries c.self.inside.indexes.by_address.entries
@@ -34,7 +34,7 @@ pub returns-in-Some-clause-polls : goal.returns-in-Some-clause-polls
 returns-in-Some-clause-polls g c known =
     rw (← c.self.view_is)
     (table_polls c.args.hub.now _ _ _ _ _ _ c.poll.result
-    (passed g c).goes (c.poll.ensures.went known) ((passed g c).did known))
+    (passed g c).goes (c.poll.ensures.steps known) ((passed g c).did known))
 
 pub returns-in-None-clause-through : goal.returns-in-None-clause-through
 returns-in-None-clause-through g c =

@@ -4,7 +4,7 @@ use Rattle.usb_bus.specs.Traces.{still}
 use Rattle.usb_table.specs.declared.pipes.Pipes.{Pipes}
 use Rattle.usb_table.specs.declared.fault.EndpointFault.TheVariants.{NoDevice}
 use Rattle.usb_table.specs.Transfers.{PipesSent}
-use Rattle.usb_table.proofs.PipeCalls.{Through, faces_at, through_none, through_slot}
+use Rattle.usb_table.proofs.PipeCalls.{CallThrough, faces_at, through_none, through_slot}
 use Rattle.usb_table.proofs.TransferLeaves.{table_sends}
 use Rattle.usb_table.proofs.table.DeviceTable.send.Goals as goal
 
@@ -16,7 +16,7 @@ did g c p q =
 
 -- the entry is written back with the pipes that the call left
 passed : (g : _) (c : goal.After-self-1 g)
-    → Through (did g c) c.args.path.now (get c.self.inside.entries)
+    → CallThrough (did g c) c.args.path.now (get c.self.inside.entries)
     (get (with_value c.self.inside.entries c.in-Some.key.now
     (record c.index_mut.result.now { pipes = c.send.new.self })))
     c.self.inside.indexes.by_path.entries c.self.inside.indexes.by_address.entries

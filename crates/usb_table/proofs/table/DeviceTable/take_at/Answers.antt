@@ -9,7 +9,7 @@ use Rattle.usb_port.specs.Order.{path_cmp}
 use Rattle.usb_table.specs.Findings.{address_found}
 use Rattle.usb_table.specs.Keys.{PathKeys, findings, key_of_path, UpdatesAddress}
 use Rattle.usb_table.specs.Table.{removed}
-use Rattle.usb_table.proofs.Keys.{found_at, found_in, entries-has_at}
+use Rattle.usb_table.proofs.Keys.{entries_of-key, findings-standing, entries-has_at}
 use Rattle.usb_table.proofs.RemovedEntries.{gone_indexes, gone_piped, gone_table}
 use Rattle.usb_table.proofs.table.DeviceTable.take_at.Goals as goal
 
@@ -56,7 +56,7 @@ returns-clause-some c =
       first = c.in_ok-first.first;
       at = c.in_ok-first.ensures.some;
       found = rw (← c.self.view_is)
-          (found_at (findings (get s.entries)) c.in_ok-first.first s.indexes.by_path.entries c.in_ok-key.key c.remove-entry.result.finding h.was (found_in (get s.entries) c.in_ok-key.key c.remove-entry.result c.remove-entry.ensures.value)
+          (entries_of-key (findings (get s.entries)) c.in_ok-first.first s.indexes.by_path.entries c.in_ok-key.key c.remove-entry.result.finding h.was (findings-standing (get s.entries) c.in_ok-key.key c.remove-entry.result c.remove-entry.ensures.value)
           ∙ ap Some (sym c.into_finding.ensures));
       rest =
           gone_table (get s.entries) (get c.remove-entry.new.self) s.indexes.by_path.entries c.remove_address.new.self.by_path.entries s.indexes.by_address.entries c.remove_address.new.self.by_address.entries

@@ -1,6 +1,6 @@
 use Rattle.std.proofs.Common.{rules, refl, sym}
 use Rattle.usb_bus.specs.Sim.{world_of}
-use Rattle.usb_bus.proofs.Endings.{after_fault, at_limit, again_attempts, limit_attempts, made_attempts, never_limit}
+use Rattle.usb_bus.proofs.Endings.{after_fault, after-limit, again_attempts, limit_attempts, made_attempts, never_limit}
 use Rattle.usb_bus.proofs.sim.bus.SimBusBus.attempt.Goals as goal
 
 pub returns-in-Some-clause-attempts : goal.returns-in-Some-clause-attempts
@@ -17,7 +17,7 @@ returns-then-self-clause-attempts g c = limit_attempts c.args.attempt.now (world
 
 pub returns-then-self-clause-refuses : goal.returns-then-self-clause-refuses
 returns-then-self-clause-refuses g c = record {
-  limit = λ _. (at_limit c.args.attempt.now (world_of c.args.self.now) c.in_default.is c.if-self.true, refl);
+  limit = λ _. (after-limit c.args.attempt.now (world_of c.args.self.now) c.in_default.is c.if-self.true, refl);
   again = search rules;
 }
 

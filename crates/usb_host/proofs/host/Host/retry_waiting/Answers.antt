@@ -2,7 +2,7 @@ use Rattle.std.proofs.Common.{arith, refl}
 use Rattle.usb_host.proofs.Ranks.{rank_most, rank_rises}
 use Rattle.usb_host.proofs.RoundLoops.{waiting_begin, waiting_cut, waiting_end, waiting_handled}
 use Rattle.usb_host.proofs.RoundPayments.{one_waits}
-use Rattle.usb_host.proofs.host.Host.look_again.Goals as goal
+use Rattle.usb_host.proofs.host.Host.retry_waiting.Goals as goal
 
 pub waiting-init : goal.waiting-init
 waiting-init g c = record { so = λ known. waiting_begin _; idle = λ none. (refl, refl); path = tt }
@@ -10,8 +10,8 @@ waiting-init g c = record { so = λ known. waiting_begin _; idle = λ none. (ref
 pub waiting-smaller : goal.waiting-smaller
 waiting-smaller g c =
     let rises = rank_rises c.waiting.last c.in-Some.path c.waiting.invariant.path
-    c.look_once_more.ensures.path c.in-Some.ensures.some.1 in
-    omega (arith, rises, rank_most c.in-Some.path c.look_once_more.ensures.path)
+    c.retry_one.ensures.path c.in-Some.ensures.some.1 in
+    omega (arith, rises, rank_most c.in-Some.path c.retry_one.ensures.path)
 
 pub waiting-preserved : goal.waiting-preserved
 waiting-preserved g c =
@@ -19,23 +19,23 @@ waiting-preserved g c =
     let some = c.in-Some.ensures.some in
     record {
       so = λ known. rw c.and-round.ensures (waiting_handled c.waiting.last c.in-Some.path
-          c.waiting.round c.args.self.now c.waiting.self c.look_once_more.new.self (i.so known)
-          i.path c.look_once_more.ensures.path some.0 some.1 c.in_ok-look_once_more.field-0
-          (c.in_ok-look_once_more.ensures.looks known));
+          c.waiting.round c.args.self.now c.waiting.self c.retry_one.new.self (i.so known)
+          i.path c.retry_one.ensures.path some.0 some.1 c.in_ok-retry_one.field-0
+          (c.in_ok-retry_one.ensures.looks known));
       idle = λ none.
           absurd (one_waits c.args.self.now c.waiting.self c.in-Some.path (i.idle none).1 some.0
           none);
-      path = c.look_once_more.ensures.path;
+      path = c.retry_one.ensures.path;
     }
 
-pub returns-in_err-look_once_more-clause-looks : goal.returns-in_err-look_once_more-clause-looks
-returns-in_err-look_once_more-clause-looks g c known =
+pub returns-in_err-retry_one-clause-looks : goal.returns-in_err-retry_one-clause-looks
+returns-in_err-retry_one-clause-looks g c known =
     let i = c.waiting.invariant in
     let some = c.in-Some.ensures.some in
     waiting_cut c.waiting.last c.in-Some.path c.waiting.round c.args.self.now c.waiting.self
-    c.look_once_more.new.self (i.so known) i.path c.look_once_more.ensures.path some.0 some.1
-    c.in_err-look_once_more.field-0.0 c.from_residual.result c.from_residual.ensures.0
-    (c.in_err-look_once_more.ensures.looks known) (λ none. (i.idle none).1)
+    c.retry_one.new.self (i.so known) i.path c.retry_one.ensures.path some.0 some.1
+    c.in_err-retry_one.field-0.0 c.from_residual.result c.from_residual.ensures.0
+    (c.in_err-retry_one.ensures.looks known) (λ none. (i.idle none).1)
 
 pub returns-clause-looks : goal.returns-clause-looks
 returns-clause-looks g c known =

@@ -1,5 +1,5 @@
 use Rattle.usb_host.proofs.RoundServices.{parts_hubless, parts_lookless, parts_made, parts_rootless}
-use Rattle.usb_host.proofs.host.Host.parts.Goals as goal
+use Rattle.usb_host.proofs.host.Host.run_round.Goals as goal
 
 pub returns-in_err-roots-clause-parts : goal.returns-in_err-roots-clause-parts
 returns-in_err-roots-clause-parts g c known =
@@ -17,7 +17,7 @@ pub returns-in_err-looks-clause-parts : goal.returns-in_err-looks-clause-parts
 returns-in_err-looks-clause-parts g c known =
     parts_lookless c.args.self.now c.serve_roots.new.self c.in_ok-roots.roots
     (c.in_ok-roots.ensures.roots known) c.serve_hubs.new.self c.in_ok-hubs.hubs
-    (c.in_ok-hubs.ensures.hubs known) c.look_again.new.self c.in_err-looks.field-0.0
+    (c.in_ok-hubs.ensures.hubs known) c.retry_waiting.new.self c.in_err-looks.field-0.0
     c.from_residual-in_err-looks.result c.from_residual-in_err-looks.ensures.0
     (c.in_err-looks.ensures.looks known)
 
@@ -25,5 +25,5 @@ pub returns-clause-parts : goal.returns-clause-parts
 returns-clause-parts g c known =
     rw (c.and-2.ensures, c.and.ensures) (parts_made c.args.self.now c.serve_roots.new.self
     c.in_ok-roots.roots (c.in_ok-roots.ensures.roots known) c.serve_hubs.new.self
-    c.in_ok-hubs.hubs (c.in_ok-hubs.ensures.hubs known) c.look_again.new.self c.in_ok-looks.looks
+    c.in_ok-hubs.hubs (c.in_ok-hubs.ensures.hubs known) c.retry_waiting.new.self c.in_ok-looks.looks
     (c.in_ok-looks.ensures.looks known))

@@ -6,7 +6,7 @@ use Rattle.usb_enum.specs.declared.fault.EnumFault.TheVariants.{Bus, Memory, Par
 use Rattle.usb_host.specs.Ports.{Broke}
 use Rattle.usb_host.proofs.PortDrops.{finish_done, finish_lost, no_parent}
 use Rattle.usb_host.proofs.PortServes.{finish_fails}
-use Rattle.usb_host.proofs.host.Host.finish.Goals as goal
+use Rattle.usb_host.proofs.host.Host.drop_lost_parent.Goals as goal
 
 pub returns-in-Ok-clause-finishes : goal.returns-in-Ok-clause-finishes
 returns-in-Ok-clause-finishes g c known =

@@ -5,7 +5,7 @@ use Rattle.usb_host.specs.Soundness.{NoneWait}
 use Rattle.usb_host.specs.declared.host.Round.TheVariants.{Quiet}
 use Rattle.usb_host.proofs.Ranks.{rank_after}
 use Rattle.usb_host.proofs.RoundLoops.{WaitingHandled}
-use Rattle.usb_host.proofs.host.Host.look_again.Given as goal
+use Rattle.usb_host.proofs.host.Host.retry_waiting.Given as goal
 
 abbrev pub invariant-waiting : goal.invariant-waiting
 invariant-waiting g l = record {

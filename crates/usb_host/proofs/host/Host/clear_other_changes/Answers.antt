@@ -1,6 +1,6 @@
 use Rattle.std.proofs.lemmas.Result.{err_from_is_err_and}
 use Rattle.usb_host.proofs.PortRequests.{tidied, tidied_fails}
-use Rattle.usb_host.proofs.host.Host.tidy.Goals as goal
+use Rattle.usb_host.proofs.host.Host.clear_other_changes.Goals as goal
 
 pub returns-in_err-clear_where-clause-tidies : goal.returns-in_err-clear_where-clause-tidies
 returns-in_err-clear_where-clause-tidies g c known =

@@ -15,9 +15,9 @@ use Rattle.usb_transaction.specs.HeardOutcomes.{polled_as}
 use Rattle.usb_transaction.specs.Transactions.{packed, error_limit, wait_limit}
 
 -- the same attempt was made again and again, and this is what the host got, the last of it first
-pub data Trail (a : Attempt) (old : World) : List Outcome → World → Type 0 where
-  start : Trail a old [] old
-  next : {outcomes : List Outcome} (w : World) → Trail a old outcomes w → Made w (after (attempt a) w) → Trail a old (outcome_in a w ∷ outcomes) (after (attempt a) w)
+pub data AttemptLog (a : Attempt) (old : World) : List Outcome → World → Type 0 where
+  start : AttemptLog a old [] old
+  next : {outcomes : List Outcome} (w : World) → AttemptLog a old outcomes w → Made w (after (attempt a) w) → AttemptLog a old (outcome_in a w ∷ outcomes) (after (attempt a) w)
 
 -- an error is one more of those running; anything else ends their row
 abbrev pub errors_with : HeardOutcome → ℕ → ℕ
@@ -54,51 +54,51 @@ IsNoEnd Refused = ⊥
 IsNoEnd Lost = ⊤
 
 -- the transaction goes on over these: nothing ended it, never did too many errors run, and there were fewer waits than end it
-unfoldable pub GoesOn : (Outcome → HeardOutcome) → List Outcome → Type 0
-GoesOn hear [] = ⊤
-GoesOn hear (o ∷ outcomes) = IsNoEnd (hear o) × (errors_running hear (o ∷ outcomes) < error_limit) × (waits_in hear (o ∷ outcomes) < wait_limit) × GoesOn hear outcomes
+unfoldable pub KeepsTrying : (Outcome → HeardOutcome) → List Outcome → Type 0
+KeepsTrying hear [] = ⊤
+KeepsTrying hear (o ∷ outcomes) = IsNoEnd (hear o) × (errors_running hear (o ∷ outcomes) < error_limit) × (waits_in hear (o ∷ outcomes) < wait_limit) × KeepsTrying hear outcomes
 
 -- what an answer says of the last outcome, and of those before it
-abbrev pub Tells : (Outcome → HeardOutcome) → Result (List ℕ) TransFault → Outcome → List Outcome → Type 0
-Tells hear (Ok bytes) last outcomes = hear last ≡ Moved (packed bytes)
-Tells hear (Err Stalled) last outcomes = last ≡ Stall
-Tells hear (Err Busy) last outcomes = waits_in hear (last ∷ outcomes) ≡ wait_limit
-Tells hear (Err NoAnswer) last outcomes = errors_running hear (last ∷ outcomes) ≡ error_limit
-Tells hear (Err (Bus fault)) last outcomes = ⊥
+abbrev pub LastOutcome : (Outcome → HeardOutcome) → Result (List ℕ) TransFault → Outcome → List Outcome → Type 0
+LastOutcome hear (Ok bytes) last outcomes = hear last ≡ Moved (packed bytes)
+LastOutcome hear (Err Stalled) last outcomes = last ≡ Stall
+LastOutcome hear (Err Busy) last outcomes = waits_in hear (last ∷ outcomes) ≡ wait_limit
+LastOutcome hear (Err NoAnswer) last outcomes = errors_running hear (last ∷ outcomes) ≡ error_limit
+LastOutcome hear (Err (Bus fault)) last outcomes = ⊥
 
 -- the transaction went on until its last outcome, which the answer tells
-pub record Ended (hear : Outcome → HeardOutcome) (a : Attempt) (old : World) (result : Result (List ℕ) TransFault) (new : World) : Type 0 where
+pub record TransactionDone (hear : Outcome → HeardOutcome) (a : Attempt) (old : World) (result : Result (List ℕ) TransFault) (new : World) : Type 0 where
   pub outcomes : List Outcome
   pub last : Outcome
-  pub trail : Trail a old (last ∷ outcomes) new
-  pub onward : GoesOn hear outcomes
-  pub tells : Tells hear result last outcomes
+  pub trail : AttemptLog a old (last ∷ outcomes) new
+  pub onward : KeepsTrying hear outcomes
+  pub tells : LastOutcome hear result last outcomes
 
 -- it went on until the bus refused one more attempt
-pub record CutOff (hear : Outcome → HeardOutcome) (a : Attempt) (old : World) (fault : BusFault) (new : World) : Type 0 where
+pub record BusFailed (hear : Outcome → HeardOutcome) (a : Attempt) (old : World) (fault : BusFault) (new : World) : Type 0 where
   pub outcomes : List Outcome
   pub mid : World
-  pub trail : Trail a old outcomes mid
-  pub onward : GoesOn hear outcomes
+  pub trail : AttemptLog a old outcomes mid
+  pub onward : KeepsTrying hear outcomes
   pub fits : IsAttempt a
   pub refused : Attempted a mid (Err fault) new
   pub fails : mid.fault ≡ None → AttemptFails a mid (Err fault) new
 
 -- a transaction of one attempt that is made until an end, to a host that hears outcomes as `hear` says
 abbrev pub Transacted : (Outcome → HeardOutcome) → Attempt → World → Result (List ℕ) TransFault → World → Type 0
-Transacted hear a old (Ok bytes) new = Ended hear a old (Ok bytes) new
-Transacted hear a old (Err Stalled) new = Ended hear a old (Err Stalled) new
-Transacted hear a old (Err Busy) new = Ended hear a old (Err Busy) new
-Transacted hear a old (Err NoAnswer) new = Ended hear a old (Err NoAnswer) new
-Transacted hear a old (Err (Bus fault)) new = CutOff hear a old fault new
+Transacted hear a old (Ok bytes) new = TransactionDone hear a old (Ok bytes) new
+Transacted hear a old (Err Stalled) new = TransactionDone hear a old (Err Stalled) new
+Transacted hear a old (Err Busy) new = TransactionDone hear a old (Err Busy) new
+Transacted hear a old (Err NoAnswer) new = TransactionDone hear a old (Err NoAnswer) new
+Transacted hear a old (Err (Bus fault)) new = BusFailed hear a old fault new
 
 -- Polls: a NAK is an answer, and ends them
 
 -- the poll went on until a NAK
 pub record Waiting (toggle : Toggle) (a : Attempt) (old new : World) : Type 0 where
   pub outcomes : List Outcome
-  pub trail : Trail a old (Nak ∷ outcomes) new
-  pub onward : GoesOn (polled_as toggle) outcomes
+  pub trail : AttemptLog a old (Nak ∷ outcomes) new
+  pub onward : KeepsTrying (polled_as toggle) outcomes
 
 abbrev pub Polled : Toggle → Attempt → World → Result (Option (List ℕ)) TransFault → World → Type 0
 Polled toggle a old (Ok None) new = Waiting toggle a old new

@@ -2,7 +2,7 @@
 use Rattle.std.proofs.Common.{◌≡◌, ◌∙◌, ◌+◌, ◌≤◌, arith, refl, sym, ap, subst, ℕ, Bool, true, false, List, Option, None, Some, is_some, Result, Ok, Err}
 use Rattle.std.specs.Prelude.{IsErr, IsOk, IsSome}
 use Rattle.arrayvec.specs.ArrayVec.{ArrayVec}
-use Rattle.usb_world.specs.Paths.{pend}
+use Rattle.usb_world.specs.Paths.{pending}
 use Rattle.usb_world.specs.World.{World}
 use Rattle.usb_transaction.specs.Failures.{NoThreeDamaged}
 use Rattle.usb_pipe.specs.declared.fault.PipeFault.{PipeFault}
@@ -25,43 +25,43 @@ use Rattle.usb_table.specs.Transfers.{PipesPolled}
 use Rattle.usb_host.specs.Agreement.{Agrees}
 use Rattle.usb_host.specs.Bounds.{drop_bound, hub_poll_bound, hubs_bound, looks_bound, round_bound, roots_bound, told_bound}
 use Rattle.usb_host.specs.BulkPipes.{KeepsBulk}
-use Rattle.usb_host.specs.Hosting.{Hosting}
+use Rattle.usb_host.specs.HostState.{HostState}
 use Rattle.usb_host.specs.Ownership.{StaysOwned, DropsHub}
 use Rattle.usb_host.specs.Transfers.{table_in}
-use Rattle.usb_host.specs.Progress.{HostWent, HostGoes, either}
-use Rattle.usb_host.specs.Soundness.{IsSound, StaysSound, PartStays, DropsSound, Part, PartsKeep, RootsRest, HubKeeps, HubsKeep, LooksKeep, NoneWait}
+use Rattle.usb_host.specs.Progress.{HostSteps, HostRuns, either}
+use Rattle.usb_host.specs.Soundness.{HostInvariant, KeepsInvariant, PartStays, DropsSound, Part, PartsKeep, RootsRest, HubKeeps, HubsKeep, LooksKeep, NoneWait}
 use Rattle.usb_host.specs.declared.fault.HostFault.{HostFault}
 use Rattle.usb_host.specs.declared.host.Round.{Round}
 use Rattle.usb_host.specs.declared.host.Round.TheVariants.{Worked, Quiet}
 use Rattle.usb_host.proofs.BulkPipes.{bulk_stays, stay_polled}
 use Rattle.usb_host.proofs.Plugs.{plugs_kept}
-use Rattle.usb_host.proofs.Handlings.{hub_lost}
-use Rattle.usb_host.proofs.Owners.{single_then, stays_kept, stays_none, stays_then}
+use Rattle.usb_host.proofs.OwnedPorts.{dropped_hub_owned}
+use Rattle.usb_host.proofs.Owners.{single_then, stays_kept, stays_owned_none, stays_owned_then}
 use Rattle.usb_host.proofs.Polls.{HubThere, hub_there, reached_at, heard_at, poll_silent}
 use Rattle.usb_host.proofs.RestingRounds.{done, ok_is, quiet_first, quiet_second, at_rest}
-use Rattle.usb_host.proofs.Joins.{goes_none, goes_then, goes_wider}
+use Rattle.usb_host.proofs.StepSums.{host_goes_none, host_goes_then, goes_wider}
 use Rattle.usb_host.proofs.Roots.{accounted, on_failed}
 use Rattle.usb_host.proofs.Soundness.{part_none, part_then, sound_kept, but_kept, caused_kept, known_kept, truthful_kept, occupied_kept, sound_dropped}
 
 -- One part after another
 
-pub part-none : {A : Type 0} (n : ℕ) (x : A) (h : Hosting) → Part n h (Ok x) h
-part-none n x h = record { goes = goes_none n h; owned = stays_none h; sound = part_none h }
+pub part-none : {A : Type 0} (n : ℕ) (x : A) (h : HostState) → Part n h (Ok x) h
+part-none n x h = record { goes = host_goes_none n h; owned = stays_owned_none h; sound = part_none h }
 
-pub part-then : {A B : Type 0} (k m n : ℕ) (a b c : Hosting) (x : A) (result : Result B HostFault)
+pub part-then : {A B : Type 0} (k m n : ℕ) (a b c : HostState) (x : A) (result : Result B HostFault)
     → Part m a (Ok x) b → Part n b result c → m + n ≤ k → Part k a result c
 part-then k m n a b c x (Ok y) p q le = record {
-  goes = goes_then k m n a b c p.goes q.goes le;
-  owned = stays_then a b c p.owned q.owned;
+  goes = host_goes_then k m n a b c p.goes q.goes le;
+  owned = stays_owned_then a b c p.owned q.owned;
   sound = part_then m n a b c p.goes.went q.goes.went p.sound q.sound;
 }
 part-then k m n a b c x (Err fault) p q le = record {
-  goes = goes_then k m n a b c p.goes q.goes le;
+  goes = host_goes_then k m n a b c p.goes q.goes le;
   owned = single_then a b c p.owned q.owned;
   sound = tt;
 }
 
-pub part-wider : {A : Type 0} (B : Type 0) (k m : ℕ) (a b : Hosting) (x : A) (y : B)
+pub part-wider : {A : Type 0} (B : Type 0) (k m : ℕ) (a b : HostState) (x : A) (y : B)
     → Part m a (Ok x) b → m ≤ k → Part k a (Ok y) b
 part-wider B k m a b x y p le = record {
   goes = goes_wider m k a b p.goes le;
@@ -69,7 +69,7 @@ part-wider B k m a b x y p le = record {
   sound = p.sound;
 }
 
-pub part-fails : {A B : Type 0} (k m : ℕ) (a b : Hosting) (fault : HostFault)
+pub part-fails : {A B : Type 0} (k m : ℕ) (a b : HostState) (fault : HostFault)
     (other : Result B HostFault) → Part {A = A} m a (Err fault) b → IsErr other → m ≤ k
     → Part k a other b
 part-fails k m a b fault (Ok y) p e le = absurd (cc e)
@@ -85,7 +85,7 @@ not_done : {A : Type 0} (result : Result A HostFault) (x : A) {P : Type 0} → I
 not_done (Ok y) x e is = absurd (cc e)
 not_done (Err fault) x e is = absurd (cc is)
 
-module _ (result : Result Round HostFault) (a c : Hosting) (e : IsErr result) where
+module _ (result : Result Round HostFault) (a c : HostState) (e : IsErr result) where
   pub hub_fails : (hub : List ℕ) → Part hub_poll_bound a result c → HubKeeps hub a result c
   hub_fails hub x = record {
     part = x;
@@ -114,31 +114,31 @@ module _ (result : Result Round HostFault) (a c : Hosting) (e : IsErr result) wh
 -- A hub is polled
 
 -- where the bus is at work, a poll that failed was not answered
-pub unserved : (pipes left : Pipes) (fault : PipeFault) (old new : World) → PipesPolled pipes old (Err fault) left new → new.fault ≡ None → NoHubFailed {A = Option (ArrayVec ℕ)} (Err fault) → ⊥
-unserved pipes left Stalled old new x still served = served
-unserved pipes left Busy old new x still served = served
-unserved pipes left NoAnswer old new x still served = served
-unserved pipes left Broken old new x still served = served
-unserved (HubPipe pipe) left (Bus fault) old new x still served = let told = x.2.polls.ends.told in cc (told, still)
-unserved (Function pipes) left (Bus fault) old new x still served = cc (x.0)
-unserved Absent left (Bus fault) old new x still served = cc (x.0)
-unserved (HubPipe pipe) left Memory old new x still served = x.2.polls.room refl
-unserved (Function pipes) left Memory old new x still served = cc (x.0)
-unserved Absent left Memory old new x still served = cc (x.0)
+pub polled_hub_not_failed : (pipes left : Pipes) (fault : PipeFault) (old new : World) → PipesPolled pipes old (Err fault) left new → new.fault ≡ None → NoHubFailed {A = Option (ArrayVec ℕ)} (Err fault) → ⊥
+polled_hub_not_failed pipes left Stalled old new x still served = served
+polled_hub_not_failed pipes left Busy old new x still served = served
+polled_hub_not_failed pipes left NoAnswer old new x still served = served
+polled_hub_not_failed pipes left Broken old new x still served = served
+polled_hub_not_failed (HubPipe pipe) left (Bus fault) old new x still served = let told = x.2.polls.ends.told in cc (told, still)
+polled_hub_not_failed (Function pipes) left (Bus fault) old new x still served = cc (x.0)
+polled_hub_not_failed Absent left (Bus fault) old new x still served = cc (x.0)
+polled_hub_not_failed (HubPipe pipe) left Memory old new x still served = x.2.polls.room refl
+polled_hub_not_failed (Function pipes) left Memory old new x still served = cc (x.0)
+polled_hub_not_failed Absent left Memory old new x still served = cc (x.0)
 
 pub hub_listed : (o : Option Finding) → IsSome (hub_facts_in o) → IsSome o
 hub_listed None some = absurd (cc some)
 hub_listed (Some f) some = refl
 
-part_where : (a c : Hosting) → (IsSound a → PartStays a c) → PartStays a c
+part_where : (a c : HostState) → (HostInvariant a → PartStays a c) → PartStays a c
 part_where a c f = record {
   sound = record { sound = λ s. (f s).sound.sound s; caused = λ s fair q. (f s).sound.caused s fair q };
   bulk = λ s still. (f s).bulk s still;
   plugs = λ s still. (f s).plugs s still;
 }
 
-module _ (hub : List ℕ) (answer : Result (Option (ArrayVec ℕ)) PipeFault) (a b : Hosting) (agrees : Agrees a.entries a.addresses) (same : b.entries ≡ a.entries) (pool : b.addresses ≡ a.addresses) (stopped : b.stopped ≡ a.stopped)
-    (went : HostWent 768 a b) (keeps : KeepsPolled hub (table_in a) a.world answer (table_in b) b.world) (through : GoesThrough hub (table_in a) (table_in b))
+module _ (hub : List ℕ) (answer : Result (Option (ArrayVec ℕ)) PipeFault) (a b : HostState) (agrees : Agrees a.entries a.addresses) (same : b.entries ≡ a.entries) (pool : b.addresses ≡ a.addresses) (stopped : b.stopped ≡ a.stopped)
+    (went : HostSteps 768 a b) (keeps : KeepsPolled hub (table_in a) a.world answer (table_in b) b.world) (through : GoesThrough hub (table_in a) (table_in b))
     (asks : PipesPolled (pipes_at hub (table_in a)) a.world answer (pipes_at hub (table_in b)) b.world) where
   agrees_on : Agrees b.entries b.addresses
   agrees_on = subst (λ (es : Entries). Agrees es b.addresses) (sym same) (subst (Agrees a.entries) (sym pool) agrees)
@@ -146,13 +146,13 @@ module _ (hub : List ℕ) (answer : Result (Option (ArrayVec ℕ)) PipeFault) (a
   polled : StaysOwned a b
   polled = stays_kept a b same went.spends.roots keeps.levels.worlds.addresses
 
-  goes : HostGoes 768 a b
+  goes : HostRuns 768 a b
   goes = record { went = went; going = stopped }
 
-  sound : IsOk answer → StaysSound a b
+  sound : IsOk answer → KeepsInvariant a b
   sound ok = sound_kept 768 hub (IsOk answer) a b agrees same went keeps.levels (λ still. ok)
 
-  bulk : IsSound a → b.world.fault ≡ None → KeepsBulk a b
+  bulk : HostInvariant a → b.world.fault ≡ None → KeepsBulk a b
   bulk s still =
       let before = went_sound 768 a.world b.world went still in
       bulk_stays a b (stay_polled hub a b answer through asks (keeps.spares (s.owned.so before) (s.level before hub)))
@@ -174,12 +174,12 @@ module _ (hub : List ℕ) (answer : Result (Option (ArrayVec ℕ)) PipeFault) (a
   }
 
   -- it told of changes, and its ports were handled
-  pub hub_told : (c : Hosting) → IsOk answer → HostGoes told_bound b c → StaysOwned b c
-      → (IsSound a → PartStays b c) → HubKeeps hub a (Ok Worked) c
+  pub hub_told : (c : HostState) → IsOk answer → HostRuns told_bound b c → StaysOwned b c
+      → (HostInvariant a → PartStays b c) → HubKeeps hub a (Ok Worked) c
   hub_told c ok q owned told = record {
     part = record {
-      goes = goes_then hub_poll_bound 768 told_bound a b c goes q (omega arith);
-      owned = stays_then a b c polled owned;
+      goes = host_goes_then hub_poll_bound 768 told_bound a b c goes q (omega arith);
+      owned = stays_owned_then a b c polled owned;
       sound = part_where a c
           (λ s. part_then 768 told_bound a b c goes.went q.went (part ok) (told s));
     };
@@ -188,13 +188,13 @@ module _ (hub : List ℕ) (answer : Result (Option (ArrayVec ℕ)) PipeFault) (a
   }
 
   -- a hub that does not answer is not reached, or a change is pending on the way to it
-  pends : (b.world.fault ≡ None → NoHubFailed answer → ⊥) → IsSome (hub_facts_at hub a.entries) → IsSound a → b.world.fault ≡ None → NoThreeDamaged a.world → pend b.world.roots hub ≡ true
-  pends failed listed s still few = pick (hub_facts_at hub a.entries) refl listed (pend b.world.roots hub) refl
+  pends : (b.world.fault ≡ None → NoHubFailed answer → ⊥) → IsSome (hub_facts_at hub a.entries) → HostInvariant a → b.world.fault ≡ None → NoThreeDamaged a.world → pending b.world.roots hub ≡ true
+  pends failed listed s still few = pick (hub_facts_at hub a.entries) refl listed (pending b.world.roots hub) refl
     where
       held : IsHeld (table_in a) a.world
       held = s.owned.so (went_sound 768 a.world b.world went still)
 
-      heard : (facts : HubFacts) → HubThere hub a.entries facts → pend b.world.roots hub ≡ false → ⊥
+      heard : (facts : HubFacts) → HubThere hub a.entries facts → pending b.world.roots hub ≡ false → ⊥
       heard facts there none =
           let rooted = polled.rooted s.rooted in
           let found : finding_at hub b.entries ≡ Some (Device there.device) = ap (λ (es : Entries). finding_at hub es) same ∙ there.found in
@@ -204,21 +204,21 @@ module _ (hub : List ℕ) (answer : Result (Option (ArrayVec ℕ)) PipeFault) (a
           failed still (keeps.why held (s.level (went_sound 768 a.world b.world went still) hub) few there.device (ap accepted_device_of there.found) (ap is_some there.told)
           (heard_at b.world b.entries b.addresses (accounted b agrees_on rooted) known truthful hub there.device found on))
 
-      pick : (o : Option HubFacts) → hub_facts_at hub a.entries ≡ o → IsSome o → (p : Bool) → pend b.world.roots hub ≡ p → p ≡ true
+      pick : (o : Option HubFacts) → hub_facts_at hub a.entries ≡ o → IsSome o → (p : Bool) → pending b.world.roots hub ≡ p → p ≡ true
       pick None at some p is = absurd (cc some)
       pick (Some facts) at some true is = refl
       pick (Some facts) at some false is = absurd (heard facts (hub_there hub a.entries facts at) is)
 
   -- it did not answer, and was dropped
-  pub hub_gone : (c : Hosting) → (b.world.fault ≡ None → NoHubFailed answer → ⊥)
-      → IsSome (hub_facts_at hub a.entries) → HostGoes drop_bound b c → DropsHub hub b (Ok tt) c
+  pub hub_gone : (c : HostState) → (b.world.fault ≡ None → NoHubFailed answer → ⊥)
+      → IsSome (hub_facts_at hub a.entries) → HostRuns drop_bound b c → DropsHub hub b (Ok tt) c
       → DropsSound hub b (Ok tt) c → HubKeeps hub a (Ok Worked) c
   hub_gone c failed listed q drops dropped =
       let there : IsSome (finding_at hub b.entries) = subst (λ (es : Entries). IsSome (finding_at hub es)) (sym same) (hub_listed (finding_at hub a.entries) listed) in
       record {
         part = record {
-          goes = goes_then hub_poll_bound 768 drop_bound a b c goes q (omega arith);
-          owned = hub_lost hub a b (Ok tt) c there polled drops;
+          goes = host_goes_then hub_poll_bound 768 drop_bound a b c goes q (omega arith);
+          owned = dropped_hub_owned hub a b (Ok tt) c there polled drops;
           sound = sound_dropped (Ok tt) hub 768 drop_bound a b c goes q
               (λ s. record {
                 listed = there;
@@ -236,7 +236,7 @@ module _ (hub : List ℕ) (answer : Result (Option (ArrayVec ℕ)) PipeFault) (a
 
 -- All parts
 
-pub parts_keep : (roots hubs looks : Round) (a b c d : Hosting)
+pub parts_keep : (roots hubs looks : Round) (a b c d : HostState)
     → (done roots ≡ done Quiet → RootsRest a b) → Part roots_bound a (Ok roots) b
     → HubsKeep b (Ok hubs) c → LooksKeep c (Ok looks) d
     → PartsKeep a (Ok (either (either roots hubs) looks)) d

@@ -10,7 +10,7 @@ use Rattle.usb_enum.specs.declared.finding.Finding.TheVariants.{Device, Refused}
 use Rattle.usb_table.specs.declared.pipes.Pipes.{Pipes}
 use Rattle.usb_table.specs.Entries.{Entries}
 
-pub record Hosting : Type 0 where
+pub record HostState : Type 0 where
   pub world : World  -- the bus's
   pub trace : Option (List ℕ)  -- the text that the bus's trace has, where that is known
   pub entries : Entries
@@ -25,7 +25,7 @@ with_power (vacant b k) = vacant (powered_on b) (with_power k)
 with_power (taken b s a k) = taken (powered_on b) s a (with_power k)
 
 -- the root ports have power, and no device is known
-abbrev pub opening_host : World → Option (List ℕ) → Hosting
+abbrev pub opening_host : World → Option (List ℕ) → HostState
 opening_host w t = record { world = record w { roots = with_power w.roots }; trace = t; entries = []; pipes = []; addresses = set.empty; stopped = false }
 
 -- the change bits that are set and the events to come

@@ -11,23 +11,23 @@ use Rattle.usb_device.specs.Tree.{Ports, ended, vacant, taken, row_of, reach, re
 use Rattle.usb_world.specs.Paths.{is_way}
 use Rattle.usb_world.specs.World.{World}
 use Rattle.usb_world.proofs.Interface.{way_rest}
-use Rattle.usb_address.specs.Claims.{Claims}
+use Rattle.usb_address.specs.Claims.{AddressMap}
 use Rattle.usb_hub.specs.Addresses.{IsAt}
-use Rattle.usb_hub.proofs.Interface.{asked_port, asked_stays}
+use Rattle.usb_hub.proofs.Interface.{asked_port, is_asked_stays}
 use Rattle.usb_enum.specs.declared.fault.EnumFault.{EnumFault}
 use Rattle.usb_enum.specs.declared.fault.EnumFault.TheVariants.{ParentLost, Bus, Memory}
 use Rattle.usb_enum.specs.declared.finding.Finding.{Finding}
-use Rattle.usb_enum.specs.Stop.{FaultAt}
+use Rattle.usb_enum.specs.Stop.{FaultAllowedAt}
 use Rattle.usb_table.specs.declared.known.KnownPort.{KnownPort}
 use Rattle.usb_table.specs.Entries.{Entries}
 use Rattle.usb_table.specs.Keys.{address_in}
 use Rattle.usb_table.specs.KnownPorts.{known_port, root_port, port_below, port_found, is_below_hub, IsAskable}
 use Rattle.usb_table.proofs.Interface.{FoundPort, port_found-some}
 use Rattle.usb_host.specs.Agreement.{Agrees}
-use Rattle.usb_host.specs.Hosting.{Hosting}
+use Rattle.usb_host.specs.HostState.{HostState}
 use Rattle.usb_host.specs.Ownership.{claims}
 use Rattle.usb_host.specs.Ports.{IsPortAt, StandsAt, StandsNowhere, Broke}
-use Rattle.usb_host.specs.Progress.{HostWent, Rests}
+use Rattle.usb_host.specs.Progress.{HostSteps, OnlyBusSteps}
 
 pub root_alone : (path : List ℕ) → 1 ≤ length path → parent_of path ≡ None → path ≡ port_on_hub path ∷ []
 unfolding parent_of port_on_hub
@@ -40,7 +40,7 @@ root_alone (n ∷ m ∷ rest) some none =
 
 -- The table's ports
 
-at_found : (f : Claims) (hub path : List ℕ) (n : ℕ) → IsPath hub → path ≡ hub ++ n ∷ [] → (port : KnownPort) → IsAskable port.port → (found : Option Finding) (below_hub : Bool) → f hub ≡ address_in found
+at_found : (f : AddressMap) (hub path : List ℕ) (n : ℕ) → IsPath hub → path ≡ hub ++ n ∷ [] → (port : KnownPort) → IsAskable port.port → (found : Option Finding) (below_hub : Bool) → f hub ≡ address_in found
     → port_found found below_hub n ≡ Some port → IsAt f port.port path
 at_found f hub path n is joined port askable found below_hub held e =
     let x : FoundPort found below_hub n port = port_found-some found below_hub n port e in
@@ -54,11 +54,11 @@ at_known path es port is askable None above e =
 at_known path es port is askable (Some hub) above e =
     at_found (claims es) hub path (port_on_hub path) (is_path path hub is above) (rejoined path hub above) port askable (lookup (is_at (path_cmp hub)) es) (is_below_hub hub) refl e
 
-pub stands_at : (path : List ℕ) (port : KnownPort) (h : Hosting) → StandsAt path port h → IsAt (claims h.entries) port.port path
-stands_at path port h s = at_known path h.entries port s.is s.askable (parent_of path) refl s.known
+pub stands_at-claim : (path : List ℕ) (port : KnownPort) (h : HostState) → StandsAt path port h → IsAt (claims h.entries) port.port path
+stands_at-claim path port h s = at_known path h.entries port s.is s.askable (parent_of path) refl s.known
 
 -- a port that is known stands where the bus does what its world does
-pub placed : {modelled : Bool} {path : List ℕ} {port : KnownPort} {h : Hosting} → modelled ≡ true
+pub placed : {modelled : Bool} {path : List ℕ} {port : KnownPort} {h : HostState} → modelled ≡ true
     → IsPortAt modelled path port h → StandsAt path port h
 placed {modelled} {path} {port} {h} known s = record {
   is = s.is;
@@ -69,30 +69,30 @@ placed {modelled} {path} {port} {h} known s = record {
 }
 
 -- and it stands where it stood while the host keeps what it knows
-pub placed_on : (modelled : Bool) (n : ℕ) (path : List ℕ) (port : KnownPort) (a b : Hosting)
-    → Rests a b → (modelled ≡ true → HostWent n a b) → IsPortAt modelled path port a
+pub placed_on : (modelled : Bool) (n : ℕ) (path : List ℕ) (port : KnownPort) (a b : HostState)
+    → OnlyBusSteps a b → (modelled ≡ true → HostSteps n a b) → IsPortAt modelled path port a
     → IsPortAt modelled path port b
 placed_on modelled n path port a b r went s = record {
   is = s.is;
-  known = ap (λ (h : Hosting). known_port path h.entries) r ∙ s.known;
-  asked = asked_stays modelled n port.port a.world b.world (λ known. (went known).spends) s.asked;
+  known = ap (λ (h : HostState). known_port path h.entries) r ∙ s.known;
+  asked = is_asked_stays modelled n port.port a.world b.world (λ known. (went known).spends) s.asked;
   askable = s.askable;
-  agrees = subst (λ (h : Hosting). Agrees h.entries h.addresses) (sym r) s.agrees;
+  agrees = subst (λ (h : HostState). Agrees h.entries h.addresses) (sym r) s.agrees;
 }
 
 -- a root port is a register, and never fails
-pub lost_above : (path : List ℕ) (es : Entries) (port : KnownPort) (w : World) → FaultAt port.port ParentLost w → (above : Option (List ℕ)) → parent_of path ≡ above → port_below above (port_on_hub path) es ≡ Some port → IsSome above
+pub lost_above : (path : List ℕ) (es : Entries) (port : KnownPort) (w : World) → FaultAllowedAt port.port ParentLost w → (above : Option (List ℕ)) → parent_of path ≡ above → port_below above (port_on_hub path) es ≡ Some port → IsSome above
 lost_above path es port w lost None above e =
     let same : root_port (port_on_hub path) ≡ port = cc e in
-    absurd (subst (λ (p : KnownPort). FaultAt p.port ParentLost w) (sym same) lost)
+    absurd (subst (λ (p : KnownPort). FaultAllowedAt p.port ParentLost w) (sym same) lost)
 lost_above path es port w lost (Some hub) above e = refl
 
-pub broke : (path : List ℕ) (port : KnownPort) (h : Hosting) (fault : EnumFault) (w : World) → StandsAt path port h → FaultAt port.port fault w → Broke path fault w
+pub broke : (path : List ℕ) (port : KnownPort) (h : HostState) (fault : EnumFault) (w : World) → StandsAt path port h → FaultAllowedAt port.port fault w → Broke path fault w
 broke path port h ParentLost w s told = lost_above path h.entries port w told (parent_of path) refl s.known
 broke path port h (Bus fault) w s told = told
 broke path port h Memory w s told = told
 
-pub breaks : (path : List ℕ) (port : KnownPort) (h : Hosting) (served : Result (Unit {0}) EnumFault) (w : World) → StandsAt path port h → IfErr served (λ fault. FaultAt port.port fault w) → IfErr served (λ fault. Broke path fault w)
+pub breaks : (path : List ℕ) (port : KnownPort) (h : HostState) (served : Result (Unit {0}) EnumFault) (w : World) → StandsAt path port h → IfErr served (λ fault. FaultAllowedAt port.port fault w) → IfErr served (λ fault. Broke path fault w)
 breaks path port h (Ok done) w s told = tt
 breaks path port h (Err fault) w s told = broke path port h fault w s told
 
@@ -110,7 +110,7 @@ beyond_path : (k : Ports) (n : ℕ) (r : List ℕ) → length (row_of k) < n →
 beyond_path k zero r lt = refl
 beyond_path k (suc i) r lt = beyond_reach k i r (omega (arith, lt))
 
-pub nowhere_reached : (path : List ℕ) (h : Hosting) → StandsNowhere path h → parent_of path ≡ None → (x : List ℕ) → is_way path x ≡ true → reach h.world.roots x ≡ false
+pub nowhere_reached : (path : List ℕ) (h : HostState) → StandsNowhere path h → parent_of path ≡ None → (x : List ℕ) → is_way path x ≡ true → reach h.world.roots x ≡ false
 nowhere_reached path h s none x way =
     let rest = way_rest path x way in
     let whole : x ≡ port_on_hub path ∷ rest.0 = rest.1 ∙ ap (λ (l : List ℕ). l ++ rest.0) (root_alone path s.is.0 none) in
