@@ -7,14 +7,15 @@ use Rattle.usb_device.specs.Tree.{state_at, Location, path_to, reach_on, state_o
 use Rattle.usb_world.specs.declared.types.Attempt.{Attempt}
 use Rattle.usb_world.specs.declared.types.BusFault.{BusFault}
 use Rattle.usb_world.specs.declared.types.Outcome.{Outcome}
-use Rattle.usb_world.specs.Paths.{address_of, same_path}
-use Rattle.usb_world.specs.AttemptPackets.{deep_at, NobodyHolds}
+use Rattle.usb_tree.specs.Paths.{address_of, same_path}
+use Rattle.usb_tree.specs.AttemptPackets.{deep_at, NobodyHolds}
 use Rattle.usb_world.specs.World.{World, Made}
 use Rattle.usb_world.specs.Steps.{at_attempt, damage_in, attempt, after}
 use Rattle.usb_world.specs.Courses.{HoldsMapped}
 use Rattle.usb_world.specs.OneHolder.{IsIn, IsMade, HolderIn}
 use Rattle.usb_world.specs.Addresses.{is_setup, NoneTakes, after_taking, ends_status}
-use Rattle.usb_world.proofs.Interface.{data_own, decided, holder_or_nobody, made_of, false_true, ready_own, same_equal, seen, self_path, stands, state_stands, taken_distinct, unseen}
+use Rattle.usb_world.proofs.Interface.{data_own, holder_or_nobody, made_of, ready_own, seen, stands, state_stands, taken_distinct, unseen}
+use Rattle.usb_tree.proofs.Interface.{decided, false_true, same_equal, self_path}
 use Rattle.usb_transaction.specs.declared.fault.TransFault.{TransFault}
 use Rattle.usb_transaction.specs.declared.fault.TransFault.TheVariants.{Stalled, Busy, NoAnswer, Bus}
 use Rattle.usb_transaction.specs.AttemptLog.{AttemptLog, start, next, BusFailed, Transacted}

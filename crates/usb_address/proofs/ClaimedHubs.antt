@@ -10,11 +10,12 @@ use Rattle.usb_world.specs.declared.types.Attempt.{Attempt}
 use Rattle.usb_world.specs.declared.types.Outcome.{Outcome}
 use Rattle.usb_world.specs.Addresses.{after_reset}
 use Rattle.usb_world.specs.Courses.{is_harmless}
-use Rattle.usb_world.specs.Paths.{address_of, same_path, is_way}
+use Rattle.usb_tree.specs.Paths.{address_of, same_path, is_way}
 use Rattle.usb_world.specs.OneHolder.{HolderIn}
 use Rattle.usb_world.specs.Steps.{Step, at_attempt, attempt, after, Course, here}
 use Rattle.usb_world.specs.World.{World, Made}
-use Rattle.usb_world.proofs.Interface.{course_then, false_true, ready_own, same_is, stands, state_stands}
+use Rattle.usb_world.proofs.Interface.{course_then, ready_own, same_is, stands, state_stands}
+use Rattle.usb_tree.proofs.Interface.{false_true}
 use Rattle.usb_transaction.specs.declared.target.Target.{Target}
 use Rattle.usb_transaction.specs.AttemptLog.{AttemptLog, start, next}
 use Rattle.usb_transaction.specs.Transactions.{setup_attempt}

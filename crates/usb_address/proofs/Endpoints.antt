@@ -36,7 +36,7 @@ use Rattle.usb_address.proofs.TransferSequences.{keeps_none, trail_sound, till, 
 use Rattle.usb_address.proofs.Polls.{into, out, far_transacted, polls_leave}
 use Rattle.usb_address.proofs.Setups.{same_setup}
 use Rattle.usb_address.proofs.Transfers.{of_fault}
-use Rattle.usb_world.proofs.Interface.{unequal}
+use Rattle.usb_tree.proofs.Interface.{unequal}
 
 -- A bus that has given up makes no attempt
 

@@ -6,7 +6,7 @@ use Rattle.usb_device.specs.Spec.{Hub}
 use Rattle.usb_device.specs.Request.{port_named}
 use Rattle.usb_device.specs.Rows.{State}
 use Rattle.usb_device.specs.Tree.{Ports, ended, Place, empty, full}
-use Rattle.usb_world.specs.Paths.{address_of}
+use Rattle.usb_tree.specs.Paths.{address_of}
 
 -- what stands at the ports of a device
 abbrev pub place_ports : Option Place → Ports

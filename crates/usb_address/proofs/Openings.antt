@@ -3,7 +3,7 @@ use Rattle.std.proofs.Common.{◌≡◌, ℕ, zero, suc, false, List, [], ◌∷
 use Rattle.std.specs.Prelude.{⊤}
 use Rattle.usb_device.specs.Delivery.{all_forgotten}
 use Rattle.usb_device.specs.Tree.{Ports, ended, vacant, taken, new_ports, reach, reach_at}
-use Rattle.usb_world.specs.AttemptPackets.{IsSettled}
+use Rattle.usb_tree.specs.AttemptPackets.{IsSettled}
 use Rattle.usb_world.specs.PlanData.{PlanData}
 use Rattle.usb_world.specs.Steps.{opening}
 

@@ -13,13 +13,14 @@ use Rattle.usb_device.specs.Tree.{Ports, ended, vacant, taken, row_of, reach_at,
 use Rattle.usb_device.specs.declared.request.Registers.{Registers}
 use Rattle.usb_world.specs.declared.types.Attempt.{Attempt}
 use Rattle.usb_world.specs.declared.types.Outcome.{Outcome}
-use Rattle.usb_world.specs.Paths.{address_of}
+use Rattle.usb_tree.specs.Paths.{address_of}
 use Rattle.usb_world.specs.World.{World}
 use Rattle.usb_world.specs.Steps.{attempt, after}
 use Rattle.usb_world.specs.Courses.{HoldsMapped}
 use Rattle.usb_world.specs.Devices.{Was, EachWas, DidIn, DidOut}
 use Rattle.usb_world.specs.OneHolder.{IsOut, IsIn, IsMade}
-use Rattle.usb_world.proofs.Interface.{both, each_in, each_out, made_of, false_true, unequal}
+use Rattle.usb_world.proofs.Interface.{each_in, each_out, made_of}
+use Rattle.usb_tree.proofs.Interface.{both, false_true, unequal}
 use Rattle.usb_transaction.specs.declared.fault.TransFault.{TransFault}
 use Rattle.usb_transaction.specs.declared.fault.TransFault.TheVariants.{Stalled, Busy, NoAnswer, Bus}
 use Rattle.usb_transaction.specs.Transactions.{in_attempt}

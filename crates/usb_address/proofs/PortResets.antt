@@ -12,15 +12,16 @@ use Rattle.usb_world.specs.declared.types.Attempt.{Attempt}
 use Rattle.usb_world.specs.declared.types.BusFault.{BusFault}
 use Rattle.usb_world.specs.declared.types.Outcome.{Outcome}
 use Rattle.usb_world.specs.declared.types.Outcome.TheVariants.{Ack}
-use Rattle.usb_world.specs.Paths.{address_of, same_path, same_number, is_way}
-use Rattle.usb_world.specs.AttemptPackets.{NobodyHolds}
-use Rattle.usb_world.specs.WayEffects.{IsNew}
+use Rattle.usb_tree.specs.Paths.{address_of, same_path, same_number, is_way}
+use Rattle.usb_tree.specs.AttemptPackets.{NobodyHolds}
+use Rattle.usb_tree.specs.WayEffects.{IsNew}
 use Rattle.usb_world.specs.World.{World, Made}
 use Rattle.usb_world.specs.Steps.{at_attempt, attempt, after, outcome_in}
 use Rattle.usb_world.specs.Courses.{HoldsMapped, resets, address_at}
 use Rattle.usb_world.specs.OneHolder.{IsSetup, IsMade, HolderIn}
 use Rattle.usb_world.specs.Addresses.{after_reset}
-use Rattle.usb_world.proofs.Interface.{and_of, both, decided, holder_or_nobody, hub_reset, hub_rest, made_of, false_true, nobody_in, ready_own, reset_distinct, stands, state_stands, step_new}
+use Rattle.usb_world.proofs.Interface.{holder_or_nobody, hub_reset, hub_rest, made_of, nobody_in, ready_own, reset_distinct, stands, state_stands, step_new}
+use Rattle.usb_tree.proofs.Interface.{and_of, both, decided, false_true}
 use Rattle.usb_transaction.specs.declared.target.Target.{Target}
 use Rattle.usb_transaction.specs.declared.fault.TransFault.{TransFault}
 use Rattle.usb_transaction.specs.declared.fault.TransFault.TheVariants.{Stalled, Busy, NoAnswer, Bus}

@@ -6,9 +6,10 @@ use Rattle.usb_port.specs.Path.{IsPath}
 use Rattle.usb_request.specs.declared.setup.Setup.{Setup}
 use Rattle.usb_request.specs.Requests.{set_port_feature}
 use Rattle.usb_world.specs.Addresses.{after_reset}
-use Rattle.usb_world.specs.Paths.{is_way, same_number}
+use Rattle.usb_tree.specs.Paths.{is_way, same_number}
 use Rattle.usb_world.specs.World.{World}
-use Rattle.usb_world.proofs.Interface.{and_false, false_true, same_is}
+use Rattle.usb_world.proofs.Interface.{same_is}
+use Rattle.usb_tree.proofs.Interface.{and_false, false_true}
 use Rattle.usb_transaction.specs.declared.target.Target.{Target}
 use Rattle.usb_transaction.specs.Transactions.{AttemptsMade}
 use Rattle.usb_pipe.specs.declared.fault.PipeFault.{PipeFault}

@@ -7,10 +7,11 @@ use Rattle.usb_port.specs.PortState.{off}
 use Rattle.usb_device.specs.Tree.{Ports, ended, vacant, taken, reach, reach_at, row_of}
 use Rattle.usb_world.specs.Addresses.{after_reset}
 use Rattle.usb_world.specs.Courses.{resets}
-use Rattle.usb_world.specs.Paths.{is_way, same_number}
+use Rattle.usb_tree.specs.Paths.{is_way, same_number}
 use Rattle.usb_world.specs.Steps.{root_call, after}
 use Rattle.usb_world.specs.World.{World, root_port_at}
-use Rattle.usb_world.proofs.Interface.{both, decided, same_number-is, false_true, reset_distinct, reset_own, rest_own, settled_called, step_own}
+use Rattle.usb_world.proofs.Interface.{same_number-is, reset_distinct, reset_own, rest_own, settled_called, step_own}
+use Rattle.usb_tree.proofs.Interface.{both, decided, false_true}
 use Rattle.usb_address.specs.Claims.{AddressMap, map_without}
 use Rattle.usb_address.specs.Ownership.{MapHolds, WhileBusWorks, KeepsAddresses}
 use Rattle.usb_address.proofs.HubPorts.{less_one}

@@ -3,11 +3,12 @@ use Rattle.std.proofs.Common.{◌≡◌, ℕ, zero, suc, ◌⊎◌, inl, inr, Bo
 use Rattle.std.proofs.lemmas.Option.{same_Some}
 use Rattle.usb_device.specs.Rows.{State as Device}
 use Rattle.usb_device.specs.Tree.{reach, state_at}
-use Rattle.usb_world.specs.Paths.{same_path, is_way, address_of}
+use Rattle.usb_tree.specs.Paths.{same_path, is_way, address_of}
 use Rattle.usb_world.specs.World.{World}
 use Rattle.usb_world.specs.Courses.{Injective, address_at}
 use Rattle.usb_world.specs.Addresses.{after_reset, after_taking}
-use Rattle.usb_world.proofs.Interface.{false_true, same_is, taken_distinct, way_itself}
+use Rattle.usb_world.proofs.Interface.{same_is, taken_distinct, way_itself}
+use Rattle.usb_tree.proofs.Interface.{false_true}
 use Rattle.usb_address.specs.Claims.{Free, map_without, Unused}
 use Rattle.usb_address.specs.Ownership.{MapHolds, Enumerating}
 use Rattle.usb_address.proofs.Polls.{reach_stands}

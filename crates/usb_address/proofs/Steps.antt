@@ -11,15 +11,16 @@ use Rattle.usb_world.specs.declared.types.Attempt.{Attempt}
 use Rattle.usb_world.specs.declared.types.BusFault.{BusFault}
 use Rattle.usb_world.specs.declared.types.BusFault.TheVariants.{LimitReached, Memory, TraceFailed}
 use Rattle.usb_world.specs.declared.types.Outcome.TheVariants.{Ack}
-use Rattle.usb_world.specs.Paths.{address_of}
-use Rattle.usb_world.specs.AttemptPackets.{IsSettled}
+use Rattle.usb_tree.specs.Paths.{address_of}
+use Rattle.usb_tree.specs.AttemptPackets.{IsSettled}
 use Rattle.usb_world.specs.World.{World, Made}
 use Rattle.usb_world.specs.Steps.{at_attempt, attempt, after, outcome_in, here, step, AttemptFails}
 use Rattle.usb_world.specs.Courses.{resets, is_quiet}
 use Rattle.usb_world.specs.OneHolder.{IsSetup, IsOut, IsIn, IsMade, got}
 use Rattle.usb_world.specs.Devices.{Was, DidIn, DidOut, DidSetup}
 use Rattle.usb_world.specs.Addresses.{is_setup, NoneTakes}
-use Rattle.usb_world.proofs.Interface.{course_keeps, due_back, each_in, each_out, each_setup, equal_same, given_up_shared, false_true, same_equal, settled_after, step_own, step_unshared}
+use Rattle.usb_world.proofs.Interface.{course_keeps, due_back, each_in, each_out, each_setup, given_up_shared, settled_after, step_own, step_unshared}
+use Rattle.usb_tree.proofs.Interface.{equal_same, false_true, same_equal}
 use Rattle.usb_address.specs.Aims.{Aims, AllAim, TakesOnly, Never}
 use Rattle.usb_address.specs.Ownership.{MapHolds}
 use Rattle.usb_address.proofs.Stages.{none_takes, in_keeps, out_keeps}

@@ -4,9 +4,9 @@ use Rattle.std.proofs.lemmas.Option.{same_Some}
 use Rattle.usb_port.specs.PortState.{PortState, is_attached, speed_of}
 use Rattle.usb_device.specs.Tree.{Ports, ended, vacant, taken, place, place_at, reach, reach_at, state_at, port_at}
 use Rattle.usb_device.specs.View.{state_there, port_there}
-use Rattle.usb_world.specs.Paths.{has_power, has_power_at, pending, pending_at}
+use Rattle.usb_tree.specs.Paths.{has_power, has_power_at, pending, pending_at}
 use Rattle.usb_world.specs.SanePorts.{Consistent}
-use Rattle.usb_world.proofs.Interface.{and_false, and_of, both, either_of, false_true, or_nothing, or_right}
+use Rattle.usb_tree.proofs.Interface.{and_false, and_of, both, either_of, false_true, or_nothing, or_right}
 use Rattle.usb_address.proofs.HubPorts.{place_ports}
 use Rattle.usb_device.proofs.Interface.{or-joined}
 

@@ -7,12 +7,13 @@ use Rattle.usb_device.specs.Rows.{State}
 use Rattle.usb_device.specs.Tree.{Ports, state_at}
 use Rattle.usb_world.specs.declared.types.Attempt.{Attempt}
 use Rattle.usb_world.specs.Exchange.{token_out, payload_out}
-use Rattle.usb_world.specs.AttemptPackets.{after_sent, IfOut, IsTokenFor, IsSettled, NobodyHolds}
+use Rattle.usb_tree.specs.AttemptPackets.{after_sent, IfOut, IsTokenFor, IsSettled, NobodyHolds}
 use Rattle.usb_world.specs.PortRequests.{AsksNothing}
 use Rattle.usb_world.specs.Steps.{at_attempt, damage_in, attempt}
-use Rattle.usb_world.specs.WayEffects.{resets_at}
+use Rattle.usb_tree.specs.WayEffects.{resets_at}
 use Rattle.usb_world.specs.World.{World}
-use Rattle.usb_world.proofs.Interface.{NoneAsks, calm_sent, goes, none_asks_nothing, ready_settled, rest_state, rested_effect, settled_memory, token_calls, token_out as token_calm, unreset}
+use Rattle.usb_world.proofs.Interface.{NoneAsks, calm_sent, goes, none_asks_nothing, ready_settled, rest_state, rested_effect, settled_memory, token_calls, token_out as token_calm}
+use Rattle.usb_tree.proofs.Interface.{unreset}
 
 -- after its token no device remembers anything
 none_remembers : (n : ℕ) (t : Option Sent) → IfOut (IsTokenFor n) t → (k : Ports) → IsSettled k → NobodyHolds n k

@@ -4,7 +4,7 @@ use Rattle.usb_device.specs.Request.{Outcome, stalled, answers, takes_address, t
 use Rattle.usb_device.specs.Rows.{State}
 use Rattle.usb_device.specs.Transfer.{Stage, idle, refused, reading, read, ending}
 use Rattle.usb_device.specs.Tree.{Location, reach_on, state_on}
-use Rattle.usb_world.specs.Paths.{address_of}
+use Rattle.usb_tree.specs.Paths.{address_of}
 use Rattle.usb_world.specs.World.{World}
 
 -- a status stage that ends with an address ends with such a one

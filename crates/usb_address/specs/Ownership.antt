@@ -2,8 +2,8 @@
 use Rattle.std.specs.Prelude.{◌≡◌, ◌⊎◌, ℕ, List, false, None}
 use Rattle.usb_world.specs.Addresses.{after_taking}
 use Rattle.usb_world.specs.Courses.{HoldsMapped, Injective}
-use Rattle.usb_world.specs.Paths.{is_way}
-use Rattle.usb_world.specs.AttemptPackets.{IsSettled}
+use Rattle.usb_tree.specs.Paths.{is_way}
+use Rattle.usb_tree.specs.AttemptPackets.{IsSettled}
 use Rattle.usb_world.specs.World.{World}
 use Rattle.usb_address.specs.Claims.{AddressMap}
 

@@ -8,7 +8,7 @@ use Rattle.usb_device.specs.declared.effect.Effect.{Effect}
 use Rattle.usb_device.specs.declared.effect.Effect.TheVariants.{Leaves, Calls, PortsOff}
 use Rattle.usb_device.specs.Rows.{State}
 use Rattle.usb_device.specs.Tree.{Ports, ended, vacant, taken, Place, empty, full, before, all_off, acted, called, changed_at, reset_where}
-use Rattle.usb_world.proofs.Interface.{both, false_true}
+use Rattle.usb_tree.proofs.Interface.{both, false_true}
 use Rattle.usb_backlog.specs.Marks.{charged, devices_in, PortMark, below_first, after_first, allowed, devices_by, looks_by, ports_by, strays_by}
 use Rattle.usb_backlog.specs.PortSettings.{gives_power}
 

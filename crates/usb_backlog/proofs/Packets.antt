@@ -5,7 +5,7 @@ use Rattle.usb_device.specs.declared.delivery.Sent.{Sent}
 use Rattle.usb_device.specs.Rows.{State, forgotten}
 use Rattle.usb_device.specs.Tree.{Ports, ended, vacant, taken, acted, state_at}
 use Rattle.usb_device.specs.Delivery.{after_packet, all_forgotten, answer_of, effect_of}
-use Rattle.usb_world.specs.AttemptPackets.{after_sent}
+use Rattle.usb_tree.specs.AttemptPackets.{after_sent}
 use Rattle.usb_world.proofs.Interface.{CalmOut}
 use Rattle.usb_backlog.specs.Marks.{charged, devices_in, PortMark, AllowsMarks, below_first, after_first, allowed, devices_by, looks_by, ports_by, strays_by}
 use Rattle.usb_backlog.proofs.Calls.{Less, less-acted, less-same, less-then}

@@ -4,8 +4,9 @@ use Rattle.std.proofs.lemmas.Option.{same_Some}
 use Rattle.usb_port.specs.PortState.{PortState, is_attached, bit}
 use Rattle.usb_device.specs.Rows.{State}
 use Rattle.usb_device.specs.Tree.{Ports, ended, vacant, taken, Place, empty, full, new_ports, place_at, port_of}
-use Rattle.usb_world.specs.Paths.{same_number, same_path}
-use Rattle.usb_world.proofs.Interface.{both, false_true, same_is, self_number, self_path}
+use Rattle.usb_tree.specs.Paths.{same_number, same_path}
+use Rattle.usb_world.proofs.Interface.{same_is}
+use Rattle.usb_tree.proofs.Interface.{both, false_true, self_number, self_path}
 use Rattle.usb_backlog.specs.Marks.{charged, devices_in, Few, PortMark, after_first, below_first, devices_by, is_child, is_nil, just, looks_by, ports_by, ports_of, shifted, strays_by, unmarked}
 
 -- Marks add, and no mark takes away

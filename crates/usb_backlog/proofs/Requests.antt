@@ -16,13 +16,14 @@ use Rattle.usb_device.specs.Delivery.{effect_of}
 use Rattle.usb_device.specs.Rows.{State}
 use Rattle.usb_world.specs.declared.types.Attempt.{Attempt}
 use Rattle.usb_world.specs.Addresses.{is_setup}
-use Rattle.usb_world.specs.AttemptPackets.{IfOut, IsSettled}
+use Rattle.usb_tree.specs.AttemptPackets.{IfOut, IsSettled}
 use Rattle.usb_world.specs.Exchange.{payload_out}
 use Rattle.usb_world.specs.OneHolder.{HolderIn, IsSetup}
-use Rattle.usb_world.specs.Paths.{same_number, same_path}
+use Rattle.usb_tree.specs.Paths.{same_number, same_path}
 use Rattle.usb_world.specs.Steps.{damage_in, at_attempt}
 use Rattle.usb_world.specs.World.{World}
-use Rattle.usb_world.proofs.Interface.{Allows, AllowsOut, PayloadAllows, and_of, both, data_asks_none, decided, equal_same, same_number-is, false_true, or_right, others_leave, payload_allowed, same_is, self_number, sent_allowed}
+use Rattle.usb_world.proofs.Interface.{Allows, AllowsOut, PayloadAllows, data_asks_none, same_number-is, others_leave, payload_allowed, same_is, sent_allowed}
+use Rattle.usb_tree.proofs.Interface.{and_of, both, decided, equal_same, false_true, or_right, self_number}
 use Rattle.usb_backlog.specs.Marks.{PortMark, allowed}
 use Rattle.usb_backlog.specs.PortSettings.{gives_power, sets_feature}
 use Rattle.usb_backlog.proofs.Steps.{AttemptAllows}

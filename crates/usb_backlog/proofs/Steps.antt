@@ -7,13 +7,14 @@ use Rattle.usb_device.specs.declared.delivery.Sent.{Sent}
 use Rattle.usb_device.specs.Tree.{Ports, called, changed}
 use Rattle.usb_world.specs.declared.damage.Damage.{Damage}
 use Rattle.usb_world.specs.declared.types.Attempt.{Attempt}
-use Rattle.usb_world.specs.AttemptPackets.{NobodyHolds, after_sent}
+use Rattle.usb_tree.specs.AttemptPackets.{NobodyHolds, after_sent}
 use Rattle.usb_world.specs.Exchange.{payload_out, ports_in, reply_out, token_out}
 use Rattle.usb_world.specs.OneHolder.{IsMade}
 use Rattle.usb_world.specs.PlanCourses.{AtPorts}
 use Rattle.usb_world.specs.Steps.{Course, Step, after, attempt, damage_in, event, here, at_attempt, report, root_call, step, with_attempt}
 use Rattle.usb_world.specs.World.{World}
-use Rattle.usb_world.proofs.Interface.{OverSteps, ack_out, both, goes, made_is, nobody_in, over_course, over_step, token_out as token_calm, with_call, with_limit_told}
+use Rattle.usb_world.proofs.Interface.{OverSteps, ack_out, goes, made_is, nobody_in, over_course, over_step, token_out as token_calm, with_call, with_limit_told}
+use Rattle.usb_tree.proofs.Interface.{both}
 use Rattle.usb_backlog.specs.Marks.{AllowsMarks, Few, KeepsBy, PortMark}
 use Rattle.usb_backlog.specs.PortSettings.{gives_power}
 use Rattle.usb_backlog.proofs.Calls.{Less, less-called, less-same, less-then}

@@ -1,7 +1,7 @@
 -- What a handling pays: a look, a change that asks for none, or an event that came.
 use Rattle.std.proofs.Common.{◌≡◌, ◌≤◌, ◌⊎◌, inl, inr, ℕ, suc, ◌+◌, ◌*◌, ◌==◌, true, false, List, ◌∷◌, Option, None, Some, refl, arith}
 use Rattle.std.proofs.lemmas.Bool.Decides.{nat_tests}
-use Rattle.usb_world.proofs.Interface.{decided, equal_same}
+use Rattle.usb_tree.proofs.Interface.{decided, equal_same}
 use Rattle.usb_port.specs.PortState.{PortState, is_attached}
 use Rattle.usb_device.specs.Rows.{State}
 use Rattle.usb_device.specs.Tree.{Ports, Place, empty, full, port_of, place_at}

@@ -11,7 +11,7 @@ use Rattle.usb_device.specs.Rows.{State}
 use Rattle.usb_device.specs.Tree.{Ports, ended, vacant, taken, new_ports, state_at}
 use Rattle.usb_world.specs.PlanCourses.{AtPorts}
 use Rattle.usb_world.specs.World.{World}
-use Rattle.usb_world.specs.Paths.{same_number, same_path}
+use Rattle.usb_tree.specs.Paths.{same_number, same_path}
 use Rattle.usb_backlog.specs.PortSettings.{gives_power}
 
 -- whether a port is marked, by its number on a row, counted from 0, and the rest of its path

@@ -9,7 +9,8 @@ use Rattle.usb_world.specs.declared.types.Outcome.{Outcome}
 use Rattle.usb_world.specs.Courses.{is_made}
 use Rattle.usb_world.specs.Steps.{AnyStep, Left, at_event, at_packet, at_line, GaveUp, attempt, root_call, at_attempt}
 use Rattle.usb_world.specs.World.{World}
-use Rattle.usb_world.proofs.Interface.{OverSteps, over_coming, over_ready, over_step, unequal}
+use Rattle.usb_world.proofs.Interface.{OverSteps, over_coming, over_ready, over_step}
+use Rattle.usb_tree.proofs.Interface.{unequal}
 use Rattle.usb_bus.specs.Traces.{Attempts, Traced, still, attempted, called}
 
 -- memory was refused for the host's data, which some devices had

@@ -10,18 +10,21 @@ use Rattle.usb_bus.proofs.Interface.{front_after_first}
 use Rattle.usb_world.specs.PlanData.{PlanData}
 use Rattle.usb_world.specs.World.{to_come}
 use Rattle.usb_host.specs.HostState.{HostState}
-use Rattle.usb_serve.specs.declared.runs.Item.{Item}
-use Rattle.usb_serve.specs.declared.runs.RunFault.{RunFault}
-use Rattle.usb_serve.specs.declared.runs.RunFault.TheVariants as run
-use Rattle.usb_serve.specs.declared.serving.Mode.TheVariants.{Tree}
+use Rattle.usb_run.specs.declared.runs.Item.{Item}
+use Rattle.usb_run.specs.declared.runs.RunFault.{RunFault}
+use Rattle.usb_run.specs.declared.runs.RunFault.TheVariants as run
+use Rattle.usb_run.specs.declared.mode.Mode.TheVariants.{Tree}
 use Rattle.usb_serve.specs.declared.serving.ServeFault.{ServeFault}
 use Rattle.usb_serve.specs.declared.serving.ServeFault.TheVariants as serve
-use Rattle.usb_serve.specs.Run.{IsCaused, items_left}
-use Rattle.usb_serve.specs.RunSegments.{Knows}
-use Rattle.usb_serve.specs.ServedRuns.{Opens}
-use Rattle.usb_serve.specs.ServeResults.{IsCausedInTree, number_of}
-use Rattle.usb_serve.specs.Transcript.{Next, RunsTo, StoppedRun, Transcript, begun, behind, listings, never, of_run}
-use Rattle.usb_serve.proofs.Interface.{ItemsNumbered, at_fault, few_left, joined_lines, knows_opened, limit_opened, makes_knows, number_next, numbered_next, over_next, appends_no_text, run_limit, run_lists_right, stopped_next, told_next, traced_runs_onward, unwritten_next}
+use Rattle.usb_run.specs.Run.{IsCaused, items_left}
+use Rattle.usb_run.specs.RunSegments.{Knows}
+use Rattle.usb_run.specs.Reports.{Opens}
+use Rattle.usb_serve.specs.ServeResults.{IsCausedInTree}
+use Rattle.usb_run.specs.ItemLines.{number_of}
+use Rattle.usb_run.specs.Transcript.{Next, RunsTo, StoppedRun, Transcript, begun, behind, listings, never}
+use Rattle.usb_serve.specs.ServedTranscripts.{of_run}
+use Rattle.usb_serve.proofs.Interface.{ItemsNumbered, few_left, joined_lines, number_next, numbered_next}
+use Rattle.usb_run.proofs.Interface.{at_fault, knows_opened, limit_opened, makes_knows, over_next, appends_no_text, run_limit, run_lists_right, stopped_next, told_next, traced_runs_onward, unwritten_next}
 use Rattle.usb_drawing.specs.declared.art.Style.{Style}
 use Rattle.usb_drawing.specs.DrawnRuns.{DrawnText, RunDrawn, drawn_item, drawn_items, drawn_lines}
 

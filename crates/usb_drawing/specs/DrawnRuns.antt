@@ -6,15 +6,18 @@ use Rattle.usb_world.specs.PlanData.{PlanData}
 use Rattle.usb_bus.specs.Watch.{AppendsFront}
 use Rattle.usb_host.specs.HostState.{HostState}
 use Rattle.usb_plan.specs.Plan.{spelled_plan}
-use Rattle.usb_serve.specs.declared.runs.Item.{Item}
-use Rattle.usb_serve.specs.declared.runs.Item.TheVariants.{Listing, Sent, Received, Cleared}
-use Rattle.usb_serve.specs.declared.serving.Mode.TheVariants.{Tree}
+use Rattle.usb_run.specs.declared.runs.Item.{Item}
+use Rattle.usb_run.specs.declared.runs.Item.TheVariants.{Listing, Sent, Received, Cleared}
+use Rattle.usb_run.specs.declared.mode.Mode.TheVariants.{Tree}
 use Rattle.usb_serve.specs.declared.serving.ServeFault.{ServeFault}
 use Rattle.usb_serve.specs.declared.serving.ServeFault.TheVariants as serve
-use Rattle.usb_serve.specs.Moments.{ListsRight}
-use Rattle.usb_serve.specs.ServeResults.{IsCausedInTree, IsOfRun, item_lines, number_of}
-use Rattle.usb_serve.specs.ServedRuns.{IsUnopened, IsUnread, Opens}
-use Rattle.usb_serve.specs.Transcript.{RunsTo, listings, never, of_run}
+use Rattle.usb_run.specs.Moments.{ListsRight}
+use Rattle.usb_serve.specs.ServeResults.{IsCausedInTree, IsOfRun}
+use Rattle.usb_run.specs.ItemLines.{item_lines, number_of}
+use Rattle.usb_serve.specs.ServedRuns.{IsUnopened, IsUnread}
+use Rattle.usb_run.specs.Reports.{Opens}
+use Rattle.usb_run.specs.Transcript.{RunsTo, listings, never}
+use Rattle.usb_serve.specs.ServedTranscripts.{of_run}
 use Rattle.usb_drawing.specs.declared.art.Style.{Style}
 use Rattle.usb_drawing.specs.Drawings.{drawing_lines}
 

@@ -8,10 +8,10 @@ use crate::art::Style;
 use crate::listing::drawing_lines;
 use std::alloc::{AllocError, Global};
 use std::io::{Read, Write};
-use usb_bus::{Plan, Watched};
-use usb_serve::{
-    Item, RunFault, Runner, ServeFault, item_lines, next_untraced, number_of, plan_of, write_lines,
-};
+use usb_bus::Watched;
+use usb_run::{Item, RunFault, Runner};
+use usb_serve::{ServeFault, item_lines, next_untraced, number_of, plan_of, write_lines};
+use usb_sim::Plan;
 use usb_text::Lines;
 
 /// Reads a plan, runs it, and writes each listing as a tree when it is made, and the line of each transfer between them.

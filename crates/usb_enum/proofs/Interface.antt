@@ -1,13 +1,13 @@
 -- The lemmas that crates above cite. All others are for this crate alone.
-pub use Rattle.usb_enum.proofs.ChosenConfigurations.{AcceptsChosen, HasChosen, accepts, chosen_bulk, chosen_some, has_chosen}
-pub use Rattle.usb_enum.proofs.Courses.{AtWork, OnlyLater, opening_in_order, orderly_on, regular_order, sound_before, traced_faulted, traced_in_order, traced_only_later, went_course, went_in_order, went_sound}
-pub use Rattle.usb_enum.proofs.Damages.{went_three}
-pub use Rattle.usb_enum.proofs.Frames.{ends_without_fault}
-pub use Rattle.usb_enum.proofs.Losses.{course_later, few_before, step_later}
-pub use Rattle.usb_enum.proofs.ReachedDevices.{disabled_known, pends_there, some_of}
-pub use Rattle.usb_enum.proofs.Readings.{devices_then}
-pub use Rattle.usb_enum.proofs.Refusals.{each_joint}
+pub use Rattle.usb_enum.proofs.readings.ChosenConfigurations.{AcceptsChosen, HasChosen, accepts, chosen_bulk, chosen_some, has_chosen}
+pub use Rattle.usb_enum.proofs.courses.Courses.{AtWork, OnlyLater, opening_in_order, orderly_on, regular_order, sound_before, traced_faulted, traced_in_order, traced_only_later, went_course, went_in_order, went_sound}
+pub use Rattle.usb_enum.proofs.courses.Damages.{went_three}
+pub use Rattle.usb_enum.proofs.devices.Frames.{ends_without_fault}
+pub use Rattle.usb_enum.proofs.courses.Losses.{course_later, few_before, step_later}
+pub use Rattle.usb_enum.proofs.devices.ReachedDevices.{disabled_known, pends_there, some_of}
+pub use Rattle.usb_enum.proofs.readings.Readings.{devices_then}
+pub use Rattle.usb_enum.proofs.refusals.Refusals.{each_joint}
 pub use Rattle.usb_enum.proofs.Targets.{device_fits, enumeration_most, order_most, status_most}
-pub use Rattle.usb_enum.proofs.Truths.{ruled_there}
-pub use Rattle.usb_enum.proofs.VerdictExamples.{examples, small, two_ports}
-pub use Rattle.usb_enum.proofs.VerdictRows.{row_silent}
+pub use Rattle.usb_enum.proofs.readings.Truths.{ruled_there}
+pub use Rattle.usb_enum.proofs.verdicts.VerdictExamples.{examples, small, two_ports}
+pub use Rattle.usb_enum.proofs.verdicts.VerdictRows.{row_silent}

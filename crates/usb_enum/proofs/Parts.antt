@@ -22,9 +22,9 @@ use Rattle.usb_enum.specs.Addresses.{AtPort}
 use Rattle.usb_enum.specs.Bounds.{read_bound}
 use Rattle.usb_enum.specs.Frames.{OnlyAsks, OnlySets, OnlyTells}
 use Rattle.usb_enum.specs.Parts.{Ending, KeepingSteps}
-use Rattle.usb_enum.proofs.Counts.{read_went, went_again, went_times}
-use Rattle.usb_enum.proofs.Frames.{asks_none, asks_then, at_addressed, at_port_none, at_port_then, configuration_sets, sets_asked, sets_then, tells_none, tells_then, text_asks}
-use Rattle.usb_enum.proofs.Refusals.{handed_match}
+use Rattle.usb_enum.proofs.courses.Counts.{read_went, went_again, went_times}
+use Rattle.usb_enum.proofs.devices.Frames.{asks_none, asks_then, at_addressed, at_port_none, at_port_then, configuration_sets, sets_asked, sets_then, tells_none, tells_then, text_asks}
+use Rattle.usb_enum.proofs.refusals.Refusals.{handed_match}
 
 -- What is kept where nothing went, and from one part to the next
 

@@ -5,7 +5,7 @@ use Rattle.usb_port.specs.Order.{parent_of}
 use Rattle.usb_device.specs.Spec.{Spec}
 use Rattle.usb_device.specs.Rows.{State}
 use Rattle.usb_device.specs.View.{state_there}
-use Rattle.usb_world.specs.Paths.{pending}
+use Rattle.usb_tree.specs.Paths.{pending}
 use Rattle.usb_world.specs.World.{World}
 use Rattle.usb_transaction.specs.declared.target.Target.{Target}
 use Rattle.usb_transaction.specs.Failures.{NoThreeDamaged}

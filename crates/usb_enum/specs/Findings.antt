@@ -2,7 +2,7 @@
 use Rattle.std.specs.Prelude.{◌≡◌, ◌⊎◌, ◌≤◌, ℕ, ◌+◌, ◌*◌, List, true, false, Option, None, Some, Result, Ok, Err, IfOk, MatchResult, length}
 use Rattle.usb_request.specs.Features.{PORT_ENABLE}
 use Rattle.usb_device.specs.View.{state_there}
-use Rattle.usb_world.specs.Paths.{pending}
+use Rattle.usb_tree.specs.Paths.{pending}
 use Rattle.usb_world.specs.World.{World, root_port_at}
 use Rattle.usb_transaction.specs.Failures.{NoThreeDamaged}
 use Rattle.usb_hub.specs.declared.port.HubPort.{HubPort}

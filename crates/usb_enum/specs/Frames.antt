@@ -4,7 +4,7 @@ use Rattle.std.specs.Prelude.{◌≡◌, ◌==◌, ℕ, List, false, None, Some}
 use Rattle.usb_device.specs.Rows.{State}
 use Rattle.usb_world.specs.Courses.{KeepsPendingAt}
 use Rattle.usb_world.specs.Devices.{EachWas}
-use Rattle.usb_world.specs.Paths.{address_of, is_way}
+use Rattle.usb_tree.specs.Paths.{address_of, is_way}
 use Rattle.usb_world.specs.RestingPorts.{LeavesPortAlone}
 use Rattle.usb_world.specs.Steps.{Course}
 use Rattle.usb_world.specs.World.{World}

@@ -7,7 +7,7 @@ use Rattle.usb_device.specs.View.{state_there}
 use Rattle.usb_request.specs.Codes.{DEVICE_HEAD_LENGTH, DEVICE_LENGTH}
 use Rattle.usb_descriptor.specs.Device.{device_head_of, configuration_count}
 use Rattle.usb_world.specs.Devices.{EachWas}
-use Rattle.usb_world.specs.Paths.{address_of}
+use Rattle.usb_tree.specs.Paths.{address_of}
 use Rattle.usb_world.specs.Steps.{WorldInvariant}
 use Rattle.usb_world.specs.World.{World}
 use Rattle.usb_transaction.specs.declared.target.Target.{Target}

@@ -71,7 +71,7 @@ fn port_count<B: Bus>(alloc: Global, bus: &mut B, target: Target) -> Result<u8, 
 }
 
 /// What each port of a hub gives, in mA, by the hub's status.
-#[tactic(auto, using(crate::proofs::Hubs::hub_supply))]
+#[tactic(auto, using(crate::proofs::ports::Hubs::hub_supply))]
 fn port_supply<B: Bus>(alloc: Global, bus: &mut B, target: Target) -> Result<u16, Stop>
     requires target { IsTarget target }
     requires max { 8 ≤ target.max }

@@ -4,10 +4,11 @@
 
 use anyhow::Result;
 use std::str;
-use usb_bus::{Bus, SimBus, Untraced};
+use usb_bus::Bus;
 use usb_enum::Finding;
 use usb_host::{Host, HostFault, PortPath, Round};
 use usb_plan::read_plan;
+use usb_sim::{SimBus, Untraced};
 
 /// The world, as a plan: one root port, and a device that is plugged there. Of its 32 bytes of configuration the last
 /// 14 are a bulk IN and a bulk OUT endpoint. `source` is what the IN endpoint gives.

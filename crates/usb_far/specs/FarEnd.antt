@@ -18,9 +18,9 @@ use Rattle.usb_world.specs.declared.types.Outcome.{Outcome}
 use Rattle.usb_world.specs.declared.types.Outcome.TheVariants as outcome
 use Rattle.usb_world.specs.World.{World, IsRootPort, root_row, roots_of}
 use Rattle.usb_world.specs.Steps.{after, attempt, event, outcome_in, root_call}
-use Rattle.usb_bus.specs.declared.tracer.Trace.{Ghosts}
+use Rattle.usb_sim.specs.declared.tracer.Trace.{Ghosts}
 use Rattle.usb_bus.specs.Lines.{lines_between, next_due, step_lines}
-use Rattle.usb_bus.specs.Sim.{trace_of, tracer_of, world_of}
+use Rattle.usb_sim.specs.Sim.{trace_of, tracer_of, world_of}
 use Rattle.usb_bus.specs.Traces.{Attempts, TakesEvent}
 use Rattle.usb_lines.specs.Pipes.{Pipe}
 use Rattle.usb_lines.specs.declared.line.LineFault.{LineFault}

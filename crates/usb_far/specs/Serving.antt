@@ -3,7 +3,7 @@ use Rattle.std.specs.Prelude.{◌≡◌, ◌≢◌, ◌⊎◌, ℕ, ◌+◌, ◌
 use Rattle.std.specs.List.{starts_with}
 use Rattle.std.specs.Str.{bytes_eq}
 use Rattle.std.specs.Io.KnownBytes.{Appends, Consumes, IsAtEnd}
-use Rattle.usb_bus.specs.declared.tracer.Trace.{Ghosts}
+use Rattle.usb_sim.specs.declared.tracer.Trace.{Ghosts}
 use Rattle.usb_bus.specs.declared.watched.Watched.{Watched}
 use Rattle.usb_lines.specs.Lines.{IsUnbroken}
 use Rattle.usb_lines.specs.Pipes.{Pipe, pipe_of}

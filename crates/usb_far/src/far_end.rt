@@ -3,7 +3,7 @@ ghost use Rattle.std.specs.Prelude.{◌≡◌, ◌⊎◌, ◌∷◌, [], false, 
 ghost use Rattle.usb_world.specs.Steps.{after, opening, root_call};
 ghost use Rattle.usb_world.specs.World.{IsAttempt, IsRootPort};
 ghost use Rattle.usb_bus.specs.Watch.{has_failed};
-ghost use Rattle.usb_bus.specs.Sim.{trace_of, world_of};
+ghost use Rattle.usb_sim.specs.Sim.{trace_of, world_of};
 ghost use Rattle.usb_lines.specs.Pipes.{pipe_of};
 ghost use Rattle.usb_wire.specs.Questions.{IsQuestion};
 ghost use Rattle.usb_far.specs.FarEnd.{IsEventGivenUp, IsGivenUp, HasNoPort, IsDone, IsUnanswered, SendsTooMuch, attempt_done, call_done, asked_answer, came_in, done, due_answer, send_wanted, statuses, wait_done};
@@ -13,11 +13,12 @@ use crate::fault::FarFault;
 use arrayvec::ArrayVec;
 use std::alloc::{AllocError, Global};
 use std::io::Write;
-use usb_bus::{Ask, Attempt, Bus, Plan, SentBytes, SimBus, Trace, Tracer, Watched};
+use usb_bus::{Attempt, Bus, Watched};
 use usb_port::{PortCall, PortPath};
 use usb_request::feature::{
     C_PORT_CONNECTION, C_PORT_ENABLE, C_PORT_RESET, PORT_ENABLE, PORT_POWER, PORT_RESET,
 };
+use usb_sim::{Ask, Plan, SentBytes, SimBus, Trace, Tracer};
 use usb_wire::{Answer, Question, SEND_LIMIT};
 
 /// The statuses of root ports, port 1 first.

@@ -6,7 +6,7 @@ ghost use Rattle.usb_far.specs.FarEnd.{ChangesTold, HasNoReply, Replies, behind_
 use crate::far_end::{FarEnd, Phase, statuses};
 use crate::fault::FarFault;
 use arrayvec::ArrayVec;
-use usb_bus::Trace;
+use usb_sim::Trace;
 use usb_wire::{Asked, Question, Said, said_line};
 
 /// Room for the status of each root port and an answer: eight lines of 1,024 bytes.

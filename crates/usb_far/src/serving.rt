@@ -10,8 +10,9 @@ ghost use Rattle.usb_far.specs.Serving.{HasNoQuestion, HasQuestion, ServesHost, 
 use crate::far_end::{FarEnd, Phase};
 use crate::fault::FarFault;
 use std::io::{Read, Write};
-use usb_bus::{Trace, Watched};
+use usb_bus::Watched;
 use usb_lines::{Line, put_lines, read_line, skip_line};
+use usb_sim::Trace;
 use usb_wire::{Question, read_question};
 
 /// Answers the host's lines until its input ends, or until a fault.

@@ -17,7 +17,7 @@ use Rattle.usb_host.specs.declared.fault.HostFault.{HostFault}
 use Rattle.usb_host.specs.Ports.{Waits, Gained, ProgressOrLost, EndsAs, EntersOne}
 use Rattle.usb_host.specs.Progress.{HostRuns, OnlyBusSteps, AddsNoWork, HostProgress, waiting}
 use Rattle.usb_host.proofs.StepSums.{advances_then}
-use Rattle.usb_host.proofs.WaitingDevices.{waiting-without, waiting-without_one, waiting-entered, waiting-entered_other}
+use Rattle.usb_host.proofs.entries.WaitingDevices.{waiting-without, waiting-without_one, waiting-entered, waiting-entered_other}
 
 waiting_is : (f : Finding) → is_waiting f ≡ true → f ≡ Refused cause.NoAddress
 waiting_is (Device device) h = absurd (cc h)

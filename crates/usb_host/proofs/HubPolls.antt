@@ -22,13 +22,13 @@ use Rattle.usb_host.specs.declared.fault.HostFault.{HostFault}
 use Rattle.usb_host.specs.declared.host.Round.{Round}
 use Rattle.usb_host.specs.declared.host.Round.TheVariants.{Quiet, Worked}
 use Rattle.usb_host.proofs.OwnedPorts.{dropped_hub_owned}
-use Rattle.usb_host.proofs.HubPayments.{drop_paid_fails, drop_pays, poll_fails, poll_none, tells_shows, told_fails, told_pays}
-use Rattle.usb_host.proofs.HubServices.{hub_tells, polls_lost, polls_quiet, polls_told, told_of_ports}
+use Rattle.usb_host.proofs.payments.HubPayments.{drop_paid_fails, drop_pays, poll_fails, poll_none, tells_shows, told_fails, told_pays}
+use Rattle.usb_host.proofs.services.HubServices.{hub_tells, polls_lost, polls_quiet, polls_told, told_of_ports}
 use Rattle.usb_host.proofs.StepSums.{host_goes_then, goes_wider}
-use Rattle.usb_host.proofs.Owners.{single_kept, single_then, stays_kept}
+use Rattle.usb_host.proofs.devices.Owners.{single_kept, single_then, stays_kept}
 use Rattle.usb_host.proofs.RoundParts.{hub_fails, hub_gone, hub_listed, hub_quiet, hub_told, part-fails, polled_hub_not_failed}
-use Rattle.usb_host.proofs.Payments.{is_err-if_ok, pays_where}
-use Rattle.usb_host.proofs.Soundness.{sound_kept}
+use Rattle.usb_host.proofs.payments.Payments.{is_err-if_ok, pays_where}
+use Rattle.usb_host.proofs.knowledge.Soundness.{sound_kept}
 
 module _ (hub : List ℕ) (a b : HostState) (agrees : Agrees a.entries a.addresses)
     (same : b.entries ≡ a.entries) (pool : b.addresses ≡ a.addresses)

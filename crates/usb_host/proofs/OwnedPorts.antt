@@ -5,7 +5,7 @@ use Rattle.std.specs.BTreeMap.{insert_entry}
 use Rattle.usb_port.specs.Order.{path_cmp, parent_of, port_on_hub}
 use Rattle.usb_request.specs.Features.{PORT_ENABLE}
 use Rattle.usb_port.specs.Path.{IsPath}
-use Rattle.usb_world.specs.Paths.{is_way}
+use Rattle.usb_tree.specs.Paths.{is_way}
 use Rattle.usb_world.specs.World.{World, roots_of}
 use Rattle.usb_world.specs.Addresses.{after_taking}
 use Rattle.usb_world.proofs.Interface.{way_itself, way_parent}
@@ -33,10 +33,10 @@ use Rattle.usb_host.specs.Ownership.{claims, IsOwned, IsOwnedBut, IsIsolated, Is
 use Rattle.usb_host.specs.Ports.{StandsAt, StandsNowhere}
 use Rattle.usb_host.specs.Progress.{OnlyBusSteps}
 use Rattle.usb_host.specs.declared.fault.HostFault.{HostFault}
-use Rattle.usb_host.proofs.EntryClaims.{claims_free, claims_taken, claims-device}
-use Rattle.usb_host.proofs.Owners.{till_as, but_all, but_kept, but_above, bare_port, bare_none, forgotten, refused}
+use Rattle.usb_host.proofs.entries.EntryClaims.{claims_free, claims_taken, claims-device}
+use Rattle.usb_host.proofs.devices.Owners.{till_as, but_all, but_kept, but_above, bare_port, bare_none, forgotten, refused}
 use Rattle.usb_host.proofs.PortLocations.{stands_at-claim, nowhere_reached}
-use Rattle.usb_host.proofs.Roots.{rooted_kept, rooted_dropped, rooted_came, rooted_stands, root_parent, root_way, on_failed}
+use Rattle.usb_host.proofs.entries.Roots.{rooted_kept, rooted_dropped, rooted_came, rooted_stands, root_parent, root_way, on_failed}
 
 -- A call that failed
 

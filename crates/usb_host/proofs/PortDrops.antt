@@ -4,7 +4,7 @@ use Rattle.std.specs.Prelude.{IsErr, IsSome, IsSomeAnd}
 use Rattle.std.specs.BTreeMap.{insert_entry}
 use Rattle.usb_port.specs.Order.{parent_of, path_cmp}
 use Rattle.usb_port.specs.Path.{IsPath}
-use Rattle.usb_world.specs.Paths.{is_way, pending}
+use Rattle.usb_tree.specs.Paths.{is_way, pending}
 use Rattle.usb_world.specs.World.{World}
 use Rattle.usb_address.specs.Ownership.{KeepsAddresses}
 use Rattle.usb_address.proofs.Interface.{keeps_none, keeps_then}
@@ -29,18 +29,18 @@ use Rattle.usb_host.specs.Service.{DropsOne, FinishesAt}
 use Rattle.usb_host.specs.Soundness.{CausesBut, DropsSound, IsDroppable, IsFairTo}
 use Rattle.usb_host.specs.Transfers.{table_in}
 use Rattle.usb_host.specs.declared.fault.HostFault.{HostFault}
-use Rattle.usb_host.proofs.BulkPipes.{bulk_none}
-use Rattle.usb_host.proofs.Causes.{lost_drops}
+use Rattle.usb_host.proofs.devices.BulkPipes.{bulk_none}
+use Rattle.usb_host.proofs.devices.Causes.{lost_drops}
 use Rattle.usb_host.proofs.ParentPaths.{parent_length}
-use Rattle.usb_host.proofs.DroppedHubs.{climb_caused, climb_sound, done_caused, if_err, top_absurd}
-use Rattle.usb_host.proofs.HandlingPayments.{hubs_dropped}
+use Rattle.usb_host.proofs.knowledge.DroppedHubs.{climb_caused, climb_sound, done_caused, if_err, top_absurd}
+use Rattle.usb_host.proofs.payments.HandlingPayments.{hubs_dropped}
 use Rattle.usb_host.proofs.OwnedPorts.{bares_above, drop_ends, drop_not_done, hub_dropped, match_err}
-use Rattle.usb_host.proofs.HubCounts.{hubs-dropped}
+use Rattle.usb_host.proofs.entries.HubCounts.{hubs-dropped}
 use Rattle.usb_host.proofs.StepSums.{goes_forgotten, host_goes_none, host_goes_then}
-use Rattle.usb_host.proofs.Plugs.{plugs_none}
-use Rattle.usb_host.proofs.ServedWork.{rests_holds}
-use Rattle.usb_host.proofs.Services.{loses_parent}
-use Rattle.usb_host.proofs.WaitingDevices.{waiting-entered_other, waiting-without}
+use Rattle.usb_host.proofs.devices.Plugs.{plugs_none}
+use Rattle.usb_host.proofs.services.ServedWork.{rests_holds}
+use Rattle.usb_host.proofs.services.Services.{loses_parent}
+use Rattle.usb_host.proofs.entries.WaitingDevices.{waiting-entered_other, waiting-without}
 
 -- The way up
 

@@ -8,7 +8,7 @@ use Rattle.usb_port.specs.Order.{path_cmp, parent_of, port_on_hub}
 use Rattle.usb_port.specs.Path.{IsPath}
 use Rattle.usb_port.proofs.Interface.{is_path, rejoined}
 use Rattle.usb_device.specs.Tree.{Ports, ended, vacant, taken, row_of, reach, reach_at}
-use Rattle.usb_world.specs.Paths.{is_way}
+use Rattle.usb_tree.specs.Paths.{is_way}
 use Rattle.usb_world.specs.World.{World}
 use Rattle.usb_world.proofs.Interface.{way_rest}
 use Rattle.usb_address.specs.Claims.{AddressMap}

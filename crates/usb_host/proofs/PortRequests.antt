@@ -7,7 +7,7 @@ use Rattle.usb_port.specs.declared.call.PortCall.{PortCall}
 use Rattle.usb_port.specs.declared.call.PortCall.TheVariants.{ClearEnable, ClearConnectionChange, ClearEnableChange, ClearResetChange}
 use Rattle.usb_port.specs.declared.status.PortStatus.{PortStatus}
 use Rattle.usb_world.specs.World.{World, Failed, AttemptsWithin}
-use Rattle.usb_world.proofs.Interface.{decided}
+use Rattle.usb_tree.proofs.Interface.{decided}
 use Rattle.usb_world.specs.declared.types.BusFault.{BusFault}
 use Rattle.usb_bus.proofs.Interface.{went_then}
 use Rattle.usb_address.specs.Claims.{AddressMap}
@@ -40,13 +40,13 @@ use Rattle.usb_host.specs.Ports.{Gained, ProgressOnOk, IsDue, Requested, Shown}
 use Rattle.usb_host.specs.Progress.{HostRuns, HostSteps}
 use Rattle.usb_host.specs.Requests.{ClearsError, ClearsFeature, ClearsOthers, ClearsOwn, ClearsPort, ClearsWhere, SettlesPort, ShowsPort, TidiesPort}
 use Rattle.usb_host.specs.Service.{ClearsAndReads, ClearsTold, DoneWhere}
-use Rattle.usb_host.proofs.Enumerations.{status_read_goes}
+use Rattle.usb_host.proofs.devices.Enumerations.{status_read_goes}
 use Rattle.usb_host.proofs.OwnedPorts.{bares_after}
 use Rattle.usb_host.proofs.StepSums.{goes_by, host_goes_none, host_goes_then, goes_wider}
-use Rattle.usb_host.proofs.OtherChanges.{bares_kept, keeps_each_none, keeps_each_then}
-use Rattle.usb_host.proofs.Requests.{call_tidies, changes_disabled, changes_done, clears_after, clears_disabled, clears_enable_change, clears_failed, clears_reset_change, tells_keeps_asked, clears_untold, disabled_so, ok_at_port, resets_done, tidies_none, tidies_then, watched}
-use Rattle.usb_host.proofs.Services.{call_done, done_not, done_so}
-use Rattle.usb_host.proofs.TidiedPorts.{Tidy, enable, reset, tidy_call}
+use Rattle.usb_host.proofs.rests.OtherChanges.{bares_kept, keeps_each_none, keeps_each_then}
+use Rattle.usb_host.proofs.devices.Requests.{call_tidies, changes_disabled, changes_done, clears_after, clears_disabled, clears_enable_change, clears_failed, clears_reset_change, tells_keeps_asked, clears_untold, disabled_so, ok_at_port, resets_done, tidies_none, tidies_then, watched}
+use Rattle.usb_host.proofs.services.Services.{call_done, done_not, done_so}
+use Rattle.usb_host.proofs.knowledge.TidiedPorts.{Tidy, enable, reset, tidy_call}
 
 -- A number of requests
 

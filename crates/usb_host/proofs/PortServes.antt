@@ -24,26 +24,26 @@ use Rattle.usb_host.specs.Soundness.{HostInvariant, Part}
 use Rattle.usb_host.specs.declared.fault.HostFault.{HostFault}
 use Rattle.usb_host.specs.declared.host.Round.{Round}
 use Rattle.usb_host.specs.declared.host.Round.TheVariants.{Quiet, Worked}
-use Rattle.usb_host.proofs.BulkPipes.{bulk_stays, bulk_then, stay_joined}
-use Rattle.usb_host.proofs.Causes.{causes_rests, tidied_caused, watched_caused}
-use Rattle.usb_host.proofs.Fairness.{fair_after, fair_before}
-use Rattle.usb_host.proofs.FinishedPorts.{finished_sound}
-use Rattle.usb_host.proofs.HandlingPayments.{handling_pays}
+use Rattle.usb_host.proofs.devices.BulkPipes.{bulk_stays, bulk_then, stay_joined}
+use Rattle.usb_host.proofs.devices.Causes.{causes_rests, tidied_caused, watched_caused}
+use Rattle.usb_host.proofs.devices.Fairness.{fair_after, fair_before}
+use Rattle.usb_host.proofs.knowledge.FinishedPorts.{finished_sound}
+use Rattle.usb_host.proofs.payments.HandlingPayments.{handling_pays}
 use Rattle.usb_host.proofs.OwnedPorts.{port_finished, rests_keeps_port, port_then, stays_rests}
-use Rattle.usb_host.proofs.HubCounts.{hubs-rest, none_rests}
+use Rattle.usb_host.proofs.entries.HubCounts.{hubs-rest, none_rests}
 use Rattle.usb_host.proofs.StepSums.{advances_then, host_goes_none, host_goes_then, no_work_then, host_rests_then}
-use Rattle.usb_host.proofs.LookPayments.{plan_within-went}
+use Rattle.usb_host.proofs.payments.LookPayments.{plan_within-went}
 use Rattle.usb_host.proofs.HostProgress.{handled, served_on}
-use Rattle.usb_host.proofs.OtherChanges.{failed_served, none_failed, watched_plain}
-use Rattle.usb_host.proofs.Plugs.{plugs_rests, plugs_then}
+use Rattle.usb_host.proofs.rests.OtherChanges.{failed_served, none_failed, watched_plain}
+use Rattle.usb_host.proofs.devices.Plugs.{plugs_rests, plugs_then}
 use Rattle.usb_host.proofs.RoundParts.{part-fails, part-none, part-wider}
-use Rattle.usb_host.proofs.Payments.{is_err-if_ok}
-use Rattle.usb_host.proofs.Roots.{waits_somewhere}
+use Rattle.usb_host.proofs.payments.Payments.{is_err-if_ok}
+use Rattle.usb_host.proofs.entries.Roots.{waits_somewhere}
 use Rattle.usb_host.proofs.PortRequests.{requested-fails, requested-then, shows_shown, shows_watches}
-use Rattle.usb_host.proofs.ServedPorts.{rests_stands, tidied_port, tidied_stay, watched_lost, watched_sound, watched_stay}
-use Rattle.usb_host.proofs.ServedWork.{looked_on, rests_holds, status_lost_on, tidied_on}
-use Rattle.usb_host.proofs.ServePayments.{after_look, after_tidy, status_lost, told_there}
-use Rattle.usb_host.proofs.Services.{handled_at, handled_once, handles_at, serves_looked, serves_tidied, status_failed}
+use Rattle.usb_host.proofs.knowledge.ServedPorts.{rests_stands, tidied_port, tidied_stay, watched_lost, watched_sound, watched_stay}
+use Rattle.usb_host.proofs.services.ServedWork.{looked_on, rests_holds, status_lost_on, tidied_on}
+use Rattle.usb_host.proofs.payments.ServePayments.{after_look, after_tidy, status_lost, told_there}
+use Rattle.usb_host.proofs.services.Services.{handled_at, handled_once, handles_at, serves_looked, serves_tidied, status_failed}
 
 -- A port is served
 

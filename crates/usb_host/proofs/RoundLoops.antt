@@ -22,18 +22,18 @@ use Rattle.usb_host.specs.Soundness.{HostInvariant, NoneWait, Part}
 use Rattle.usb_host.specs.declared.fault.HostFault.{HostFault}
 use Rattle.usb_host.specs.declared.host.Round.{Round}
 use Rattle.usb_host.specs.declared.host.Round.TheVariants.{Quiet, Worked}
-use Rattle.usb_host.proofs.HubPayments.{HubsSoFar, hubs_all, hubs_failed, hubs_next, hubs_none, rank_before}
-use Rattle.usb_host.proofs.IdleRounds.{none_next, none_shows}
+use Rattle.usb_host.proofs.payments.HubPayments.{HubsSoFar, hubs_all, hubs_failed, hubs_next, hubs_none, rank_before}
+use Rattle.usb_host.proofs.rests.IdleRounds.{none_next, none_shows}
 use Rattle.usb_host.proofs.StepSums.{did_holds, did_then, no_work_then, worked_after}
 use Rattle.usb_host.proofs.RoundParts.{hubs_fail, looks_fail, part-fails, part-none, part-then, part-wider}
-use Rattle.usb_host.proofs.Payments.{is_err-if_ok}
-use Rattle.usb_host.proofs.QuietPorts.{none_changed}
-use Rattle.usb_host.proofs.Ranks.{rank_after, rank_after_most, rank_more, rank_most, rank_within}
-use Rattle.usb_host.proofs.RestingRounds.{Polled, calm_then, none_waits, ok_is, polled_all, polled_then, quiet_second}
-use Rattle.usb_host.proofs.Roots.{on_failed}
-use Rattle.usb_host.proofs.RoundPayments.{one_waits}
-use Rattle.usb_host.proofs.RoundServices.{looked_then}
-use Rattle.usb_host.proofs.ToldPayments.{RootsSoFar, ToldSoFar, root_shows, roots_failed, roots_next, roots_none, told_all, told_clear, told_failed, told_next, told_so_far_none}
+use Rattle.usb_host.proofs.payments.Payments.{is_err-if_ok}
+use Rattle.usb_host.proofs.rests.QuietPorts.{none_changed}
+use Rattle.usb_host.proofs.entries.Ranks.{rank_after, rank_after_most, rank_more, rank_most, rank_within}
+use Rattle.usb_host.proofs.rests.RestingRounds.{Polled, calm_then, none_waits, ok_is, polled_all, polled_then, quiet_second}
+use Rattle.usb_host.proofs.entries.Roots.{on_failed}
+use Rattle.usb_host.proofs.payments.RoundPayments.{one_waits}
+use Rattle.usb_host.proofs.services.RoundServices.{looked_then}
+use Rattle.usb_host.proofs.payments.ToldPayments.{RootsSoFar, ToldSoFar, root_shows, roots_failed, roots_next, roots_none, told_all, told_clear, told_failed, told_next, told_so_far_none}
 
 -- Root ports
 

@@ -2,7 +2,7 @@
 use Rattle.std.proofs.Common.{◌≡◌, ◌∙◌, ◌+◌, ◌≤◌, arith, refl, sym, ap, subst, ℕ, Bool, true, false, List, Option, None, Some, is_some, Result, Ok, Err}
 use Rattle.std.specs.Prelude.{IsErr, IsOk, IsSome}
 use Rattle.arrayvec.specs.ArrayVec.{ArrayVec}
-use Rattle.usb_world.specs.Paths.{pending}
+use Rattle.usb_tree.specs.Paths.{pending}
 use Rattle.usb_world.specs.World.{World}
 use Rattle.usb_transaction.specs.Failures.{NoThreeDamaged}
 use Rattle.usb_pipe.specs.declared.fault.PipeFault.{PipeFault}
@@ -33,15 +33,15 @@ use Rattle.usb_host.specs.Soundness.{HostInvariant, KeepsInvariant, PartStays, D
 use Rattle.usb_host.specs.declared.fault.HostFault.{HostFault}
 use Rattle.usb_host.specs.declared.host.Round.{Round}
 use Rattle.usb_host.specs.declared.host.Round.TheVariants.{Worked, Quiet}
-use Rattle.usb_host.proofs.BulkPipes.{bulk_stays, stay_polled}
-use Rattle.usb_host.proofs.Plugs.{plugs_kept}
+use Rattle.usb_host.proofs.devices.BulkPipes.{bulk_stays, stay_polled}
+use Rattle.usb_host.proofs.devices.Plugs.{plugs_kept}
 use Rattle.usb_host.proofs.OwnedPorts.{dropped_hub_owned}
-use Rattle.usb_host.proofs.Owners.{single_then, stays_kept, stays_owned_none, stays_owned_then}
-use Rattle.usb_host.proofs.Polls.{HubThere, hub_there, reached_at, heard_at, poll_silent}
-use Rattle.usb_host.proofs.RestingRounds.{done, ok_is, quiet_first, quiet_second, at_rest}
+use Rattle.usb_host.proofs.devices.Owners.{single_then, stays_kept, stays_owned_none, stays_owned_then}
+use Rattle.usb_host.proofs.rests.Polls.{HubThere, hub_there, reached_at, heard_at, poll_silent}
+use Rattle.usb_host.proofs.rests.RestingRounds.{done, ok_is, quiet_first, quiet_second, at_rest}
 use Rattle.usb_host.proofs.StepSums.{host_goes_none, host_goes_then, goes_wider}
-use Rattle.usb_host.proofs.Roots.{accounted, on_failed}
-use Rattle.usb_host.proofs.Soundness.{part_none, part_then, sound_kept, but_kept, caused_kept, known_kept, truthful_kept, occupied_kept, sound_dropped}
+use Rattle.usb_host.proofs.entries.Roots.{accounted, on_failed}
+use Rattle.usb_host.proofs.knowledge.Soundness.{part_none, part_then, sound_kept, but_kept, caused_kept, known_kept, truthful_kept, occupied_kept, sound_dropped}
 
 -- One part after another
 

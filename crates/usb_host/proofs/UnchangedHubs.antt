@@ -15,11 +15,12 @@ use Rattle.usb_world.specs.declared.types.Outcome.{Outcome}
 use Rattle.usb_world.specs.declared.types.Outcome.TheVariants as outcome
 use Rattle.usb_world.specs.Devices.{Was, DidIn}
 use Rattle.usb_world.specs.OneHolder.{IsMade}
-use Rattle.usb_world.specs.AttemptPackets.{IsSettled}
+use Rattle.usb_tree.specs.AttemptPackets.{IsSettled}
 use Rattle.usb_world.specs.PortRequests.{leaves_step}
 use Rattle.usb_world.specs.Steps.{attempt, after, at_attempt, outcome_in}
 use Rattle.usb_world.specs.World.{World}
-use Rattle.usb_world.proofs.Interface.{data_asks_nothing, each_in, got_nak, made_is, made_of, made_port, false_true}
+use Rattle.usb_world.proofs.Interface.{data_asks_nothing, each_in, got_nak, made_is, made_of, made_port}
+use Rattle.usb_tree.proofs.Interface.{false_true}
 use Rattle.usb_transaction.specs.declared.target.Target.{Target}
 use Rattle.usb_transaction.specs.Leaves.{is_at}
 use Rattle.usb_transaction.specs.AttemptLog.{AttemptLog, next}

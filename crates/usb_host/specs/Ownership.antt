@@ -5,8 +5,8 @@ use Rattle.std.specs.Map.{lookup}
 use Rattle.usb_port.specs.Order.{path_cmp, parent_of}
 use Rattle.usb_port.specs.declared.status.PortStatus.{PortStatus}
 use Rattle.usb_device.specs.Tree.{reach}
-use Rattle.usb_world.specs.AttemptPackets.{IsSettled}
-use Rattle.usb_world.specs.Paths.{is_way}
+use Rattle.usb_tree.specs.AttemptPackets.{IsSettled}
+use Rattle.usb_tree.specs.Paths.{is_way}
 use Rattle.usb_world.specs.World.{World, roots_of}
 use Rattle.usb_address.specs.Claims.{AddressMap, map_without}
 use Rattle.usb_address.specs.Ownership.{MapHolds, MapHoldsExcept, WhileBusWorks, KeepsAddresses}

@@ -3,7 +3,7 @@ use Rattle.usb_device.specs.Tree.{path_to}
 use Rattle.std.specs.Prelude.{◌≡◌, ◌⊎◌, ◌≤◌, ◌+◌, ◌*◌, ⊤, ℕ, List, [], ◌∷◌, ◌++◌, Bool, true, false, None, Some, IsSomeAnd, Result, Ok, Err, Option, OnOk, IfOk}
 use Rattle.usb_port.specs.Order.{parent_of}
 use Rattle.usb_port.specs.declared.status.PortStatus.{PortStatus}
-use Rattle.usb_world.specs.Paths.{has_power, pending, is_way}
+use Rattle.usb_tree.specs.Paths.{has_power, pending, is_way}
 use Rattle.usb_world.specs.RestingPorts.{LeavesPortAlone, SameDeviceOrPending}
 use Rattle.usb_world.specs.Steps.{Course}
 use Rattle.usb_world.specs.World.{World}

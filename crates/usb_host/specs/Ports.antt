@@ -20,7 +20,7 @@ use Rattle.usb_table.specs.KnownPorts.{known_port, IsAskable}
 use Rattle.usb_table.specs.Entries.{has_at, without}
 use Rattle.usb_table.specs.Table.{pipes_at}
 use Rattle.usb_host.specs.Transfers.{table_in}
-use Rattle.usb_world.specs.Paths.{is_way}
+use Rattle.usb_tree.specs.Paths.{is_way}
 use Rattle.usb_port.specs.Status.{seen}
 use Rattle.usb_port.specs.declared.status.PortStatus.{PortStatus}
 use Rattle.usb_host.specs.declared.fault.HostFault.{HostFault}

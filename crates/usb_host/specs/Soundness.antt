@@ -6,7 +6,7 @@ use Rattle.usb_device.specs.Rows.{State}
 use Rattle.usb_device.specs.Tree.{reach}
 use Rattle.usb_device.specs.View.{state_there, port_there}
 use Rattle.usb_world.specs.Devices.{EachWas}
-use Rattle.usb_world.specs.Paths.{pending, is_way}
+use Rattle.usb_tree.specs.Paths.{pending, is_way}
 use Rattle.usb_world.specs.World.{World, root_row, roots_of, changes}
 use Rattle.usb_hub.specs.Addresses.{EachElsewhere}
 use Rattle.usb_enum.specs.declared.cause.Cause.{Cause}

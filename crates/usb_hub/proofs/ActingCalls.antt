@@ -16,14 +16,15 @@ use Rattle.usb_device.specs.Spec.{Spec}
 use Rattle.usb_device.specs.Tree.{Ports, ended, vacant, taken, before, reset_where, called, changed_at, acted, place, place_at, Location, path_to}
 use Rattle.usb_world.specs.declared.types.Attempt.{Attempt}
 use Rattle.usb_world.specs.Courses.{is_harmless, resets, step_keeps_pending}
-use Rattle.usb_world.specs.Paths.{is_way, same_number}
+use Rattle.usb_tree.specs.Paths.{is_way, same_number}
 use Rattle.usb_world.specs.OneHolder.{IsMade, IsSetup, HolderIn, setup_asked, token_way, payload_way}
-use Rattle.usb_world.specs.AttemptPackets.{NobodyHolds, deep_at}
+use Rattle.usb_tree.specs.AttemptPackets.{NobodyHolds, deep_at}
 use Rattle.usb_world.specs.PortRequests.{AsksNothing, is_port_request, is_sparing, leaves_step}
 use Rattle.usb_world.specs.Steps.{attempt, root_call, after, at_attempt, damage_in}
-use Rattle.usb_world.specs.WayEffects.{keeps_pending}
+use Rattle.usb_tree.specs.WayEffects.{keeps_pending}
 use Rattle.usb_world.specs.World.{World}
-use Rattle.usb_world.proofs.Interface.{and_false, decided, holder_or_nobody, false_true, nobody_in, or_right, others_asked_nothing, self_asked, setup_place_in, silent_place_in}
+use Rattle.usb_world.proofs.Interface.{holder_or_nobody, nobody_in, others_asked_nothing, self_asked, setup_place_in, silent_place_in}
+use Rattle.usb_tree.proofs.Interface.{and_false, decided, false_true, or_right}
 use Rattle.usb_transaction.specs.declared.target.Target.{Target}
 use Rattle.usb_transaction.specs.Transactions.{setup_attempt}
 use Rattle.usb_address.proofs.Interface.{ClaimedAt, place_ports, claimed_holder, less_one, port_named-cases, nobody_asks_nothing, unshared_after}

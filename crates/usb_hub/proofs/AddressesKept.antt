@@ -21,8 +21,8 @@ use Rattle.usb_world.specs.World.{World, root_port_at}
 use Rattle.usb_world.specs.Steps.{SetsRoot, ClearsRoot, root_call, after}
 use Rattle.usb_world.specs.Addresses.{after_reset, after_taking}
 use Rattle.usb_world.specs.Courses.{is_harmless}
-use Rattle.usb_world.specs.Paths.{address_of, is_way, same_path}
-use Rattle.usb_world.proofs.Interface.{false_true}
+use Rattle.usb_tree.specs.Paths.{address_of, is_way, same_path}
+use Rattle.usb_tree.proofs.Interface.{false_true}
 use Rattle.usb_transaction.specs.declared.target.Target.{Target}
 use Rattle.usb_transaction.specs.Answerer.{Answerer}
 use Rattle.usb_pipe.specs.declared.fault.PipeFault.{PipeFault}

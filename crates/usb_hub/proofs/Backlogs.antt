@@ -13,12 +13,13 @@ use Rattle.usb_device.specs.Tree.{Location, path_to}
 use Rattle.usb_world.specs.declared.types.Attempt.{Attempt}
 use Rattle.usb_world.specs.declared.types.Outcome.{Outcome}
 use Rattle.usb_world.specs.Addresses.{is_setup}
-use Rattle.usb_world.specs.AttemptPackets.{IsSettled, NobodyHolds}
+use Rattle.usb_tree.specs.AttemptPackets.{IsSettled, NobodyHolds}
 use Rattle.usb_world.specs.OneHolder.{HolderIn, IsMade, IsSetup}
 use Rattle.usb_world.specs.PlanCourses.{AtPorts}
 use Rattle.usb_world.specs.Steps.{Course, Step, after, attempt, event, at_attempt, report, root_call}
 use Rattle.usb_world.specs.World.{World}
-use Rattle.usb_world.proofs.Interface.{Allows, course_joined, course_then, decided, holder_or_nobody, made_of, settled_wider}
+use Rattle.usb_world.proofs.Interface.{Allows, course_joined, course_then, holder_or_nobody, made_of, settled_wider}
+use Rattle.usb_tree.proofs.Interface.{decided}
 use Rattle.usb_backlog.specs.Marks.{CoversCall, Few, KeepsAll, KeepsBy, PortMark, is_marked}
 use Rattle.usb_backlog.proofs.Interface.{AttemptAllows, Covers, KeepsStep, data_allows, holder_allows, keeps-attempt, keeps-chain, keeps-unheard, payload_sets_none, request_sets_none, sets_none}
 use Rattle.usb_transaction.specs.declared.target.Target.{Target}

@@ -8,10 +8,11 @@ use Rattle.usb_port.specs.declared.call.PortCall.TheVariants.{ClearEnable}
 use Rattle.usb_port.specs.Calls.{clear_call, called_port}
 use Rattle.usb_device.specs.Tree.{Ports, ended, vacant, taken, port_of, place, port_at, reach, reach_at}
 use Rattle.usb_device.specs.View.{port_there}
-use Rattle.usb_world.specs.Paths.{is_way}
+use Rattle.usb_tree.specs.Paths.{is_way}
 use Rattle.usb_world.specs.Steps.{after}
 use Rattle.usb_world.specs.World.{World}
-use Rattle.usb_world.proofs.Interface.{and_false, course_wider, false_true, same_device, way_rest}
+use Rattle.usb_world.proofs.Interface.{course_wider, same_device, way_rest}
+use Rattle.usb_tree.proofs.Interface.{and_false, false_true}
 use Rattle.usb_address.specs.Claims.{AddressMap, map_without}
 use Rattle.usb_address.specs.Ownership.{MapHolds, WhileBusWorks, KeepsAddresses}
 use Rattle.usb_address.proofs.Interface.{bared}

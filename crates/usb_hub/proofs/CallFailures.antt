@@ -19,11 +19,12 @@ use Rattle.usb_device.specs.Tree.{acted, port_at, path_to, reach_on}
 use Rattle.usb_device.specs.View.{port_there}
 use Rattle.usb_world.specs.Courses.{is_harmless}
 use Rattle.usb_world.specs.Devices.{Was}
-use Rattle.usb_world.specs.Paths.{address_of}
-use Rattle.usb_world.specs.AttemptPackets.{IsSettled, deep_at}
+use Rattle.usb_tree.specs.Paths.{address_of}
+use Rattle.usb_tree.specs.AttemptPackets.{IsSettled, deep_at}
 use Rattle.usb_world.specs.PortRequests.{asks_no_port, StillSet}
 use Rattle.usb_world.specs.World.{World}
-use Rattle.usb_world.proofs.Interface.{course_bits, course_wider, equal_same, same_device}
+use Rattle.usb_world.proofs.Interface.{course_bits, course_wider, same_device}
+use Rattle.usb_tree.proofs.Interface.{equal_same}
 use Rattle.usb_transaction.specs.declared.target.Target.{Target}
 use Rattle.usb_transaction.specs.Leaves.{AcceptedAt}
 use Rattle.usb_transaction.specs.Failures.{Listens, NoThreeDamaged}

@@ -12,14 +12,15 @@ use Rattle.usb_device.specs.View.{port_there, state_there}
 use Rattle.usb_world.specs.declared.event.Event.{Event}
 use Rattle.usb_world.specs.declared.types.Attempt.{Attempt}
 use Rattle.usb_world.specs.Courses.{step_keeps_pending, resets}
-use Rattle.usb_world.specs.Paths.{has_power, pending}
+use Rattle.usb_tree.specs.Paths.{has_power, pending}
 use Rattle.usb_world.specs.PlanCourses.{spec_of}
 use Rattle.usb_world.specs.PortRequests.{AsksNothing, leaves_step, row_reached}
 use Rattle.usb_world.specs.RestingPorts.{LeavesPortAlone, SameAt, UnchangedOrPending, SameDeviceOrPending}
 use Rattle.usb_world.specs.Steps.{Step, attempt, root_call, event, report, after, with_attempt, at_attempt, after_due_events, after_event, is_due, Course, here, step}
-use Rattle.usb_world.specs.WayEffects.{keeps_pending}
+use Rattle.usb_tree.specs.WayEffects.{keeps_pending}
 use Rattle.usb_world.specs.World.{World}
-use Rattle.usb_world.proofs.Interface.{MadeOrNot, and_of, attempt_cases, both, course_wider, made_pend, made_sound, false_true, pending_persists, rests_or_pends, stands_or_pends}
+use Rattle.usb_world.proofs.Interface.{MadeOrNot, attempt_cases, course_wider, made_pend, made_sound, pending_persists, rests_or_pends, stands_or_pends}
+use Rattle.usb_tree.proofs.Interface.{and_of, both, false_true}
 use Rattle.usb_hub.specs.Moments.{OnReachedRow, PortStatusAt, ports_at_step, ActsAt, PortCallDone}
 
 -- The port of a place

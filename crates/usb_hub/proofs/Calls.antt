@@ -21,14 +21,15 @@ use Rattle.usb_world.specs.declared.types.BusFault.{BusFault}
 use Rattle.usb_world.specs.declared.types.Outcome.{Outcome}
 use Rattle.usb_world.specs.Courses.{KeepsPendingAt, is_harmless}
 use Rattle.usb_world.specs.Devices.{Was}
-use Rattle.usb_world.specs.Paths.{address_of, is_way}
-use Rattle.usb_world.specs.AttemptPackets.{IsSettled}
+use Rattle.usb_tree.specs.Paths.{address_of, is_way}
+use Rattle.usb_tree.specs.AttemptPackets.{IsSettled}
 use Rattle.usb_world.specs.PortRequests.{is_sparing}
 use Rattle.usb_world.specs.RestingPorts.{LeavesPortAlone}
 use Rattle.usb_world.specs.Steps.{Step, attempt, root_call, after, at_attempt, Course, here, step as step_then, AttemptFails, SetsRoot, ClearsRoot}
-use Rattle.usb_world.specs.WayEffects.{keeps_pending}
+use Rattle.usb_tree.specs.WayEffects.{keeps_pending}
 use Rattle.usb_world.specs.World.{World, Attempted}
-use Rattle.usb_world.proofs.Interface.{and_of, course_joined, course_wider, decided, equal_same, made_of, false_true, or_right, same_is, settled_wider}
+use Rattle.usb_world.proofs.Interface.{course_joined, course_wider, made_of, same_is, settled_wider}
+use Rattle.usb_tree.proofs.Interface.{and_of, decided, equal_same, false_true, or_right}
 use Rattle.usb_transaction.specs.declared.target.Target.{Target}
 use Rattle.usb_transaction.specs.declared.fault.TransFault.{TransFault}
 use Rattle.usb_transaction.specs.declared.fault.TransFault.TheVariants as trans

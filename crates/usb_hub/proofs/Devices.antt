@@ -17,11 +17,12 @@ use Rattle.usb_device.specs.Transfer.{first_stage, ending}
 use Rattle.usb_device.specs.Tree.{Ports, Location, reach_on, state_on}
 use Rattle.usb_world.specs.Courses.{is_harmless}
 use Rattle.usb_world.specs.Devices.{Was, EachWas}
-use Rattle.usb_world.specs.Paths.{address_of, is_way, same_number}
+use Rattle.usb_tree.specs.Paths.{address_of, is_way, same_number}
 use Rattle.usb_world.specs.Steps.{root_call, after}
-use Rattle.usb_world.specs.WayEffects.{call_resets, reset_if}
+use Rattle.usb_tree.specs.WayEffects.{call_resets, reset_if}
 use Rattle.usb_world.specs.World.{World}
-use Rattle.usb_world.proofs.Interface.{and_false, call_reach, call_state, each_none, each_wider, false_true}
+use Rattle.usb_world.proofs.Interface.{call_reach, call_state, each_none, each_wider}
+use Rattle.usb_tree.proofs.Interface.{and_false, false_true}
 use Rattle.usb_transaction.specs.declared.target.Target.{Target}
 use Rattle.usb_pipe.specs.declared.fault.PipeFault.{PipeFault}
 use Rattle.usb_pipe.specs.Leaves.{ReadLeaves, WriteLeaves}

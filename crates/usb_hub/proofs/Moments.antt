@@ -18,14 +18,15 @@ use Rattle.usb_device.specs.Rows.{State}
 use Rattle.usb_device.specs.Transfer.{reading, first_stage}
 use Rattle.usb_device.specs.Tree.{acted, port_at, reach, Location, path_to, reach_on, state_on}
 use Rattle.usb_device.specs.View.{port_there, state_there}
-use Rattle.usb_world.specs.Paths.{address_of}
-use Rattle.usb_world.specs.AttemptPackets.{IsSettled}
+use Rattle.usb_tree.specs.Paths.{address_of}
+use Rattle.usb_tree.specs.AttemptPackets.{IsSettled}
 use Rattle.usb_world.specs.PortRequests.{asks_no_port}
 use Rattle.usb_world.specs.RestingPorts.{LeavesPortAlone}
 use Rattle.usb_world.specs.World.{World, IsRootPort, root_row, root_port_at as root_port}
 use Rattle.usb_world.specs.Steps.{Course, here}
 use Rattle.usb_world.specs.Devices.{Was}
-use Rattle.usb_world.proofs.Interface.{equal_same, same_is}
+use Rattle.usb_world.proofs.Interface.{same_is}
+use Rattle.usb_tree.proofs.Interface.{equal_same}
 use Rattle.usb_transaction.specs.declared.target.Target.{Target}
 use Rattle.usb_transaction.specs.Answerer.{Answerer}
 use Rattle.usb_transaction.specs.Leaves.{is_at, AcceptedAt}

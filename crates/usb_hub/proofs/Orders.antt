@@ -5,7 +5,7 @@ use Rattle.usb_request.specs.declared.setup.Setup.{Setup}
 use Rattle.usb_world.specs.declared.types.Attempt.{Attempt}
 use Rattle.usb_world.specs.Courses.{is_harmless}
 use Rattle.usb_world.specs.OneHolder.{HolderIn}
-use Rattle.usb_world.specs.AttemptPackets.{NobodyHolds}
+use Rattle.usb_tree.specs.AttemptPackets.{NobodyHolds}
 use Rattle.usb_world.specs.PortRequests.{AsksNothing, is_above}
 use Rattle.usb_world.specs.RestingPorts.{LeavesPortAlone}
 use Rattle.usb_world.specs.Steps.{Course, attempt, after, at_attempt}

@@ -8,14 +8,15 @@ use Rattle.usb_device.specs.Tree.{Ports, ended, vacant, taken, Place, empty, ful
 use Rattle.usb_device.specs.View.{port_there, state_there}
 use Rattle.usb_world.specs.declared.types.Attempt.{Attempt}
 use Rattle.usb_world.specs.Courses.{NoReset, is_made, made_resets, resets}
-use Rattle.usb_world.specs.Paths.{has_power, pending}
+use Rattle.usb_tree.specs.Paths.{has_power, pending}
 use Rattle.usb_world.specs.PlanCourses.{spec_of}
 use Rattle.usb_world.specs.PortRequests.{row_reached, StillSet}
 use Rattle.usb_world.specs.RestingPorts.{UnchangedOrPending, SameDeviceOrPending}
 use Rattle.usb_world.specs.SanePorts.{Consistent, ConsistentPlace}
 use Rattle.usb_world.specs.Steps.{Step, attempt, root_call, event, report, after, with_attempt, at_attempt, Course, here, step, WorldInvariant}
 use Rattle.usb_world.specs.World.{World}
-use Rattle.usb_world.proofs.Interface.{MadeOrNot, attempt_cases, between_after, between_course, between_ready, course_bits, course_wider, made_reach, made_sound, false_true, pending_persists, reach_live, rests_or_pends, same_device, stands, stands_or_pends, state_stands, step_pend}
+use Rattle.usb_world.proofs.Interface.{MadeOrNot, attempt_cases, between_after, between_course, between_ready, course_bits, course_wider, made_reach, made_sound, pending_persists, reach_live, rests_or_pends, same_device, stands, stands_or_pends, state_stands, step_pend}
+use Rattle.usb_tree.proofs.Interface.{false_true}
 use Rattle.usb_address.proofs.Interface.{IsUp, NoPower, live_of_up, not_way, pend_of_up, ready_unpowered}
 use Rattle.usb_hub.specs.Moments.{ports_at_step, ActsAt, PortCallDone}
 use Rattle.usb_hub.proofs.CalledPorts.{port_of_place, due_course}

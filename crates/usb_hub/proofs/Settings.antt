@@ -13,7 +13,8 @@ use Rattle.usb_device.specs.Progress.{StatusGiven, seen, unseen, address_then, O
 use Rattle.usb_world.specs.World.{World}
 use Rattle.usb_world.specs.Courses.{is_harmless}
 use Rattle.usb_world.specs.Devices.{Relation, EachWas}
-use Rattle.usb_world.proofs.Interface.{decided, each_both, each_wider}
+use Rattle.usb_world.proofs.Interface.{each_both, each_wider}
+use Rattle.usb_tree.proofs.Interface.{decided}
 use Rattle.usb_transaction.specs.declared.target.Target.{Target}
 use Rattle.usb_transaction.specs.Leaves.{is_at, AcceptedAt}
 use Rattle.usb_transaction.specs.Losses.{begins_no_stretch}
@@ -31,7 +32,7 @@ use Rattle.usb_device.specs.declared.bulk.EndpointState.{EndpointState}
 use Rattle.usb_device.specs.Bulk.{rested}
 use Rattle.usb_device.specs.Effect.{asked_by_setup, effect_of_request}
 use Rattle.usb_device.specs.Tree.{full, acted, Location, place_on}
-use Rattle.usb_world.specs.AttemptPackets.{IsSettled}
+use Rattle.usb_tree.specs.AttemptPackets.{IsSettled}
 use Rattle.usb_hub.specs.Requests.{Commanded}
 use Rattle.usb_hub.proofs.RestingRequests.{behind_asks_nothing}
 use Rattle.usb_hub.specs.Settings.{AddressAsked, takes_value, OnlySet, IsConfigured, WentOff, ConfigurationAsked}

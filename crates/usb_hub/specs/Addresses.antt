@@ -8,7 +8,7 @@ use Rattle.usb_device.specs.Rows.{State}
 use Rattle.usb_device.specs.Tree.{Location, path_to, reach_on, state_on}
 use Rattle.usb_world.specs.Addresses.{after_reset, after_taking}
 use Rattle.usb_world.specs.Devices.{Relation, Was, EachWas}
-use Rattle.usb_world.specs.Paths.{is_way}
+use Rattle.usb_tree.specs.Paths.{is_way}
 use Rattle.usb_world.specs.World.{World}
 use Rattle.usb_pipe.specs.declared.fault.PipeFault.{PipeFault}
 use Rattle.usb_address.specs.Claims.{AddressMap, map_without}

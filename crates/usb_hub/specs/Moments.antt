@@ -10,11 +10,11 @@ use Rattle.usb_device.specs.View.{port_there}
 use Rattle.usb_world.specs.declared.types.Attempt.{Attempt}
 use Rattle.usb_world.specs.declared.types.BusFault.{BusFault}
 use Rattle.usb_world.specs.Courses.{KeepsPendingAt, step_keeps_pending}
-use Rattle.usb_world.specs.Paths.{is_way}
+use Rattle.usb_tree.specs.Paths.{is_way}
 use Rattle.usb_world.specs.PortRequests.{AsksNothing, row_reached}
 use Rattle.usb_world.specs.RestingPorts.{LeavesPortAlone}
 use Rattle.usb_world.specs.Steps.{Step, attempt, root_call, event, report, after, at_attempt, Course, AttemptFails}
-use Rattle.usb_world.specs.WayEffects.{keeps_pending}
+use Rattle.usb_tree.specs.WayEffects.{keeps_pending}
 use Rattle.usb_world.specs.World.{World, Attempted}
 use Rattle.usb_address.specs.Claims.{AddressMap}
 use Rattle.usb_backlog.specs.Marks.{KeepsAll, KeepsCall}

@@ -2,7 +2,7 @@
 use Rattle.std.specs.Prelude.{◌≡◌, ◌≢◌, ℕ, ◌≤◌, ◌==◌, true, false, if◌then◌else◌, List, length, slice_index, Some, Result, Ok, Err, IfOk, MatchResult}
 use Rattle.std.specs.Global.{Vec}
 use Rattle.usb_request.specs.declared.setup.Setup.{Setup}
-use Rattle.usb_world.specs.AttemptPackets.{IsSettled}
+use Rattle.usb_tree.specs.AttemptPackets.{IsSettled}
 use Rattle.usb_world.specs.Courses.{is_harmless}
 use Rattle.usb_world.specs.PortRequests.{asks_no_port, is_above}
 use Rattle.usb_world.specs.RestingPorts.{LeavesPortAlone}

@@ -10,7 +10,7 @@ use crate::stage::{Stage, stage_behind, stage_of};
 use std::io::{Read, Write};
 use std::marker::{Brand, PhantomData};
 use usb_bus::{Attempt, Bus, BusFault, Outcome, Watched};
-use usb_serve::Item;
+use usb_run::Item;
 use usb_stream::{LiveFault, StreamBus};
 use usb_wire::Answer;
 

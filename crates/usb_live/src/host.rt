@@ -10,7 +10,8 @@ use std::io::{Read, Write};
 use std::marker::Brand;
 use usb_bus::Watched;
 use usb_host::{Host, HostFault, Round};
-use usb_serve::{Item, TransferFault, answered, counted, item_lines, number_of};
+use usb_run::{Item, TransferFault, answered, counted};
+use usb_serve::{item_lines, number_of};
 use usb_wire::Answer;
 
 /// A host over a far end.

@@ -3,7 +3,7 @@ ghost use Rattle.std.specs.Prelude.{◌≡◌};
 ghost use Rattle.usb_live.specs.Course.{is_count, is_nothing, owed_by, settles};
 
 use usb_port::PortPath;
-use usb_serve::{Item, TransferFault};
+use usb_run::{Item, TransferFault};
 use usb_stream::LiveFault;
 use usb_wire::Answer;
 

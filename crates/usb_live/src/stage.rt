@@ -2,7 +2,7 @@
 ghost use Rattle.std.specs.Prelude.{◌≡◌};
 ghost use Rattle.usb_live.specs.Course.{stage_behind, stage_behind_answer};
 
-use usb_serve::Item;
+use usb_run::Item;
 use usb_stream::LiveFault;
 use usb_wire::Answer;
 

@@ -10,9 +10,10 @@ mod counted;
 
 use anyhow::Result;
 use counted::CountedBus;
-use usb_bus::{Bus, SimBus};
+use usb_bus::Bus;
 use usb_host::{Host, Round};
 use usb_plan::read_plan;
+use usb_sim::SimBus;
 
 /// A device that answers NAK twice at the begin of each control transfer, and a damage: the ACK of attempt 1 is lost.
 const WORLD: &str = r#"

@@ -12,7 +12,7 @@ use Rattle.usb_pcap.specs.Text.{decimal_in, if_found, is_digit, number_on, strip
 use Rattle.usb_port.specs.Path.{is_port_digit}
 use Rattle.usb_pcap.specs.Grammar.{AreUnits, IsUnit, IsOneOf, IsPiece, Piece, behind_bytes, behind_escape, behind_item, behind_items, behind_piece, is_escape, is_plain}
 use Rattle.usb_pcap.proofs.Reading.{decimal_in-some, found_some, if_either, if-some, map_some, strip-some}
-use Rattle.usb_world.proofs.Interface.{not-true}
+use Rattle.usb_tree.proofs.Interface.{not-true}
 
 -- ---- words
 

@@ -4,7 +4,7 @@ use Rattle.usb_packet.specs.declared.Packet.{Packet}
 use Rattle.usb_packet.specs.Spelling.{Spells}
 use Rattle.usb_world.specs.declared.wire.Mark.{Mark}
 use Rattle.usb_world.specs.declared.wire.Mark.TheVariants.{Whole, Lost, PreLost, Flipped}
-use Rattle.usb_world.proofs.DamageEffects.{bit_within}
+use Rattle.usb_world.proofs.Interface.{bit_within}
 use Rattle.usb_pcap.specs.Attempt.{may_be_marked}
 use Rattle.usb_pcap.specs.Record.{AppendsRecords, AreRecords, HasBit, IsRecord, damaged, own_mark, record_head}
 

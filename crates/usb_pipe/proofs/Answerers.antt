@@ -11,11 +11,11 @@ use Rattle.usb_device.specs.Rows.{State}
 use Rattle.usb_device.specs.Tree.{Location, reach_on, state_on}
 use Rattle.usb_world.specs.Courses.{is_harmless}
 use Rattle.usb_world.specs.Devices.{Relation, Was}
-use Rattle.usb_world.specs.AttemptPackets.{IsSettled}
-use Rattle.usb_world.specs.Paths.{address_of}
+use Rattle.usb_tree.specs.AttemptPackets.{IsSettled}
+use Rattle.usb_tree.specs.Paths.{address_of}
 use Rattle.usb_world.specs.World.{World}
 use Rattle.usb_world.specs.declared.types.Attempt.{Attempt}
-use Rattle.usb_world.proofs.Interface.{equal_same}
+use Rattle.usb_tree.proofs.Interface.{equal_same}
 use Rattle.usb_transaction.specs.Answerer.{Answerer, HadOne, IsAnswer as TransIsAnswer}
 use Rattle.usb_transaction.specs.HeardOutcomes.{heard_as, heard_when_sent}
 use Rattle.usb_transaction.specs.Leaves.{ControlIn, is_at, SourceIn, SinkOut}

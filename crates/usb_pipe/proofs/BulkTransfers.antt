@@ -10,7 +10,7 @@ use Rattle.usb_packet.specs.Toggles.{other, flips}
 use Rattle.usb_device.specs.Bulk.{advanced}
 use Rattle.usb_device.specs.Rows.{State}
 use Rattle.usb_device.specs.Progress.{IsSink, SinkAt, level, ahead, Joined, OnlySink, IsSource, SourceAt, OnlySource}
-use Rattle.usb_world.specs.AttemptPackets.{IsSettled}
+use Rattle.usb_tree.specs.AttemptPackets.{IsSettled}
 use Rattle.usb_world.specs.World.{World}
 use Rattle.usb_world.specs.Devices.{EachWas}
 use Rattle.usb_world.proofs.Interface.{each_joined, each_none, each_wider}

@@ -16,7 +16,7 @@ use Rattle.usb_device.specs.Tree.{row_of, Location}
 use Rattle.usb_device.specs.declared.transfer.InEndpoint.TheVariants as by
 use Rattle.usb_world.specs.Courses.{is_harmless}
 use Rattle.usb_world.specs.Devices.{Relation, EachWas, DidIn, Was}
-use Rattle.usb_world.specs.AttemptPackets.{IsSettled}
+use Rattle.usb_tree.specs.AttemptPackets.{IsSettled}
 use Rattle.usb_world.specs.Wire.{damage_of}
 use Rattle.usb_world.specs.World.{World}
 use Rattle.usb_world.specs.declared.types.Attempt.{Attempt}

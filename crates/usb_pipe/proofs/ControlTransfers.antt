@@ -25,11 +25,12 @@ use Rattle.usb_device.proofs.Interface.{packets_joined-is, packets_joined-whole,
 use Rattle.usb_world.specs.Courses.{is_harmless}
 use Rattle.usb_world.specs.Devices.{Relation, EachWas}
 use Rattle.usb_world.specs.Losses.{one_more}
-use Rattle.usb_world.specs.AttemptPackets.{IsSettled}
-use Rattle.usb_world.specs.Paths.{address_of}
+use Rattle.usb_tree.specs.AttemptPackets.{IsSettled}
+use Rattle.usb_tree.specs.Paths.{address_of}
 use Rattle.usb_world.specs.Steps.{Course}
 use Rattle.usb_world.specs.World.{World, AttemptsWithin}
-use Rattle.usb_world.proofs.Interface.{course_joined, decided, either_of, register_address, spends_none, spends_then, spends_wider}
+use Rattle.usb_world.proofs.Interface.{course_joined, register_address, spends_none, spends_then, spends_wider}
+use Rattle.usb_tree.proofs.Interface.{decided, either_of}
 use Rattle.usb_bus.specs.Traces.{Traced, StepRun, still}
 use Rattle.usb_bus.proofs.Interface.{traced_then}
 use Rattle.usb_transaction.specs.Answerer.{Answerer}

@@ -4,7 +4,7 @@ use Rattle.std.proofs.Common.{◌≡◌, sym, ap, subst, refl, false, arith, ℕ
 use Rattle.arrayvec.specs.ArrayVec.{ArrayVec}
 use Rattle.usb_device.specs.Rows.{State}
 use Rattle.usb_device.specs.Progress.{PollAt, NeverTold}
-use Rattle.usb_world.specs.AttemptPackets.{IsSettled}
+use Rattle.usb_tree.specs.AttemptPackets.{IsSettled}
 use Rattle.usb_world.specs.World.{World}
 use Rattle.usb_world.specs.Devices.{EachWas}
 use Rattle.usb_world.proofs.Interface.{each_wider}

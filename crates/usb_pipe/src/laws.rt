@@ -9,7 +9,7 @@ ghost use Rattle.std.specs.Global.{Vec as AVec};
 ghost use Rattle.usb_request.specs.declared.setup.Setup.{Setup as ARequest};
 ghost use Rattle.usb_request.specs.Layout.{IsToHost, bytes_of, setup_of};
 ghost use Rattle.usb_request.specs.Requests.{clear_endpoint_halt};
-ghost use Rattle.usb_world.specs.AttemptPackets.{IsSettled};
+ghost use Rattle.usb_tree.specs.AttemptPackets.{IsSettled};
 ghost use Rattle.usb_world.specs.World.{World};
 ghost use Rattle.usb_world.specs.Courses.{is_harmless};
 ghost use Rattle.usb_world.specs.Devices.{EachWas};

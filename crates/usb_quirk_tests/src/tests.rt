@@ -4,10 +4,10 @@ mod quirk;
 use quirk::{QuirkBus, Told};
 use std::alloc::{AllocError, Global};
 use std::test::Fail;
-use usb_bus::{SimBus, Tracer};
 use usb_enum::Finding;
 use usb_host::{Host, Round};
 use usb_port::PortPath;
+use usb_sim::{SimBus, Tracer};
 use usb_testbus::{bus_of, plan_text};
 
 /// A hub of two ports that powers itself, and a function at its first port.

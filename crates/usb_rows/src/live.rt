@@ -3,9 +3,10 @@ use std::alloc::{AllocError, Global};
 use std::cell::RefCell;
 use std::io;
 use std::io::{Error, ErrorKind, Read, Write};
-use usb_bus::{Plan, Tracer, Watched};
+use usb_bus::Watched;
 use usb_far::{FarEnd, serve};
 use usb_live::{LiveEnd, live};
+use usb_sim::{Plan, Tracer};
 
 /// The most questions.
 const LIMIT: u64 = 1_000_000;

@@ -9,7 +9,8 @@ use std::alloc::{AllocError, Global};
 use std::rt::Files;
 use std::{fs, io, str};
 use usb_bus::Watched;
-use usb_serve::{Mode, ServeFault, plan_of, serve};
+use usb_run::Mode;
+use usb_serve::{ServeFault, plan_of, serve};
 use usb_text::packet_line;
 
 /// A line for each row of a plan: its NAME. The plan is NAME.toml; NAME.run.txt and NAME.tree.txt are what is written

@@ -11,12 +11,12 @@ use Rattle.usb_enum.specs.declared.finding.Finding.{Finding}
 use Rattle.usb_enum.specs.declared.finding.Finding.TheVariants.{Device, Refused}
 use Rattle.usb_enum.specs.declared.hub.HubFacts.{HubFacts}
 use Rattle.usb_table.specs.Entries.{Entries}
-use Rattle.usb_serve.specs.declared.runs.Item.{Item}
-use Rattle.usb_serve.specs.declared.runs.Item.TheVariants.{Listing, Sent, Received, Cleared}
-use Rattle.usb_serve.specs.declared.transfer.TransferFault.{TransferFault}
-use Rattle.usb_serve.specs.TransferLines.{sent_line, received_line, cleared_line, sent_end, received_end, cleared_end}
+use Rattle.usb_run.specs.declared.runs.Item.{Item}
+use Rattle.usb_run.specs.declared.runs.Item.TheVariants.{Listing, Sent, Received, Cleared}
+use Rattle.usb_run.specs.declared.transfer.TransferFault.{TransferFault}
+use Rattle.usb_run.specs.TransferLines.{sent_line, received_line, cleared_line, sent_end, received_end, cleared_end}
 use Rattle.usb_text.specs.ListingLines.{address_line, config_line, config_lines, hub_line, hub_lines, string_line, string_lines, device_lines, refused_line, finding_lines, entry_lines, listing_line, listing_lines}
-use Rattle.usb_serve.specs.ServeResults.{IsLine, item_lines}
+use Rattle.usb_run.specs.ItemLines.{IsLine, item_lines}
 
 -- a newline behind any bytes, or an end that has one
 line_end : (xs : List ℕ) → IsLine (xs ++ codes "\n")

@@ -14,13 +14,14 @@ use Rattle.usb_host.specs.HostState.{HostState, opening_host as host_opening, wi
 use Rattle.usb_plan.specs.declared.fault.PlanFault.{PlanFault}
 use Rattle.usb_plan.specs.declared.fault.PlanFault.TheVariants as plan_fault
 use Rattle.usb_plan.specs.Plan.{spelled_plan}
-use Rattle.usb_serve.specs.declared.runs.RunFault.TheVariants.{LimitReached, TraceFailed}
-use Rattle.usb_serve.specs.declared.serving.Mode.{Mode}
-use Rattle.usb_serve.specs.declared.serving.Mode.TheVariants.{Tree}
+use Rattle.usb_run.specs.declared.runs.RunFault.TheVariants.{LimitReached, TraceFailed}
+use Rattle.usb_run.specs.declared.mode.Mode.{Mode}
+use Rattle.usb_run.specs.declared.mode.Mode.TheVariants.{Tree}
 use Rattle.usb_serve.specs.declared.serving.ServeFault.{ServeFault}
 use Rattle.usb_serve.specs.declared.serving.ServeFault.TheVariants as serve
-use Rattle.usb_serve.specs.RunSegments.{Arrives, Ran, idle, silent, Reaches}
-use Rattle.usb_serve.specs.ServedRuns.{EndsWell, IsServed, IsUnread, IsWritten, of_plan, unread}
+use Rattle.usb_run.specs.RunSegments.{Arrives, Ran, idle, silent, Reaches}
+use Rattle.usb_serve.specs.ServedRuns.{IsServed, IsUnread, IsWritten, of_plan, unread}
+use Rattle.usb_run.specs.Reports.{EndsWell}
 
 -- Events before their time
 

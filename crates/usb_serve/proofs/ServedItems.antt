@@ -11,26 +11,30 @@ use Rattle.usb_world.specs.PlanData.{PlanData}
 use Rattle.usb_world.specs.World.{World, to_come}
 use Rattle.usb_host.specs.HostState.{HostState}
 use Rattle.usb_plan.specs.Attempts.{bound_of}
-use Rattle.usb_serve.specs.declared.runs.Item.{Item}
-use Rattle.usb_serve.specs.declared.runs.Item.TheVariants.{Listing, Sent, Received, Cleared}
-use Rattle.usb_serve.specs.declared.runs.RunFault.{RunFault}
-use Rattle.usb_serve.specs.declared.runs.RunFault.TheVariants as run
-use Rattle.usb_serve.specs.declared.serving.Mode.TheVariants.{Tree, Run}
+use Rattle.usb_run.specs.declared.runs.Item.{Item}
+use Rattle.usb_run.specs.declared.runs.Item.TheVariants.{Listing, Sent, Received, Cleared}
+use Rattle.usb_run.specs.declared.runs.RunFault.{RunFault}
+use Rattle.usb_run.specs.declared.runs.RunFault.TheVariants as run
+use Rattle.usb_run.specs.declared.mode.Mode.TheVariants.{Tree, Run}
 use Rattle.usb_serve.specs.declared.serving.ServeFault.{ServeFault}
 use Rattle.usb_serve.specs.declared.serving.ServeFault.TheVariants as serve
 use Rattle.usb_text.specs.ListingLines.{bound_line}
-use Rattle.usb_serve.specs.Run.{IsCaused, items_left}
-use Rattle.usb_serve.specs.ServedRuns.{IsWritten, Opens, TreeText}
-use Rattle.usb_serve.specs.ServeResults.{IsCausedInRun, IsCausedInTree, item_lines, number_of}
-use Rattle.usb_serve.specs.RunSegments.{Knows}
-use Rattle.usb_serve.specs.Transcript.{CutsText, RunsTo, RunEnds, Next, AppendsText, StoppedRun, Transcript, at_write, begun, behind, never, of_run, item_text, items_text, listings}
-use Rattle.usb_serve.proofs.Causes.{at_fault, is_write, run_limit}
-use Rattle.usb_serve.proofs.Ends.{knows_opened, limit_opened}
-use Rattle.usb_serve.proofs.KnowledgeKept.{makes_knows, puts_knows}
+use Rattle.usb_run.specs.Run.{IsCaused, items_left}
+use Rattle.usb_serve.specs.ServedRuns.{IsWritten, TreeText}
+use Rattle.usb_run.specs.Reports.{Opens}
+use Rattle.usb_serve.specs.ServeResults.{IsCausedInRun, IsCausedInTree}
+use Rattle.usb_run.specs.ItemLines.{item_lines, number_of}
+use Rattle.usb_run.specs.RunSegments.{Knows}
+use Rattle.usb_run.specs.Transcript.{CutsText, RunsTo, Next, AppendsText, StoppedRun, Transcript, begun, behind, never, item_text, items_text, listings}
+use Rattle.usb_serve.specs.ServedTranscripts.{RunEnds, at_write, of_run}
+use Rattle.usb_run.proofs.Interface.{at_fault, run_limit}
+use Rattle.usb_serve.proofs.LineFaults.{is_write}
+use Rattle.usb_run.proofs.Interface.{knows_opened, limit_opened}
+use Rattle.usb_run.proofs.Interface.{makes_knows, puts_knows}
 use Rattle.usb_serve.proofs.LineEnds.{item_lines_text}
-use Rattle.usb_serve.proofs.Moments.{run_lists_right}
-use Rattle.usb_serve.proofs.RunCourses.{traced_runs_onward}
-use Rattle.usb_serve.proofs.Transcripts.{cut_next, ends_failed, over_next, appends_no_text, stopped_next, told_next, unwritten_next}
+use Rattle.usb_run.proofs.Interface.{run_lists_right}
+use Rattle.usb_run.proofs.Interface.{traced_runs_onward}
+use Rattle.usb_run.proofs.Interface.{cut_next, ends_failed, over_next, appends_no_text, stopped_next, told_next, unwritten_next}
 
 -- a run whose listings so far are this many; with those to come they are not too many to count
 pub record ItemsNumbered (items : List Item) (number : ℕ) (over : Bool) (w : World) : Type 0 where

@@ -3,8 +3,8 @@ use Rattle.std.proofs.Common.{◌≡◌, ◌∙◌, inl, inr, ℕ, List, Option,
 use Rattle.std.specs.Prelude.{IsErrOf, OnOk, OnErr}
 use Rattle.std.specs.Io.KnownBytes.{Keeps}
 use Rattle.usb_bus.specs.declared.watched.WriteFailed.{WriteFailed}
-use Rattle.usb_serve.specs.declared.runs.RunFault.TheVariants.{TraceFailed}
-use Rattle.usb_serve.specs.declared.serving.Mode.{Mode}
+use Rattle.usb_run.specs.declared.runs.RunFault.TheVariants.{TraceFailed}
+use Rattle.usb_run.specs.declared.mode.Mode.{Mode}
 use Rattle.usb_serve.specs.declared.serving.ServeFault.{ServeFault}
 use Rattle.usb_serve.specs.declared.serving.ServeFault.TheVariants as serve
 use Rattle.usb_serve.specs.Outputs.{LeavesFront}

@@ -1,9 +1,4 @@
-pub mod TransferLines
-pub mod Run
 pub mod ServeResults
-pub mod Transfers
-pub mod RunSegments
-pub mod Transcript
+pub mod ServedTranscripts
 pub mod ServedRuns
-pub mod Moments
 pub mod Outputs

@@ -1,19 +1,15 @@
 -- What serving a plan tells and writes.
-use Rattle.std.specs.Prelude.{◌≡◌, ◌≢◌, ℕ, ◌+◌, Bool, true, false, Some, List, [], ◌∷◌, ◌++◌, Result, Ok, Err, IsErrOf}
+use Rattle.std.specs.Prelude.{◌≡◌, ◌≢◌, Bool, true, false, Some, Result, Ok, Err, IsErrOf}
 use Rattle.usb_world.specs.World.{World}
 use Rattle.usb_world.specs.declared.types.BusFault.{BusFault}
 use Rattle.usb_world.specs.declared.types.BusFault.TheVariants as bus
 use Rattle.usb_serve.specs.declared.input.InputFault.{InputFault}
 use Rattle.usb_serve.specs.declared.input.InputFault.TheVariants as input
-use Rattle.usb_serve.specs.declared.runs.Item.{Item}
-use Rattle.usb_serve.specs.declared.runs.Item.TheVariants.{Listing, Sent, Received, Cleared}
-use Rattle.usb_serve.specs.declared.runs.RunFault.TheVariants as run
-use Rattle.usb_serve.specs.Run.{IsCaused}
+use Rattle.usb_run.specs.declared.runs.RunFault.TheVariants as run
+use Rattle.usb_run.specs.Run.{IsCaused}
 use Rattle.usb_serve.specs.declared.serving.ServeFault.{ServeFault}
 use Rattle.usb_serve.specs.declared.serving.ServeFault.TheVariants.{Read, TooLong, Run, Write, Memory}
 use Rattle.usb_serve.specs.declared.serving.ServeFault.TheVariants as serve
-use Rattle.usb_serve.specs.TransferLines.{sent_line, received_line, cleared_line}
-use Rattle.usb_text.specs.ListingLines.{listing_lines}
 
 abbrev pub input_fault : InputFault → ServeFault
 input_fault input.Read = Read
@@ -62,21 +58,3 @@ IsCausedInTree (serve.Plan fault) w = ⊥
 IsCausedInTree (Run fault) w = (fault ≢ run.TraceFailed) × IsCaused fault w
 IsCausedInTree Write w = Unit {0}
 IsCausedInTree Memory w = Unit {0}
-
--- the lines of an item; the number is that of a listing
-abbrev pub item_lines : ℕ → Item → List (List ℕ)
-item_lines number (Listing entries taken) = listing_lines number entries
-item_lines number (Sent path sent) = sent_line path sent ∷ []
-item_lines number (Received path received) = received_line path received ∷ []
-item_lines number (Cleared path cleared) = cleared_line path cleared ∷ []
-
--- listings alone are numbered
-abbrev pub number_of : Item → ℕ → ℕ
-number_of (Listing entries taken) number = number + 1
-number_of (Sent path sent) number = number
-number_of (Received path received) number = number
-number_of (Cleared path cleared) number = number
-
--- bytes that end in a newline
-abbrev pub IsLine : List ℕ → Type 0
-IsLine line = (front : List ℕ) × (line ≡ front ++ 10 ∷ [])

@@ -1,71 +1,27 @@
 -- Where a plan's run ends, and what serving a plan wrote of it.
-use Rattle.std.specs.Prelude.{◌≡◌, ◌≢◌, ◌≤◌, ⊤, ◌⊎◌, ℕ, List, ◌++◌, reverse, Option, Bool, true, false, Result, Ok, Err, IfOk, IfErr, IfSome, IsUtf8}
+use Rattle.std.specs.Prelude.{◌≡◌, ◌≢◌, ◌≤◌, ⊤, ◌⊎◌, ℕ, List, ◌++◌, Option, true, false, Result, Ok, Err, IfErr, IfSome, IsUtf8}
 use Rattle.std.specs.Io.KnownBytes.{Appends, Keeps}
-use Rattle.usb_world.specs.PlanData.{PlanData, IsPlan}
-use Rattle.usb_world.specs.PlanCourses.{AtPorts}
-use Rattle.usb_world.specs.Steps.{opening}
-use Rattle.usb_world.specs.World.{World}
-use Rattle.usb_bus.specs.Traces.{Traced}
+use Rattle.usb_world.specs.PlanData.{PlanData}
 use Rattle.usb_bus.specs.Watch.{AppendsFront}
-use Rattle.usb_host.specs.HostState.{HostState, opening_host as host_opening}
-use Rattle.usb_host.specs.Soundness.{HostInvariant}
+use Rattle.usb_host.specs.HostState.{HostState}
 use Rattle.usb_host.specs.Plugs.{plug_events}
 use Rattle.usb_plan.specs.declared.fault.PlanFault.{PlanFault}
 use Rattle.usb_plan.specs.declared.fault.PlanFault.TheVariants as plan
 use Rattle.usb_plan.specs.Attempts.{bound_of}
 use Rattle.usb_plan.specs.Plan.{spelled_plan}
-use Rattle.usb_serve.specs.declared.runs.Item.{Item}
-use Rattle.usb_serve.specs.declared.runs.Report.{Report}
-use Rattle.usb_serve.specs.declared.runs.RunFault.{RunFault}
-use Rattle.usb_serve.specs.declared.runs.RunFault.TheVariants.{LimitReached, Memory, TraceFailed}
-use Rattle.usb_serve.specs.declared.serving.Mode.{Mode}
-use Rattle.usb_serve.specs.declared.serving.Mode.TheVariants.{Tree, Run}
+use Rattle.usb_run.specs.declared.runs.Item.{Item}
+use Rattle.usb_run.specs.declared.runs.RunFault.TheVariants.{LimitReached, Memory, TraceFailed}
+use Rattle.usb_run.specs.declared.mode.Mode.{Mode}
+use Rattle.usb_run.specs.declared.mode.Mode.TheVariants.{Tree, Run}
 use Rattle.usb_serve.specs.declared.serving.ServeFault.{ServeFault}
 use Rattle.usb_serve.specs.declared.serving.ServeFault.TheVariants as serve
-use Rattle.usb_serve.specs.Moments.{ListsRight}
+use Rattle.usb_run.specs.Moments.{ListsRight}
 use Rattle.usb_serve.specs.Outputs.{LeavesFront}
-use Rattle.usb_serve.specs.Run.{IsCaused}
 use Rattle.usb_serve.specs.ServeResults.{IsCausedInRun, IsCausedInTree, IsOfRun}
 use Rattle.usb_text.specs.ListingLines.{bound_line}
-use Rattle.usb_serve.specs.Transcript.{RunsTo, Transcript, at_write, items_text, itself, never, of_run}
-
--- a host of a plan's bus, whose root ports were given power in silence: it knows of no device, and that is so
-pub record Opens (plan : PlanData) (before : Option (List ℕ)) (h : HostState) : Type 0 where
-  pub is : h ≡ host_opening (opening plan) before
-  pub traced : Traced (opening plan) before h.world h.trace
-  pub sound : HostInvariant h
-  pub rules : IsPlan plan
-  pub paths : AtPorts plan.events
-
--- a report has a run's items in order, and the counts of its world
-pub record Reports (items : List Item) (w : World) (report : Report) : Type 0 where
-  pub items_made : report.items.items ≡ reverse items
-  pub attempts : report.attempts ≡ w.attempts
-  pub losses : report.address_losses ≡ w.losses.all
-  pub worst : report.worst_address_run ≡ w.losses.worst
-
--- a run to its end, and its report
-pub record Finishes (was : Bool) (old : HostState) (result : Result Report RunFault) (new : HostState) : Type 0 where
-  pub items : List Item
-  pub ends : RunsTo Tree itself never was old items result new
-  pub report : IfOk result (Reports items new.world)
-  pub caused : IfErr result (λ fault. IsCaused fault new.world)
-
--- a plan's run to where it ends, with or without a fault: at no attempt so far did two reachable devices hold one address, and what it tells is right; a fault has its cause, and it is none of a trace
-pub record RunsWell (plan : PlanData) (result : Result Report RunFault) : Type 0 where
-  pub before : Option (List ℕ)
-  pub first : HostState
-  pub opens : Opens plan before first
-  pub last : HostState
-  pub finishes : Finishes false first result last
-  pub untraced : result ≢ Err TraceFailed
-  pub limit : last.world.limit ≡ plan.limit
-  pub single : last.world.shared ≡ false
-  pub lists : ListsRight plan finishes.items last.world
-
--- so a plan's run ends, or memory was refused
-abbrev pub EndsWell : PlanData → Result Report RunFault → Type 0
-EndsWell plan result = (result ≡ Err Memory) ⊎ RunsWell plan result
+use Rattle.usb_run.specs.Transcript.{RunsTo, Transcript, items_text, never}
+use Rattle.usb_serve.specs.ServedTranscripts.{at_write, of_run}
+use Rattle.usb_run.specs.Reports.{Opens}
 
 -- what is written in mode Run: the text of a run of the plan, at no attempt of which two reachable devices held one address, and which tells what is right
 pub record RunWritten (plan : PlanData) (before : Option (List ℕ)) (result : Result (Unit {0}) ServeFault) (now : Option (List ℕ)) : Type 0 where

@@ -1,14 +1,14 @@
 //! The line of each transfer, with its newline.
 ghost use Rattle.std.specs.Prelude.{◌≡◌, ◌++◌, OnOk, IfOk};
-ghost use Rattle.usb_serve.specs.TransferLines.{fault_word, failed_end, sent_end, received_end, cleared_end, sent_line, received_line, cleared_line};
+ghost use Rattle.usb_run.specs.TransferLines.{fault_word, failed_end, sent_end, received_end, cleared_end, sent_line, received_line, cleared_line};
 
-use crate::TransferFault;
 use std::alloc::{AllocError, Global};
 use usb_port::PortPath;
+use usb_run::TransferFault;
 use usb_text::{push_decimal, push_hex, push_path};
 
 /// `send PATH done N`, or `send PATH failed WORDS`.
-#[tactic(auto, unfolding(crate::specs::TransferLines::sent_line))]
+#[tactic(auto, unfolding(usb_run::specs::TransferLines::sent_line))]
 pub fn sent_line(
     alloc: Global,
     path: &PortPath,
@@ -25,7 +25,7 @@ pub fn sent_line(
 }
 
 /// `receive PATH done HEX`, or `receive PATH failed WORDS`.
-#[tactic(auto, unfolding(crate::specs::TransferLines::received_line))]
+#[tactic(auto, unfolding(usb_run::specs::TransferLines::received_line))]
 pub fn received_line(
     alloc: Global,
     path: &PortPath,
@@ -42,7 +42,7 @@ pub fn received_line(
 }
 
 /// `clear PATH done`, or `clear PATH failed WORDS`.
-#[tactic(auto, unfolding(crate::specs::TransferLines::cleared_line))]
+#[tactic(auto, unfolding(usb_run::specs::TransferLines::cleared_line))]
 pub fn cleared_line(
     alloc: Global,
     path: &PortPath,

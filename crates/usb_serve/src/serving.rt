@@ -6,31 +6,25 @@ ghost use Rattle.usb_plan.specs.Plan.{spelled_plan};
 ghost use Rattle.usb_serve.specs.declared.serving.ServeFault.TheVariants as serve;
 ghost use Rattle.usb_serve.specs.Outputs.{held};
 ghost use Rattle.usb_serve.specs.ServedRuns.{IsUnread, IsServed, IsServedThrough, IsWritten, TellsWriter};
-ghost use Rattle.usb_serve.specs.ServeResults.{IsCausedInRun, IsLine, IsOfRun, MarksWriter, input_fault, item_lines, number_of, report_fault};
-ghost use Rattle.usb_serve.specs.Run.{IsCaused, items_left};
-ghost use Rattle.usb_serve.specs.RunSegments.{Knows};
-ghost use Rattle.usb_serve.specs.Transcript.{Next, RunEnds, Prints};
+ghost use Rattle.usb_serve.specs.ServeResults.{IsCausedInRun, IsOfRun, MarksWriter, input_fault, report_fault};
+ghost use Rattle.usb_run.specs.ItemLines.{IsLine, item_lines, number_of};
+ghost use Rattle.usb_run.specs.Run.{IsCaused, items_left};
+ghost use Rattle.usb_run.specs.RunSegments.{Knows};
+ghost use Rattle.usb_run.specs.Transcript.{Next, Prints};
+ghost use Rattle.usb_serve.specs.ServedTranscripts.{RunEnds};
 
 use crate::answers::{cleared_line, received_line, sent_line};
 use crate::input::{InputFault, read_text};
 use crate::output::Output;
-use crate::runs::{Item, RunFault, Runner};
 use std::alloc::{AllocError, Global};
 use std::io::{Read, Write};
 use std::str;
 use thiserror::Error;
-use usb_bus::{BusFault, Plan, Tracer, Untraced, Watched, WriteFailed, put_piece, untraced_fault};
+use usb_bus::{BusFault, Watched, WriteFailed, put_piece};
 use usb_plan::{PlanFault, bound, read_plan};
+use usb_run::{Item, Mode, RunFault, Runner};
+use usb_sim::{Plan, Tracer, Untraced, untraced_fault};
 use usb_text::{Lines, bound_line, listing_lines};
-
-/// What is written of a plan's run.
-#[derive(Clone, Copy, Debug, PartialEq, Eq)]
-pub enum Mode {
-    /// The lines of report, and the plan's bound behind them.
-    Tree,
-    /// The lines of trace and of report, each as it happens.
-    Run,
-}
 
 /// Why a plan was not served to its end, in the order in which the reasons are told.
 #[derive(Clone, Copy, Debug, PartialEq, Eq, Error)]

@@ -12,7 +12,7 @@ use Rattle.usb_world.specs.declared.event.Ask.{Ask}
 use Rattle.usb_world.specs.declared.event.Ask.TheVariants.{Show, Send, Receive, Clear}
 use Rattle.usb_world.specs.declared.types.BusFault.{BusFault}
 use Rattle.usb_world.specs.Devices.{EachWas, Was}
-use Rattle.usb_world.specs.Paths.{address_of}
+use Rattle.usb_tree.specs.Paths.{address_of}
 use Rattle.usb_world.specs.World.{World}
 use Rattle.usb_transaction.specs.declared.target.Target.{Target}
 use Rattle.usb_transaction.specs.Leaves.{is_at}
@@ -40,14 +40,14 @@ use Rattle.usb_host.specs.HostState.{HostState}
 use Rattle.usb_host.specs.Ownership.{claims}
 use Rattle.usb_host.specs.ToldFaults.{host_told}
 use Rattle.usb_host.specs.Transfers.{table_in}
-use Rattle.usb_serve.specs.declared.runs.Item.{Item}
-use Rattle.usb_serve.specs.declared.runs.Item.TheVariants as item
-use Rattle.usb_serve.specs.declared.runs.RunFault.{RunFault}
-use Rattle.usb_serve.specs.declared.transfer.TransferFault.{TransferFault}
-use Rattle.usb_serve.specs.RunSegments.{Knows}
+use Rattle.usb_run.specs.declared.runs.Item.{Item}
+use Rattle.usb_run.specs.declared.runs.Item.TheVariants as item
+use Rattle.usb_run.specs.declared.runs.RunFault.{RunFault}
+use Rattle.usb_run.specs.declared.transfer.TransferFault.{TransferFault}
+use Rattle.usb_run.specs.RunSegments.{Knows}
 use Rattle.usb_host.specs.HostCalls.{ClearTells, ReceiveTells, SendTells}
-use Rattle.usb_serve.specs.Transfers.{IsItemOf, Transfers, failed, sent_count, transfer_ended}
-use Rattle.usb_serve.proofs.Interface.{AskAnswered, silent, listed, sent, received, cleared, answered, count_done, told_cleared, told_received, told_sent, no_bus_fault}
+use Rattle.usb_run.specs.Transfers.{IsItemOf, Transfers, failed, sent_count, transfer_ended}
+use Rattle.usb_run.proofs.Interface.{AskAnswered, silent, listed, sent, received, cleared, answered, count_done, told_cleared, told_received, told_sent, no_bus_fault}
 use Rattle.usb_streams.specs.Stretches.{ToldItem}
 use Rattle.usb_streams.specs.Streams.{ClearsNoIn, ClearsNoOut, GaveNextBy, IsAtWork, Joins, StreamsAt, bytes_for, bytes_from, is_done}
 use Rattle.usb_streams.proofs.Bytes.{SinkStep, joins_none, sink_step_none}

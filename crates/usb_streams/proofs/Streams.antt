@@ -20,12 +20,12 @@ use Rattle.usb_host.specs.declared.host.Round.{Round}
 use Rattle.usb_host.specs.HostState.{HostState}
 use Rattle.usb_host.specs.Transfers.{table_in}
 use Rattle.usb_host.proofs.Interface.{stay_event}
-use Rattle.usb_serve.specs.declared.runs.Item.{Item}
+use Rattle.usb_run.specs.declared.runs.Item.{Item}
 use Rattle.usb_host.specs.HostCalls.{RoundTells}
-use Rattle.usb_serve.specs.RunSegments.{Comes, Knows, Settled}
-use Rattle.usb_serve.specs.Transcript.{AppendsText}
-use Rattle.usb_serve.specs.Transfers.{IsItemOf}
-use Rattle.usb_serve.proofs.Interface.{arrival_knows, came_running, came_still, comes_onward}
+use Rattle.usb_run.specs.RunSegments.{Comes, Knows, Settled}
+use Rattle.usb_run.specs.Transcript.{AppendsText}
+use Rattle.usb_run.specs.Transfers.{IsItemOf}
+use Rattle.usb_run.proofs.Interface.{arrival_knows, came_running, came_still, comes_onward}
 use Rattle.usb_streams.specs.Stretches.{LiesBetween, round, silent, last, wrote, Stretch, begun, further, more, ToldItem}
 use Rattle.usb_streams.specs.Streams.{StartsAt, StoodAt, StoodOrFound, Streams, StreamsAt}
 use Rattle.usb_streams.proofs.Devices.{DeviceMoves, DeviceStays, streams_at_then, spares_stays, streams_move, streams_none, streams_stay}

@@ -3,14 +3,14 @@ use Rattle.std.proofs.Common.{◌≡◌, refl, sym, ap, subst, Bool, false, ℕ,
 use Rattle.usb_world.specs.declared.event.Ask.{Ask}
 use Rattle.usb_host.specs.declared.host.Round.{Round}
 use Rattle.usb_host.specs.HostState.{HostState}
-use Rattle.usb_serve.specs.declared.runs.Item.{Item}
-use Rattle.usb_serve.specs.declared.serving.Mode.{Mode}
-use Rattle.usb_serve.specs.Run.{listing_of}
+use Rattle.usb_run.specs.declared.runs.Item.{Item}
+use Rattle.usb_run.specs.declared.mode.Mode.{Mode}
+use Rattle.usb_run.specs.Run.{listing_of}
 use Rattle.usb_host.specs.HostCalls.{RoundTells}
-use Rattle.usb_serve.specs.RunSegments.{Knows, Ran, idle, silent as ran_silent, Rounds, none, more as one_more, Settles}
-use Rattle.usb_serve.specs.Transcript.{AppendsText, Makes, asked, last as run_last, Transcript, begun as run_begun, told as run_told, shown}
-use Rattle.usb_serve.specs.Transfers.{IsItemOf}
-use Rattle.usb_serve.proofs.Interface.{RunsOnward, arrival_knows, called_onward, comes_onward, item_called, item_keeps_sound, knows_then, puts_knows, puts_onward, round_called}
+use Rattle.usb_run.specs.RunSegments.{Knows, Ran, idle, silent as ran_silent, Rounds, none, more as one_more, Settles}
+use Rattle.usb_run.specs.Transcript.{AppendsText, Makes, asked, last as run_last, Transcript, begun as run_begun, told as run_told, shown}
+use Rattle.usb_run.specs.Transfers.{IsItemOf}
+use Rattle.usb_run.proofs.Interface.{RunsOnward, arrival_knows, called_onward, comes_onward, item_called, item_keeps_sound, knows_then, puts_knows, puts_onward, round_called}
 use Rattle.usb_streams.specs.Stretches.{IsStretch, LiesBetween, round, silent, last, wrote, Stretch, begun, further, more, ToldItem}
 
 -- A part

@@ -21,8 +21,8 @@ use Rattle.usb_host.specs.BulkPipes.{RenewedAt}
 use Rattle.usb_host.specs.declared.host.Round.{Round}
 use Rattle.usb_host.specs.HostState.{HostState}
 use Rattle.usb_host.specs.Transfers.{table_in}
-use Rattle.usb_serve.specs.declared.runs.Item.{Item}
-use Rattle.usb_serve.specs.declared.runs.Item.TheVariants.{Listing, Sent, Received, Cleared}
+use Rattle.usb_run.specs.declared.runs.Item.{Item}
+use Rattle.usb_run.specs.declared.runs.Item.TheVariants.{Listing, Sent, Received, Cleared}
 use Rattle.usb_host.specs.HostCalls.{RoundTells}
 use Rattle.usb_streams.specs.Stretches.{ToldItem, Stretch}
 

@@ -26,11 +26,11 @@ use Rattle.usb_table.specs.Levels.{TableClears, TableReceives, TableSends, Trans
 use Rattle.usb_table.specs.Pipes.{IsBulkPipe, ArePipesIf}
 use Rattle.usb_table.specs.Table.{Table, GoesThrough, pipes_at}
 use Rattle.usb_table.specs.Transfers.{ClearedAfter, ClearedBy, EndpointFaultAllowed, OnlyTransfers, PipeFaultAllowed, PipeDid, PipesCleared, PipesReceived, PipesSent, PipesThrough, ReceivedThrough, SameSettings, SentThrough, both_sides, endpoint_answer}
-use Rattle.usb_table.proofs.DevicesKept.{PipeKeeps, clear_keeps, receive_keeps, same_spares, send_keeps}
-use Rattle.usb_table.proofs.KeptPipes.{ready_or_not}
-use Rattle.usb_table.proofs.Levels.{moved_levels, still_levels}
-use Rattle.usb_table.proofs.MovedPipes.{EachMoves, far_end, receive_each, send_each, some_bytes}
-use Rattle.usb_table.proofs.Restarts.{cleared_single, in_turn_moves}
+use Rattle.usb_table.proofs.transfers.DevicesKept.{PipeKeeps, clear_keeps, receive_keeps, same_spares, send_keeps}
+use Rattle.usb_table.proofs.levels.KeptPipes.{ready_or_not}
+use Rattle.usb_table.proofs.levels.Levels.{moved_levels, still_levels}
+use Rattle.usb_table.proofs.levels.MovedPipes.{EachMoves, far_end, receive_each, send_each, some_bytes}
+use Rattle.usb_table.proofs.transfers.Restarts.{cleared_single, in_turn_moves}
 use Rattle.usb_table.proofs.ThroughPipes.{through_both, through_pipes}
 
 -- so few attempts were made, the fault is told, and what moved, of all devices and of the pipes to

@@ -6,7 +6,7 @@ use Rattle.std.specs.Int.{div_ceil}
 use Rattle.arrayvec.specs.ArrayVec.{ArrayVec}
 use Rattle.usb_device.specs.Rows.{State}
 use Rattle.usb_world.specs.Devices.{EachWas}
-use Rattle.usb_world.specs.AttemptPackets.{IsSettled}
+use Rattle.usb_tree.specs.AttemptPackets.{IsSettled}
 use Rattle.usb_world.specs.World.{World, AttemptsWithin, Failed}
 use Rattle.usb_transaction.specs.Transactions.{AttemptsMade, transaction_bound}
 use Rattle.usb_pipe.specs.Control.{FaultAfter, write_bound}

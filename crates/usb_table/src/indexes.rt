@@ -22,7 +22,7 @@ pub(crate) struct Indexes {
 impl Indexes {
     /// Enters a key under a path, and under an address where there is one. Where memory is
     /// refused, it enters neither.
-    #[tactic(auto, using(crate::proofs::Keys::taken_back))]
+    #[tactic(auto, using(crate::proofs::entries::Keys::taken_back))]
     pub fn insert(
         &mut self,
         path: PortPath,

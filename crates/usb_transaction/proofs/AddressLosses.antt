@@ -12,12 +12,13 @@ use Rattle.usb_world.specs.declared.types.Attempt.{Attempt}
 use Rattle.usb_world.specs.declared.types.Outcome.{Outcome}
 use Rattle.usb_world.specs.declared.types.Outcome.TheVariants.{Payload}
 use Rattle.usb_world.specs.Losses.{TookOrLost, took, lost as lost_it, one_more}
-use Rattle.usb_world.specs.AttemptPackets.{IsSettled}
+use Rattle.usb_tree.specs.AttemptPackets.{IsSettled}
 use Rattle.usb_world.specs.OneHolder.{IsMade}
 use Rattle.usb_world.specs.World.{World}
 use Rattle.usb_world.specs.Steps.{attempt, after, outcome_in}
 use Rattle.usb_world.specs.Devices.{Relation, EachWas}
-use Rattle.usb_world.proofs.Interface.{CountsNone, Counts, EndsWithAddress, StaysEndless, brings, each_counts, got_it, got_none, in_counts, made_of, false_true, not-true, out_counts, set_up_counts}
+use Rattle.usb_world.proofs.Interface.{CountsNone, Counts, EndsWithAddress, StaysEndless, brings, each_counts, got_it, got_none, in_counts, made_of, out_counts, set_up_counts}
+use Rattle.usb_tree.proofs.Interface.{false_true, not-true}
 use Rattle.usb_transaction.specs.declared.target.Target.{Target}
 use Rattle.usb_transaction.specs.declared.fault.TransFault.{TransFault}
 use Rattle.usb_transaction.specs.declared.fault.TransFault.TheVariants.{Stalled, Busy, NoAnswer, Bus}

@@ -10,14 +10,15 @@ use Rattle.usb_device.specs.Tree.{row_of, Location, reach_on, state_on}
 use Rattle.usb_world.specs.declared.types.Attempt.{Attempt}
 use Rattle.usb_world.specs.declared.types.Outcome.{Outcome}
 use Rattle.usb_world.specs.declared.types.Outcome.TheVariants as outcome
-use Rattle.usb_world.specs.Paths.{address_of}
-use Rattle.usb_world.specs.AttemptPackets.{IsSettled, deep_at}
+use Rattle.usb_tree.specs.Paths.{address_of}
+use Rattle.usb_tree.specs.AttemptPackets.{IsSettled, deep_at}
 use Rattle.usb_world.specs.Courses.{is_harmless}
 use Rattle.usb_world.specs.OneHolder.{IsMade, AttemptAnswerer, IsSetup, got, hears_attempt, token_way, payload_way, answer_way}
 use Rattle.usb_world.specs.World.{World}
 use Rattle.usb_world.specs.Steps.{at_attempt, damage_in, outcome_in, with_attempt, attempt, after, Course, here}
 use Rattle.usb_world.specs.Devices.{Was, DidIn, DidOut, EachWas}
-use Rattle.usb_world.proofs.Interface.{course_then, decided, due_back, each_in, each_out, equal_same, given_by, got_given, holder_in, in_in, is_state, made_is, made_of, made_unshared, one_answers, out_in, same_equal, setup_in, setup_sound_in, stands, state_stands, stays_reachable_in, third, each_beside}
+use Rattle.usb_world.proofs.Interface.{course_then, due_back, each_in, each_out, given_by, got_given, holder_in, in_in, is_state, made_is, made_of, made_unshared, one_answers, out_in, setup_in, setup_sound_in, stands, state_stands, stays_reachable_in, third, each_beside}
+use Rattle.usb_tree.proofs.Interface.{decided, equal_same, same_equal}
 use Rattle.usb_transaction.specs.declared.target.Target.{Target}
 use Rattle.usb_transaction.specs.declared.fault.TransFault.{TransFault}
 use Rattle.usb_transaction.specs.declared.fault.TransFault.TheVariants.{Stalled, Busy, NoAnswer, Bus}

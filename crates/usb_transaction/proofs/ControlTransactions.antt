@@ -16,8 +16,8 @@ use Rattle.usb_device.specs.declared.request.Registers.{Registers}
 use Rattle.usb_device.proofs.Interface.{control_read, is_same-refl}
 use Rattle.usb_device.specs.Tree.{row_of, Location, reach_on, state_on}
 use Rattle.usb_device.specs.Delivery.{held_addresses, repeats}
-use Rattle.usb_world.specs.AttemptPackets.{IsSettled}
-use Rattle.usb_world.specs.Paths.{address_of}
+use Rattle.usb_tree.specs.AttemptPackets.{IsSettled}
+use Rattle.usb_tree.specs.Paths.{address_of}
 use Rattle.usb_device.specs.Progress.{address_then, taken_of, ReadingAt, ReadOn, StatusOn, StatusGiven, seen, unseen, OnlyControl, IsRead, OnlyStage}
 use Rattle.usb_world.specs.declared.types.Outcome.{Outcome}
 use Rattle.usb_world.specs.declared.types.Outcome.TheVariants.{Payload, Nak, Stall, Nothing, Ack}
@@ -42,7 +42,8 @@ use Rattle.usb_transaction.proofs.Trails.{LostRun, as_transacted, damaged_more, 
 use Rattle.usb_world.specs.declared.types.Attempt.{Attempt}
 use Rattle.usb_transaction.specs.Transactions.{packed, in_attempt, out_attempt}
 use Rattle.usb_transaction.specs.Leaves.{is_at, IsNotOfBus, CanAnswer, ReadCut, none_came, one_came, ReadEnds, StatusEnds, ControlIn, IsInRead, data_stage as in_stage, over, ReadStatus}
-use Rattle.usb_world.proofs.Interface.{data_back, decided, due_back, equal_same, in_in, made_of, made_unshared, false_true, one_answers, one_state, same_equal, stands, state_stands, stays_reachable_in}
+use Rattle.usb_world.proofs.Interface.{data_back, due_back, in_in, made_of, made_unshared, one_answers, one_state, stands, state_stands, stays_reachable_in}
+use Rattle.usb_tree.proofs.Interface.{decided, equal_same, false_true, same_equal}
 
 -- What a device that is asked answers, and what it is then
 

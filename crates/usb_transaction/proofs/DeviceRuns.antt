@@ -10,13 +10,14 @@ use Rattle.usb_world.specs.declared.types.Attempt.{Attempt}
 use Rattle.usb_world.specs.declared.types.BusFault.{BusFault}
 use Rattle.usb_world.specs.declared.types.Outcome.{Outcome}
 use Rattle.usb_world.specs.declared.types.Outcome.TheVariants.{Nak, Stall}
-use Rattle.usb_world.specs.AttemptPackets.{IsSettled, deep_at}
-use Rattle.usb_world.specs.Paths.{address_of}
+use Rattle.usb_tree.specs.AttemptPackets.{IsSettled, deep_at}
+use Rattle.usb_tree.specs.Paths.{address_of}
 use Rattle.usb_world.specs.OneHolder.{IsMade, got}
 use Rattle.usb_world.specs.World.{World, Made}
 use Rattle.usb_world.specs.Steps.{attempt, after, outcome_in, damage_in}
 use Rattle.usb_world.specs.Devices.{Relation, Was, EachWas, DidIn, DidOut}
-use Rattle.usb_world.proofs.Interface.{AttemptCut, cut_or_same, decided, each_in, each_out, made_of, made_unshared, made_whole, neither, false_true, unmade}
+use Rattle.usb_world.proofs.Interface.{AttemptCut, cut_or_same, each_in, each_out, made_of, made_unshared, made_whole, unmade}
+use Rattle.usb_tree.proofs.Interface.{decided, neither, false_true}
 use Rattle.usb_transaction.specs.declared.target.Target.{Target}
 use Rattle.usb_transaction.specs.declared.heard_outcome.HeardOutcome.{HeardOutcome}
 use Rattle.usb_transaction.specs.declared.heard_outcome.HeardOutcome.TheVariants.{Moved, Lost}

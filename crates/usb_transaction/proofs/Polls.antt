@@ -18,10 +18,11 @@ use Rattle.usb_world.specs.declared.types.Outcome.{Outcome}
 use Rattle.usb_world.specs.declared.types.Outcome.TheVariants.{Payload, Stall}
 use Rattle.usb_world.specs.Devices.{EachWas, DidIn}
 use Rattle.usb_world.specs.OneHolder.{got}
-use Rattle.usb_world.specs.AttemptPackets.{IsSettled}
+use Rattle.usb_tree.specs.AttemptPackets.{IsSettled}
 use Rattle.usb_world.specs.Steps.{attempt, after, outcome_in, damage_in, at_attempt, with_attempt}
 use Rattle.usb_world.specs.World.{World, Made}
-use Rattle.usb_world.proofs.Interface.{decided, got_nak, got_payload, got_stall, made_step, false_true, ready_taken}
+use Rattle.usb_world.proofs.Interface.{got_nak, got_payload, got_stall, made_step, ready_taken}
+use Rattle.usb_tree.proofs.Interface.{decided, false_true}
 use Rattle.usb_transaction.specs.declared.fault.TransFault.{TransFault}
 use Rattle.usb_transaction.specs.declared.fault.TransFault.TheVariants.{Stalled, Busy, NoAnswer, Bus}
 use Rattle.usb_transaction.specs.declared.heard_outcome.HeardOutcome.{HeardOutcome}

@@ -21,12 +21,13 @@ use Rattle.usb_world.specs.declared.types.Outcome.TheVariants.{Ack, Nothing}
 use Rattle.usb_world.specs.Courses.{is_harmless, resets}
 use Rattle.usb_world.specs.Devices.{Relation, Was, EachWas, DidSetup}
 use Rattle.usb_world.specs.OneHolder.{IsMade, IsSetup, HolderIn, got, token_way, payload_way, answer_way}
-use Rattle.usb_world.specs.AttemptPackets.{IsSettled, deep_at}
-use Rattle.usb_world.specs.Paths.{address_of}
+use Rattle.usb_tree.specs.AttemptPackets.{IsSettled, deep_at}
+use Rattle.usb_tree.specs.Paths.{address_of}
 use Rattle.usb_world.specs.Steps.{at_attempt, damage_in, outcome_in, attempt, after}
-use Rattle.usb_world.specs.WayEffects.{IsNew}
+use Rattle.usb_tree.specs.WayEffects.{IsNew}
 use Rattle.usb_world.specs.World.{World}
-use Rattle.usb_world.proofs.Interface.{decided, each_setup, equal_same, made_is, made_reach, made_true, false_true, quiet_resets, register_address, setup_in, setup_place_in, setup_sound_in, stands, state_stands, step_new}
+use Rattle.usb_world.proofs.Interface.{each_setup, made_is, made_reach, made_true, quiet_resets, register_address, setup_in, setup_place_in, setup_sound_in, stands, state_stands, step_new}
+use Rattle.usb_tree.proofs.Interface.{decided, equal_same, false_true}
 use Rattle.usb_transaction.specs.declared.fault.TransFault.{TransFault}
 use Rattle.usb_transaction.specs.declared.fault.TransFault.TheVariants.{Stalled, Busy}
 use Rattle.usb_transaction.specs.declared.target.Target.{Target}

@@ -5,7 +5,7 @@ use Rattle.usb_world.specs.declared.damage.Damage.{Damage}
 use Rattle.usb_world.specs.declared.types.Attempt.{Attempt}
 use Rattle.usb_world.specs.declared.types.BusFault.{BusFault}
 use Rattle.usb_world.specs.declared.types.Outcome.{Outcome}
-use Rattle.usb_world.specs.AttemptPackets.{IsSettled}
+use Rattle.usb_tree.specs.AttemptPackets.{IsSettled}
 use Rattle.usb_world.specs.Wire.{damage_of}
 use Rattle.usb_world.specs.World.{World, Made}
 use Rattle.usb_world.specs.Steps.{Step, attempt, after, outcome_in, damage_in, Course, here}

@@ -7,7 +7,7 @@ use Rattle.usb_device.specs.Rows.{accepted}
 use Rattle.usb_device.specs.Tree.{row_of, reach_on, state_on}
 use Rattle.usb_world.specs.declared.types.Attempt.{Attempt}
 use Rattle.usb_world.specs.declared.types.Outcome.{Outcome}
-use Rattle.usb_world.specs.AttemptPackets.{deep_at}
+use Rattle.usb_tree.specs.AttemptPackets.{deep_at}
 use Rattle.usb_world.specs.OneHolder.{HolderIn, hears_attempt, in_alone, out_alone}
 use Rattle.usb_world.specs.World.{World}
 use Rattle.usb_world.specs.Steps.{at_attempt, damage_in, Step, attempt, root_call, event, report, after}

@@ -8,7 +8,7 @@ use Rattle.usb_device.specs.Rows.{State}
 use Rattle.usb_device.specs.Transfer.{ending, refused, max_packet, packet_at, toggle_at}
 use Rattle.usb_device.specs.Progress.{ReadingAt, IsSource, SourceAt, IsSink, PollAt, NeverTold}
 use Rattle.usb_world.specs.Wire.{AtMostTwoRunning}
-use Rattle.usb_world.specs.AttemptPackets.{deep_at}
+use Rattle.usb_tree.specs.AttemptPackets.{deep_at}
 use Rattle.usb_world.specs.OneHolder.{hears_attempt}
 use Rattle.usb_world.specs.World.{World}
 use Rattle.usb_transaction.specs.declared.target.Target.{Target}

@@ -14,7 +14,7 @@ use Rattle.usb_device.specs.Tree.{Ports, full, acted, row_of, Location, place_on
 use Rattle.usb_device.specs.Progress.{ReadingAt, ReadOn, StatusOn, StatusGiven, IsRead, IsSource, SourceAt, SourceOn, IsSink, SinkAt, Joined, PollAt, NeverTold, ToldByte, OnlyControl, OnlyStage, OnlySource, OnlySink, OnlyChanges}
 use Rattle.usb_world.specs.declared.types.Attempt.{Attempt}
 use Rattle.usb_world.specs.declared.types.Outcome.{Outcome}
-use Rattle.usb_world.specs.Paths.{address_of}
+use Rattle.usb_tree.specs.Paths.{address_of}
 use Rattle.usb_world.specs.World.{World}
 use Rattle.usb_world.specs.OneHolder.{HolderIn}
 use Rattle.usb_world.specs.Steps.{at_attempt, attempt, after}

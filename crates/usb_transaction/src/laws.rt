@@ -9,7 +9,7 @@ ghost use Rattle.usb_world.specs.declared.types.Attempt.{Attempt as AnAttempt};
 ghost use Rattle.usb_world.specs.declared.types.Outcome.{Outcome as AnOutcome};
 ghost use Rattle.usb_world.specs.Courses.{is_harmless};
 ghost use Rattle.usb_world.specs.Devices.{EachWas};
-ghost use Rattle.usb_world.specs.AttemptPackets.{IsSettled};
+ghost use Rattle.usb_tree.specs.AttemptPackets.{IsSettled};
 ghost use Rattle.usb_world.specs.Steps.{Course};
 ghost use Rattle.usb_world.specs.World.{World};
 ghost use Rattle.usb_transaction.specs.declared.heard_outcome.HeardOutcome.{HeardOutcome as AHeardOutcome};

@@ -9,9 +9,10 @@ use rows::ROWS;
 use std::alloc::{AllocError, Global};
 use std::str;
 use std::test::Fail;
-use usb_bus::{BusFault, SimBus, Tracer};
+use usb_bus::BusFault;
 use usb_packet::Toggle;
 use usb_port::PortPath;
+use usb_sim::{SimBus, Tracer};
 use usb_testbus::{plan_text, plugged, trace_of};
 use usb_transaction::{Done, Target, TransFault, data_in, data_out, poll_in, setup};
 

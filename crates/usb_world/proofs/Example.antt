@@ -22,7 +22,7 @@ use Rattle.usb_world.specs.declared.types.Outcome.TheVariants as got
 use Rattle.usb_world.specs.Wire.{damage_of, harm_to, mark_of, bit_count, marked, marked_some, is_read}
 use Rattle.usb_world.specs.Exchange.{token_of, payload_of, answer_place, answer_mark, reply_of, outcome_of, ports_in, lost_in}
 use Rattle.usb_world.specs.Losses.{no_losses, one_more}
-use Rattle.usb_world.specs.Paths.{pending_at, pending}
+use Rattle.usb_tree.specs.Paths.{pending_at, pending}
 use Rattle.usb_world.specs.World.{World}
 use Rattle.usb_world.specs.Steps.{after_event, after_due_events, at_attempt, with_attempt, outcome_in, attempt, root_call, event, after}
 use Rattle.usb_world.specs.Courses.{address_at}

@@ -7,7 +7,7 @@ use Rattle.usb_device.specs.Attempt.{is_whole}
 use Rattle.usb_device.specs.Tree.{Ports, reach_at, state_at}
 use Rattle.usb_world.specs.declared.damage.Damage.{Damage}
 use Rattle.usb_world.specs.declared.types.Attempt.{Attempt}
-use Rattle.usb_world.specs.Paths.{address_of, same_path, is_way}
+use Rattle.usb_tree.specs.Paths.{address_of, same_path, is_way}
 use Rattle.usb_world.specs.World.{World}
 use Rattle.usb_world.specs.Steps.{at_attempt, Step, attempt, root_call, event, report}
 use Rattle.usb_world.specs.Courses.{QuietStep}

@@ -17,9 +17,9 @@ use Rattle.usb_world.specs.declared.event.Event.{Event}
 use Rattle.usb_world.specs.declared.types.Attempt.{Attempt}
 use Rattle.usb_world.specs.declared.types.BusFault.{BusFault}
 use Rattle.usb_device.specs.View.{state_there}
-use Rattle.usb_world.specs.Paths.{has_power, pending, address_of, same_path}
-use Rattle.usb_world.specs.WayEffects.{IsNew, call_resets, call_keeps_pending}
-use Rattle.usb_world.specs.AttemptPackets.{attempt_resets, attempt_keeps_pending}
+use Rattle.usb_tree.specs.Paths.{has_power, pending, address_of, same_path}
+use Rattle.usb_tree.specs.WayEffects.{IsNew, call_resets, call_keeps_pending}
+use Rattle.usb_tree.specs.AttemptPackets.{attempt_resets, attempt_keeps_pending}
 use Rattle.usb_world.specs.World.{World}
 use Rattle.usb_world.specs.Exchange.{token_out, payload_out}
 use Rattle.usb_world.specs.Steps.{names_path, at_attempt, damage_in, Step, attempt, root_call, event, report}

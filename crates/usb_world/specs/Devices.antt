@@ -7,8 +7,8 @@ use Rattle.usb_device.specs.Attempt.{Way, whole, setup_law, out_law, in_law}
 use Rattle.usb_device.specs.Tree.{Ports, Location, full, row_of, reach_on, state_on, place_on}
 use Rattle.usb_world.specs.declared.types.Attempt.{Attempt}
 use Rattle.usb_world.specs.declared.types.Outcome.TheVariants.{Nothing}
-use Rattle.usb_world.specs.Paths.{address_of}
-use Rattle.usb_world.specs.AttemptPackets.{deep_at}
+use Rattle.usb_tree.specs.Paths.{address_of}
+use Rattle.usb_tree.specs.AttemptPackets.{deep_at}
 use Rattle.usb_world.specs.OneHolder.{got, hears_attempt}
 use Rattle.usb_world.specs.World.{World}
 use Rattle.usb_world.specs.Steps.{at_attempt, damage_in, outcome_in}

@@ -7,7 +7,7 @@ use Rattle.usb_device.specs.Delivery.{both, heard_of, figure}
 use Rattle.usb_world.specs.declared.damage.Damage.{Damage}
 use Rattle.usb_world.specs.declared.exchange.Exchange.{Exchange}
 use Rattle.usb_world.specs.declared.types.Attempt.{Attempt}
-use Rattle.usb_world.specs.AttemptPackets.{after_sent, answers_to}
+use Rattle.usb_tree.specs.AttemptPackets.{after_sent, answers_to}
 use Rattle.usb_world.specs.Exchange.{exchange_in, ended_in, ports_in}
 
 -- the same devices stand at the same ports, and the root ports themselves are as they were

@@ -9,9 +9,9 @@ use Rattle.usb_device.specs.declared.delivery.Sent.{Sent}
 use Rattle.usb_device.specs.Tree.{Ports, reach}
 use Rattle.usb_world.specs.declared.types.Attempt.{Attempt}
 use Rattle.usb_world.specs.Exchange.{token_out, payload_out}
-use Rattle.usb_world.specs.Paths.{is_way, same_number, same_path}
-use Rattle.usb_world.specs.AttemptPackets.{after_sent}
-use Rattle.usb_world.specs.WayEffects.{way_leaves}
+use Rattle.usb_tree.specs.Paths.{is_way, same_number, same_path}
+use Rattle.usb_tree.specs.AttemptPackets.{after_sent}
+use Rattle.usb_tree.specs.WayEffects.{way_leaves}
 use Rattle.usb_world.specs.World.{World}
 use Rattle.usb_world.specs.Steps.{at_attempt, damage_in, Step, attempt, root_call, event, report}
 use Rattle.usb_world.specs.Courses.{at_path, resets, step_keeps_pending}

@@ -2,7 +2,7 @@
 use Rattle.std.specs.Prelude.{◌≡◌, ◌⊎◌, List, ℕ, true, option_map}
 use Rattle.usb_device.specs.Tree.{Ports, reach}
 use Rattle.usb_device.specs.View.{state_there, port_there}
-use Rattle.usb_world.specs.Paths.{has_power, pending}
+use Rattle.usb_tree.specs.Paths.{has_power, pending}
 use Rattle.usb_world.specs.PlanCourses.{spec_of}
 use Rattle.usb_world.specs.World.{World}
 use Rattle.usb_world.specs.Steps.{Step}

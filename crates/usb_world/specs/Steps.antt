@@ -21,9 +21,9 @@ use Rattle.usb_world.specs.declared.types.BusFault.TheVariants.{LimitReached, Me
 use Rattle.usb_world.specs.Wire.{damage_of}
 use Rattle.usb_world.specs.Exchange.{heard_in, mark_in, lost_in, cleared_in, exchange_in, ports_in, outcome_of, token_out, payload_out}
 use Rattle.usb_world.specs.Losses.{no_losses, counted, after_clearing}
-use Rattle.usb_world.specs.Paths.{is_way}
+use Rattle.usb_tree.specs.Paths.{is_way}
 use Rattle.usb_world.specs.SanePorts.{Consistent}
-use Rattle.usb_world.specs.AttemptPackets.{IsSettled, after_sent}
+use Rattle.usb_tree.specs.AttemptPackets.{IsSettled, after_sent}
 use Rattle.usb_world.specs.PlanData.{PlanData}
 use Rattle.usb_world.specs.World.{World, root_row, root_port_at, to_come, AttemptsWithin, Failed}
 

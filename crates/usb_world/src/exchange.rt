@@ -9,13 +9,13 @@ ghost use Rattle.usb_world.specs.World.{IsAttempt, FitsMaximum};
 ghost use Rattle.usb_world.specs.Wire.{has_its_bit, marked, marked_some};
 ghost use Rattle.usb_world.specs.declared.wire.Mark.TheVariants.{Flipped};
 ghost use Rattle.usb_world.specs.Exchange.{ack_if, blank, token_of, payload_of, answer_place, answer_mark, reply_of, outcome_of, goes_out, token_out, payload_out, sent_as, is_lost, clears_at};
-ghost use Rattle.usb_world.specs.AttemptPackets.{IsSettled, after_sent};
+ghost use Rattle.usb_tree.specs.AttemptPackets.{IsSettled, after_sent};
 ghost use Rattle.usb_world.specs.ExchangeEffects.{StaysPlugged, PacketWent, PacketsWent, Exchanged};
 ghost use Rattle.usb_world.specs.CutPackets.{IsStopped};
 ghost use Rattle.usb_world.specs.Steps.{IsCut};
 ghost use Rattle.usb_world.specs.HeardAnswers.{heard_above};
 ghost use Rattle.usb_world.specs.Silence.{silent_exchange};
-ghost use Rattle.usb_world.specs.LonePackets.{AloneAt, IsQuiet, KeptAt, is_whole_tree, is_deep};
+ghost use Rattle.usb_tree.specs.LonePackets.{AloneAt, IsQuiet, KeptAt, is_whole_tree, is_deep};
 ghost use Rattle.usb_world.specs.HostSides.{host_side, keeps_address};
 
 use crate::damage::{Damage, Harm};
@@ -187,7 +187,7 @@ fn host_side(attempt: &Attempt) -> HostSide
 }
 
 /// The same of any attempt, one packet after the other.
-#[tactic(auto, using(crate::proofs::Exchanges::over_settled, crate::proofs::Refusals::over_cut))]
+#[tactic(auto, using(crate::proofs::attempts::Exchanges::over_settled, crate::proofs::attempts::Refusals::over_cut))]
 fn exchange_by_packets(
     roots: &mut Ports,
     path: &[u8],
@@ -386,7 +386,7 @@ fn send(
 /// Whether a hub will clear a change of connection of one of its ports at what goes out. `quiet`
 /// tells whether what the device at the path asks of its ports is known to leave the same devices
 /// reached, but for those on its port of a number.
-#[tactic(auto, using(crate::proofs::Routes::route_clears))]
+#[tactic(auto, using(crate::proofs::ways::Routes::route_clears))]
 fn clears_change(
     roots: &Ports,
     path: &[u8],
@@ -414,7 +414,7 @@ fn clears_change(
 }
 
 /// Whether a device awaits the ACK that would end its SET_ADDRESS.
-#[tactic(auto, using(crate::proofs::Routes::route_loss))]
+#[tactic(auto, using(crate::proofs::ways::Routes::route_loss))]
 fn has_loss(roots: &Ports, path: &[u8]) -> bool
     requires { AloneAt None roots.now path.now }
     ensures { result ≡ has_loss roots.now }
@@ -430,7 +430,7 @@ fn has_loss(roots: &Ports, path: &[u8]) -> bool
 
 /// Sends the host's ACK, where there is one, and tells whether a device did not read it that awaits
 /// it to take its address.
-#[tactic(auto, using(crate::proofs::Routes::alone_less))]
+#[tactic(auto, using(crate::proofs::ways::Routes::alone_less))]
 fn send_reply(
     roots: &mut Ports,
     path: &[u8],

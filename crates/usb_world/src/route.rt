@@ -3,10 +3,10 @@ ghost use Rattle.std.specs.Prelude.{◌≡◌, ◌≤◌, ◌++◌, ◌∷◌, [
 ghost use Rattle.usb_device.specs.HolderIndex.{IsIndexOf};
 ghost use Rattle.usb_world.specs.World.{IsAttempt};
 ghost use Rattle.usb_world.specs.ExchangeEffects.{StaysPlugged, Exchanged};
-ghost use Rattle.usb_world.specs.AttemptPackets.{IsSettled};
+ghost use Rattle.usb_tree.specs.AttemptPackets.{IsSettled};
 ghost use Rattle.usb_world.specs.Steps.{IsCut};
 ghost use Rattle.usb_world.specs.Route.{way_in};
-ghost use Rattle.usb_world.specs.LonePackets.{IsWayTo};
+ghost use Rattle.usb_tree.specs.LonePackets.{IsWayTo};
 
 use crate::Attempt;
 use crate::damage::Damage;
@@ -31,7 +31,7 @@ use usb_request::request_type::{DEVICE_OUT, PORT_OUT};
 /// # Errors
 ///
 /// Memory is refused for the host's data.
-#[tactic(auto, using(crate::proofs::Silence::stays_plugged_refl))]
+#[tactic(auto, using(crate::proofs::attempts::Silence::stays_plugged_refl))]
 pub fn make_exchange_by(
     roots: &mut Ports,
     holders: &mut Holders,

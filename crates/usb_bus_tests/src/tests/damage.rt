@@ -7,7 +7,7 @@ use super::step::{Step, told};
 use std::alloc::{AllocError, Global};
 use std::str;
 use std::test::Fail;
-use usb_bus::{Damage, Harm, SimBus, Tracer};
+use usb_sim::{Damage, Harm, SimBus, Tracer};
 use usb_testbus::{plugged, trace_of};
 
 /// The damage to a packet of one of the attempts SETUP, IN and OUT, and what that attempt tells and its line.

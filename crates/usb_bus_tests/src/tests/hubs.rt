@@ -6,7 +6,7 @@ use super::step::Speed::{BehindPre, Full, Low};
 use super::step::Step;
 use std::alloc::Global;
 use std::test::Fail;
-use usb_bus::{Damage, Harm};
+use usb_sim::{Damage, Harm};
 
 const POWER_PORT_1: [u8; 8] = [0x23, 3, 8, 0, 1, 0, 0, 0];
 

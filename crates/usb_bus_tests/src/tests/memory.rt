@@ -6,7 +6,7 @@ use super::step::Speed::Full;
 use super::step::{Step, told};
 use std::alloc::{AllocError, Global};
 use std::test::Fail;
-use usb_bus::{SimBus, Tracer};
+use usb_sim::{SimBus, Tracer};
 use usb_testbus::{bus_of, trace_of};
 
 const PLUG_BULK: &str = r#"

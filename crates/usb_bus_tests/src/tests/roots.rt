@@ -8,7 +8,7 @@ use super::step::Speed::{BehindPre, Full};
 use super::step::Step;
 use std::alloc::Global;
 use std::test::Fail;
-use usb_bus::{Damage, Harm};
+use usb_sim::{Damage, Harm};
 
 /// The function is plugged at port 1 and enumerated, and a line of report is written.
 pub(super) const ENUMERATION: &[Told<'static>] = &[

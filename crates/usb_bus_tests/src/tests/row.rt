@@ -4,7 +4,7 @@ use super::step::{Step, told};
 use std::alloc::{AllocError, Global};
 use std::str;
 use std::test::Fail;
-use usb_bus::{Damage, Harm, SimBus, Trace};
+use usb_sim::{Damage, Harm, SimBus, Trace};
 use usb_testbus::{bus_of, trace_of};
 
 /// A step and what it tells.

@@ -2,9 +2,10 @@
 
 use arrayvec::ArrayVec;
 use std::alloc::{AllocError, Global};
-use usb_bus::{Ask, Attempt, Bus, BusFault, Outcome, SimBus, Trace};
+use usb_bus::{Attempt, Bus, BusFault, Outcome};
 use usb_packet::{Toggle, TokenKind};
 use usb_port::PortPath;
+use usb_sim::{Ask, SimBus, Trace};
 
 /// At which speed the host speaks.
 #[derive(Clone, Copy)]

@@ -12,7 +12,8 @@ use super::watched::Frail;
 use std::alloc::{AllocError, Global};
 use std::str;
 use std::test::Fail;
-use usb_bus::{SimBus, Trace, Watched};
+use usb_bus::Watched;
+use usb_sim::{SimBus, Trace};
 use usb_testbus::{bus_on, untraced_of};
 
 /// How many writes there may be, and what becomes of the enumeration of a function and its trace.

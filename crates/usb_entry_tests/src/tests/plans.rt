@@ -2,9 +2,10 @@
 use super::bytes_of;
 use std::alloc::{AllocError, Global};
 use std::process::Abort;
-use usb_bus::{Plan, Watched};
+use usb_bus::Watched;
 use usb_entry::write_entry;
 use usb_plan::{PlanFault, read_plan};
+use usb_sim::Plan;
 
 /// A device: its name, its bytes in digits, and what else a plan says of it.
 struct Row {

@@ -2,11 +2,12 @@
 use std::alloc::{AllocError, Global};
 use std::str;
 use std::test::Fail;
-use usb_bus::{Bus, SimBus, Tracer};
+use usb_bus::Bus;
 use usb_enum::Finding;
 use usb_host::{Host, HostFault};
 use usb_port::PortPath;
 use usb_request::feature::PORT_ENABLE;
+use usb_sim::{SimBus, Tracer};
 use usb_testbus::{bus_of, plan_text, trace_of};
 
 /// A hub of two ports that powers itself, and a low-speed function at its first port.

@@ -1,11 +1,12 @@
 //! What is found at root port 1.
 use std::alloc::{AllocError, Global};
 use std::test::Fail;
-use usb_bus::{Bus, SimBus, Tracer};
+use usb_bus::Bus;
 use usb_enum::{Accepted, Cause, Finding, Request, enumerate};
 use usb_hub::{HubPort, port_status, set_port};
 use usb_request::feature::PORT_POWER;
 use usb_resources::AddressPool;
+use usb_sim::{SimBus, Tracer};
 use usb_testbus::{bus_of, plan_text};
 
 const PORT: HubPort = HubPort::Root(1);

@@ -2,12 +2,12 @@
 use super::hub::{bits, done, read, target};
 use std::alloc::{AllocError, Global};
 use std::test::Fail;
-use usb_bus::{SimBus, Tracer};
 use usb_hub::{
     DeviceStatus, PipeFault, clear_hub_port, get_status, hub_descriptor, hub_port_status,
     set_address, set_configuration, set_hub_port,
 };
 use usb_request::feature::{C_PORT_CONNECTION, C_PORT_RESET, PORT_POWER, PORT_RESET};
+use usb_sim::{SimBus, Tracer};
 use usb_testbus::{plan_text, plugged, trace_of};
 
 /// A hub of two ports that powers itself, its plug, and that of a low-speed function at its first

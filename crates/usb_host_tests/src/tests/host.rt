@@ -1,10 +1,10 @@
 //! The rounds of a host.
 use std::alloc::{AllocError, Global};
 use std::test::Fail;
-use usb_bus::{SimBus, Tracer};
 use usb_enum::Finding;
 use usb_host::Host;
 use usb_port::PortPath;
+use usb_sim::{SimBus, Tracer};
 use usb_testbus::{bus_of, plan_text};
 
 /// A device that never answers, but for its speed.

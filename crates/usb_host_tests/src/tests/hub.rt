@@ -4,12 +4,13 @@ ghost use Rattle.usb_transaction.specs.Transactions.{IsTarget};
 
 use std::alloc::{AllocError, Global};
 use std::test::Fail;
-use usb_bus::{Bus, SimBus, Tracer};
+use usb_bus::Bus;
 use usb_hub::{
     HubPort, PipeFault, PortStatus, Target, clear_port, get_config, get_device, get_string,
     port_status, set_address, set_configuration, set_port,
 };
 use usb_request::feature::{C_PORT_CONNECTION, C_PORT_RESET, PORT_POWER, PORT_RESET};
+use usb_sim::{SimBus, Tracer};
 use usb_testbus::{bus_of, plan_text, trace_of};
 
 /// A full-speed function, and its plug.

@@ -5,8 +5,8 @@ use super::plans::{BULK, Hit, SMALL_BULK, bus_of};
 use super::ready::{TARGET, Told, make_ready, tell, told};
 use std::alloc::{AllocError, Global};
 use std::test::Fail;
-use usb_bus::{SimBus, Tracer};
 use usb_pipe::{BulkPipe, Bus, PipeFault};
+use usb_sim::{SimBus, Tracer};
 
 /// A call of one of the two pipes to an endpoint.
 #[derive(Clone, Copy)]

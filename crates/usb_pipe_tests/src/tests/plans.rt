@@ -2,7 +2,7 @@
 
 use std::alloc::{AllocError, Global};
 use std::test::Fail;
-use usb_bus::{SimBus, Tracer};
+use usb_sim::{SimBus, Tracer};
 use usb_testbus::{plan_text, plugged};
 
 /// A function with one interface and no endpoints.

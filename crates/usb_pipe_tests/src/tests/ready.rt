@@ -3,8 +3,8 @@ ghost use Rattle.usb_transaction.specs.Transactions.{IsTarget};
 
 use std::alloc::Global;
 use std::test::Fail;
-use usb_bus::{SimBus, Tracer};
 use usb_pipe::{Bus, PipeFault, Setup, Target, control_in, control_none};
+use usb_sim::{SimBus, Tracer};
 use usb_testbus::trace_of;
 
 /// A full-speed device at address 1.

@@ -1,9 +1,9 @@
 //! What is read of a text.
 use super::FUNCTION;
 use std::alloc::{AllocError, Global};
-use usb_bus::{Action, Plan};
 use usb_device::DeviceSpec;
 use usb_plan::{bound, read_plan};
+use usb_sim::{Action, Plan};
 
 /// Adds the bytes, in decimal digits.
 fn put_bytes(text: &mut String, bytes: &[u8]) -> Result<(), AllocError> {

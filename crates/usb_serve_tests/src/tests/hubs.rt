@@ -3,7 +3,7 @@ use super::serving::{Shown, compared};
 use super::transfers::HEAD;
 use std::alloc::{AllocError, Global};
 use std::test::Fail;
-use usb_serve::Mode;
+use usb_run::Mode;
 
 /// The events of a plan, and what `tree` writes of it.
 #[derive(Clone, Copy)]

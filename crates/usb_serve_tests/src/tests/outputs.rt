@@ -5,7 +5,8 @@ use super::writers::{fault_in_line, text_of};
 use std::alloc::{AllocError, Global};
 use std::test::Fail;
 use usb_bus::Watched;
-use usb_serve::{Mode, Output, ROOM, RunFault, ServeFault, serve_through};
+use usb_run::{Mode, RunFault};
+use usb_serve::{Output, ROOM, ServeFault, serve_through};
 
 /// More than any text of these rows has.
 const WHOLE: usize = 65_536;

@@ -3,7 +3,8 @@ use super::frail::{Long, Torn};
 use super::rows::{ONE_FUNCTION, ROWS, Row};
 use std::alloc::Global;
 use usb_bus::Watched;
-use usb_serve::{Mode, ServeFault, serve};
+use usb_run::Mode;
+use usb_serve::{ServeFault, serve};
 
 /// The bytes that a reader is asked for at once.
 const PIECE: usize = 16_384;

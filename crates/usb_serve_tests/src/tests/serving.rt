@@ -4,7 +4,8 @@ use std::alloc::{AllocError, Global};
 use std::test::Fail;
 use usb_bus::Watched;
 use usb_plan::read_plan;
-use usb_serve::{Mode, ServeFault, run, serve};
+use usb_run::{Mode, run};
+use usb_serve::{ServeFault, serve};
 
 /// How what is written of a plan compares with what is wanted.
 #[derive(Clone, Copy, Debug, PartialEq)]

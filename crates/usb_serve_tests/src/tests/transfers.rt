@@ -4,7 +4,8 @@ use std::str;
 use std::test::Fail;
 use usb_bus::Watched;
 use usb_plan::read_plan;
-use usb_serve::{Item, Mode, TransferFault, run, serve};
+use usb_run::{Item, Mode, TransferFault, run};
+use usb_serve::serve;
 
 /// The head of each plan: its limit, its root ports and its devices.
 pub const HEAD: &str = r#"limit = 10000

@@ -3,7 +3,8 @@ use super::frail::{Frail, Trouble};
 use super::rows::{ONE_FUNCTION, ROWS, Row};
 use std::alloc::Global;
 use usb_bus::Watched;
-use usb_serve::{Mode, RunFault, ServeFault, serve};
+use usb_run::{Mode, RunFault};
+use usb_serve::{ServeFault, serve};
 
 /// Room for every line.
 const WHOLE: usize = 4096;

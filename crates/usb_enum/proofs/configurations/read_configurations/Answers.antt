@@ -7,15 +7,15 @@ use Rattle.usb_enum.specs.Bounds.{configuration_bound}
 use Rattle.usb_enum.specs.LearnedFacts.{DeviceFact}
 use Rattle.usb_enum.specs.Readings.{AtMaximum, HasConfigurations}
 use Rattle.usb_enum.specs.Text.{any_has_value}
-use Rattle.usb_enum.proofs.ConfigRefusals.{reading_failed, reading_refused, repeated_refused}
+use Rattle.usb_enum.proofs.refusals.ConfigRefusals.{reading_failed, reading_refused, repeated_refused}
 use Rattle.usb_enum.proofs.Parts.{asking, part_fails, steps_again, steps_more, steps_none, steps_times}
-use Rattle.usb_enum.proofs.Readings.{learns_none, configurations_none, configurations_learned}
-use Rattle.usb_enum.proofs.Refusals.{handed_match}
-use Rattle.usb_enum.proofs.TextLengths.{texts_ended, texts_failed, texts_read_more, texts_none}
-use Rattle.usb_enum.proofs.Values.{values_differ-push}
+use Rattle.usb_enum.proofs.readings.Readings.{learns_none, configurations_none, configurations_learned}
+use Rattle.usb_enum.proofs.refusals.Refusals.{handed_match}
+use Rattle.usb_enum.proofs.readings.TextLengths.{texts_ended, texts_failed, texts_read_more, texts_none}
+use Rattle.usb_enum.proofs.readings.Values.{values_differ-push}
 use Rattle.usb_enum.specs.Reasons.{TextRead, none_yet, one_more as one_more_text, repeated}
-use Rattle.usb_enum.proofs.LastRequests.{leads_none, leads_went}
-use Rattle.usb_enum.proofs.Reasons.{told_after}
+use Rattle.usb_enum.proofs.courses.LastRequests.{leads_none, leads_went}
+use Rattle.usb_enum.proofs.stops.Reasons.{told_after}
 use Rattle.usb_enum.proofs.configurations.read_configurations.Goals as goal
 
 pub loop-index-init : goal.loop-index-init

@@ -6,7 +6,7 @@ use Rattle.usb_enum.specs.Parts.{KeepingSteps}
 use Rattle.usb_enum.specs.Readings.{AtMaximum, HasConfigurations}
 use Rattle.usb_enum.specs.Text.{ValuesDiffer}
 use Rattle.usb_enum.specs.Reasons.{TextsAsked}
-use Rattle.usb_enum.proofs.TextLengths.{TextsRead}
+use Rattle.usb_enum.proofs.readings.TextLengths.{TextsRead}
 use Rattle.usb_enum.proofs.configurations.read_configurations.Given as goal
 
 abbrev pub invariant-loop-index : goal.invariant-loop-index

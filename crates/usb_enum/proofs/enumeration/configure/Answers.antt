@@ -1,6 +1,6 @@
 use Rattle.usb_enum.specs.Device.{IsStarted}
 use Rattle.usb_enum.specs.declared.cause.Cause.TheVariants.{Stalled}
-use Rattle.usb_enum.proofs.PlainStops.{answered_plain, deep_stop_fits, hub_stop_fits, plain_stop_fits}
+use Rattle.usb_enum.proofs.stops.PlainStops.{answered_plain, deep_stop_fits, hub_stop_fits, plain_stop_fits}
 use Rattle.usb_enum.specs.Stop.{FitsStop}
 use Rattle.std.proofs.Common.{◌∙◌, ℕ, [], ap, arith, refl, slice_index_or, subst, sym}
 use Rattle.std.proofs.lemmas.List.{get_or_read}
@@ -10,21 +10,21 @@ use Rattle.usb_enum.specs.declared.stop.Stop.TheVariants.{Fault}
 use Rattle.usb_enum.specs.LearnedFacts.{DeviceFact}
 use Rattle.usb_enum.specs.Readings.{AtMaximum, HasConfigurations}
 use Rattle.usb_enum.specs.Refusals.{configured_fault}
-use Rattle.usb_enum.proofs.Refusals.{answered_ok, fault_explains, handed_match}
-use Rattle.usb_enum.proofs.SettingRefusals.{deep_refused, read_refused, power_refused, set_refused, hub_refused, strings_refused}
-use Rattle.usb_enum.proofs.Settings.{listed_learns, set_learned, set_then}
+use Rattle.usb_enum.proofs.refusals.Refusals.{answered_ok, fault_explains, handed_match}
+use Rattle.usb_enum.proofs.refusals.SettingRefusals.{deep_refused, read_refused, power_refused, set_refused, hub_refused, strings_refused}
+use Rattle.usb_enum.proofs.readings.Settings.{listed_learns, set_learned, set_then}
 use Rattle.usb_bus.proofs.Interface.{went_then}
-use Rattle.usb_enum.proofs.Frames.{sets_asked, sets_at, sets_told}
+use Rattle.usb_enum.proofs.devices.Frames.{sets_asked, sets_at, sets_told}
 use Rattle.usb_enum.proofs.Parts.{part_fails, setting, steps_as, steps_joined, steps_none, steps_set, steps_then, steps_wider}
 use Rattle.usb_enum.specs.Bounds.{configured_by, texts_bound}
-use Rattle.usb_enum.proofs.Powers.{empties_ports}
-use Rattle.usb_enum.proofs.TextLengths.{few_then, few_wider}
+use Rattle.usb_enum.proofs.ports.Powers.{empties_ports}
+use Rattle.usb_enum.proofs.readings.TextLengths.{few_then, few_wider}
 use Rattle.usb_enum.specs.declared.cause.Request.TheVariants.{SetConfig}
 use Rattle.usb_enum.specs.Reasons.{CauseAllowedAtStart, lacks_power}
-use Rattle.usb_enum.proofs.Reasons.{told_after, write_stop_told}
-use Rattle.usb_enum.proofs.Stops.{fits_stop, hub_stops, stops_by}
+use Rattle.usb_enum.proofs.stops.Reasons.{told_after, write_stop_told}
+use Rattle.usb_enum.proofs.stops.Stops.{fits_stop, hub_stops, stops_by}
 use Rattle.usb_enum.specs.StringRequests.{ReadsStrings}
-use Rattle.usb_enum.proofs.LastRequests.{leads_went}
+use Rattle.usb_enum.proofs.courses.LastRequests.{leads_went}
 use Rattle.usb_enum.proofs.enumeration.configure.Goals as goal
 
 pub returns-in_err-fits_tier-clause-part : goal.returns-in_err-fits_tier-clause-part

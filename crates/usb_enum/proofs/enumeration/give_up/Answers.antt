@@ -1,18 +1,18 @@
-use Rattle.usb_enum.proofs.Ports.{disabled}
+use Rattle.usb_enum.proofs.ports.Ports.{disabled}
 use Rattle.usb_hub.proofs.Interface.{asked_port}
-use Rattle.usb_enum.proofs.PlainStops.{handed_none}
+use Rattle.usb_enum.proofs.stops.PlainStops.{handed_none}
 use Rattle.std.proofs.Common.{◌∙◌, Result, arith, refl, subst, sym}
 use Rattle.std.specs.Prelude.{IfErr}
 use Rattle.usb_port.specs.declared.call.PortCall.TheVariants.{ClearEnable}
 use Rattle.usb_request.specs.Features.{PORT_ENABLE}
 use Rattle.usb_enum.specs.declared.fault.EnumFault.{EnumFault}
 use Rattle.usb_enum.specs.Reasons.{FaultBy}
-use Rattle.usb_enum.proofs.Stretches.{clear_goes}
+use Rattle.usb_enum.proofs.courses.Stretches.{clear_goes}
 use Rattle.usb_bus.proofs.Interface.{went_none, went_wider}
-use Rattle.usb_enum.proofs.Closings.{closed_fault, closed_handed, closed_lost, closed_refused}
-use Rattle.usb_enum.proofs.Endings.{port_done}
-use Rattle.usb_enum.proofs.Reasons.{port_cleared_fault, fault_by}
-use Rattle.usb_enum.proofs.Refusals.{handed_match}
+use Rattle.usb_enum.proofs.stops.Closings.{closed_fault, closed_handed, closed_lost, closed_refused}
+use Rattle.usb_enum.proofs.stops.Endings.{port_done}
+use Rattle.usb_enum.proofs.stops.Reasons.{port_cleared_fault, fault_by}
+use Rattle.usb_enum.proofs.refusals.Refusals.{handed_match}
 use Rattle.usb_enum.proofs.enumeration.give_up.Goals as goal
 
 pub returns-in_err-at_port-in-Refused-clause-left :

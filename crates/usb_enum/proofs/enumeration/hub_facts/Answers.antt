@@ -4,8 +4,8 @@ use Rattle.std.proofs.Common.{◌∙◌, refl, subst, sym, ◌≡◌, true}
 use Rattle.std.proofs.lemmas.Option.{same_Some}
 use Rattle.usb_enum.specs.Hub.{Started}
 use Rattle.usb_enum.proofs.Parts.{part_handed, steps_none, telling}
-use Rattle.usb_enum.proofs.Readings.{learns_none}
-use Rattle.usb_enum.proofs.Refusals.{handed_match}
+use Rattle.usb_enum.proofs.readings.Readings.{learns_none}
+use Rattle.usb_enum.proofs.refusals.Refusals.{handed_match}
 use Rattle.usb_enum.proofs.enumeration.hub_facts.Goals as goal
 
 pub returns-then-not-is_hub-clause-hub : goal.returns-then-not-is_hub-clause-hub

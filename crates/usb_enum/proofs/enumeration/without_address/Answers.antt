@@ -1,8 +1,8 @@
 use Rattle.usb_enum.specs.Refusals.{early_fault, unaddressed_fault}
-use Rattle.usb_enum.proofs.Fairness.{stops_wider}
-use Rattle.usb_enum.proofs.Warrants.{none_free, unaddressed_early}
+use Rattle.usb_enum.proofs.courses.Fairness.{stops_wider}
+use Rattle.usb_enum.proofs.refusals.Warrants.{none_free, unaddressed_early}
 use Rattle.std.proofs.Common.{inl, inr, refl}
-use Rattle.usb_enum.proofs.PlainStops.{plain_without}
+use Rattle.usb_enum.proofs.stops.PlainStops.{plain_without}
 use Rattle.usb_enum.proofs.enumeration.without_address.Goals as goal
 
 pub returns-in-Ok-clause-without : goal.returns-in-Ok-clause-without

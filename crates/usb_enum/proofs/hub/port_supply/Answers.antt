@@ -1,17 +1,17 @@
 use Rattle.usb_request.specs.Requests.{get_status}
 use Rattle.usb_hub.specs.Requests.{ReadAs, device_status}
-use Rattle.usb_enum.proofs.PlainStops.{answered_hub}
+use Rattle.usb_enum.proofs.stops.PlainStops.{answered_hub}
 use Rattle.usb_enum.specs.Stop.{IsHubStop}
 use Rattle.std.proofs.Common.{◌≡◌, ◌∙◌, Some, sym, subst}
 use Rattle.usb_enum.specs.declared.cause.Cause.TheVariants.{BadHub}
 use Rattle.usb_hub.specs.GivenAnswers.{status_given}
-use Rattle.usb_enum.proofs.Frames.{answer_asks}
-use Rattle.usb_enum.proofs.Counts.{read_went}
-use Rattle.usb_enum.proofs.HubReadings.{supply_learned}
-use Rattle.usb_enum.proofs.HubRefusals.{supply_unanswered}
+use Rattle.usb_enum.proofs.devices.Frames.{answer_asks}
+use Rattle.usb_enum.proofs.courses.Counts.{read_went}
+use Rattle.usb_enum.proofs.readings.HubReadings.{supply_learned}
+use Rattle.usb_enum.proofs.refusals.HubRefusals.{supply_unanswered}
 use Rattle.usb_enum.proofs.Parts.{part_fails}
-use Rattle.usb_enum.proofs.Refusals.{answered_ok, handed_match}
-use Rattle.usb_enum.proofs.Reasons.{status_told}
+use Rattle.usb_enum.proofs.refusals.Refusals.{answered_ok, handed_match}
+use Rattle.usb_enum.proofs.stops.Reasons.{status_told}
 use Rattle.usb_enum.proofs.hub.port_supply.Goals as goal
 
 pub returns-clause-read : goal.returns-clause-read

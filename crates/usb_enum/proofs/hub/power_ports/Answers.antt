@@ -2,12 +2,12 @@ use Rattle.usb_enum.specs.Stop.{IsHubStop}
 use Rattle.std.proofs.Common.{ℕ, arith, refl, subst}
 use Rattle.usb_pipe.specs.Control.{write_bound}
 use Rattle.usb_enum.specs.Hub.{Powered}
-use Rattle.usb_enum.proofs.Hubs.{powered_more}
+use Rattle.usb_enum.proofs.ports.Hubs.{powered_more}
 use Rattle.usb_enum.proofs.Parts.{part_fails, steps_again, steps_more, steps_none, steps_times, telling}
-use Rattle.usb_enum.proofs.PortRefusals.{powering_explains}
-use Rattle.usb_enum.proofs.ToldFailures.{handed_on}
-use Rattle.usb_enum.proofs.LastRequests.{leads_went}
-use Rattle.usb_enum.proofs.Reasons.{hub_after}
+use Rattle.usb_enum.proofs.refusals.PortRefusals.{powering_explains}
+use Rattle.usb_enum.proofs.stops.ToldFailures.{handed_on}
+use Rattle.usb_enum.proofs.courses.LastRequests.{leads_went}
+use Rattle.usb_enum.proofs.stops.Reasons.{hub_after}
 use Rattle.usb_enum.proofs.hub.power_ports.Goals as goal
 
 pub ports-init : goal.ports-init

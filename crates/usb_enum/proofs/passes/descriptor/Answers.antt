@@ -1,4 +1,4 @@
-use Rattle.usb_enum.proofs.PlainStops.{answered_plain, device_good}
+use Rattle.usb_enum.proofs.stops.PlainStops.{answered_plain, device_good}
 use Rattle.usb_enum.specs.Stop.{IsPlainStop}
 use Rattle.std.proofs.Common.{◌≡◌, ◌<◌, ◌∙◌, ℕ, true, length, List, Err, Option, Result, ap, refl, subst, sym, take}
 use Rattle.std.specs.Prelude.{IfSome, MatchResult}
@@ -6,15 +6,15 @@ use Rattle.usb_pipe.specs.declared.fault.PipeFault.TheVariants.{NoAnswer}
 use Rattle.usb_enum.specs.declared.stop.Stop.{Stop}
 use Rattle.usb_enum.specs.Device.{is_device}
 use Rattle.usb_enum.specs.Reasons.{bad_front}
-use Rattle.usb_enum.proofs.DeviceRefusals.{descriptor_unanswered, descriptor_none, descriptor_refused, device_read, no_answer, some_answer, answered_who, refused_who, short_device}
-use Rattle.usb_enum.proofs.Heads.{bytes_answered}
+use Rattle.usb_enum.proofs.refusals.DeviceRefusals.{descriptor_unanswered, descriptor_none, descriptor_refused, device_read, no_answer, some_answer, answered_who, refused_who, short_device}
+use Rattle.usb_enum.proofs.readings.Heads.{bytes_answered}
 use Rattle.usb_hub.specs.GivenAnswers.{device_given}
 use Rattle.usb_enum.proofs.Parts.{part_fails, steps_asked}
-use Rattle.usb_enum.proofs.Refusals.{handed_match}
+use Rattle.usb_enum.proofs.refusals.Refusals.{handed_match}
 use Rattle.usb_request.specs.Requests.{get_device_descriptor}
 use Rattle.usb_enum.specs.declared.cause.Cause.TheVariants.{Stalled}
 use Rattle.usb_enum.specs.declared.cause.Request.TheVariants.{Device}
-use Rattle.usb_enum.proofs.Reasons.{read_stop_told, unanswered_ends_failing, was_read}
+use Rattle.usb_enum.proofs.stops.Reasons.{read_stop_told, unanswered_ends_failing, was_read}
 use Rattle.usb_enum.proofs.passes.descriptor.Goals as goal
 
 pub returns-then-eq-clause-read : goal.returns-then-eq-clause-read

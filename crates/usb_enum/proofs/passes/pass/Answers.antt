@@ -1,19 +1,19 @@
 use Rattle.usb_enum.specs.declared.cause.Cause.TheVariants.{Stalled}
-use Rattle.usb_enum.proofs.PlainStops.{answered_plain}
+use Rattle.usb_enum.proofs.stops.PlainStops.{answered_plain}
 use Rattle.usb_enum.specs.Stop.{IsPlainStop}
 use Rattle.std.proofs.Common.{◌∙◌, inl, inr, arith, refl, sym}
-use Rattle.usb_enum.proofs.Presence.{address_finds}
-use Rattle.usb_enum.proofs.ReachedDevices.{reaches_addressed, reaches_rest}
-use Rattle.usb_enum.proofs.Enumerations.{takes_after, takes_answered}
-use Rattle.usb_enum.proofs.Frames.{at_asked}
+use Rattle.usb_enum.proofs.devices.Presence.{address_finds}
+use Rattle.usb_enum.proofs.devices.ReachedDevices.{reaches_addressed, reaches_rest}
+use Rattle.usb_enum.proofs.devices.Enumerations.{takes_after, takes_answered}
+use Rattle.usb_enum.proofs.devices.Frames.{at_asked}
 use Rattle.usb_enum.proofs.Parts.{enumerating, part_fails, steps_addressed, steps_as, steps_then, steps_wider}
 use Rattle.usb_enum.specs.Refusals.{addressed_fault, early_fault}
-use Rattle.usb_enum.proofs.Fairness.{stops_wider}
-use Rattle.usb_enum.proofs.Refusals.{answered_ok, handed_match}
-use Rattle.usb_enum.proofs.StopReasons.{address_stops, addressed_early, descriptor_stops, pass_misses}
+use Rattle.usb_enum.proofs.courses.Fairness.{stops_wider}
+use Rattle.usb_enum.proofs.refusals.Refusals.{answered_ok, handed_match}
+use Rattle.usb_enum.proofs.stops.StopReasons.{address_stops, addressed_early, descriptor_stops, pass_misses}
 use Rattle.usb_enum.specs.declared.cause.Request.TheVariants.{Address}
-use Rattle.usb_enum.proofs.LastRequests.{leads_went}
-use Rattle.usb_enum.proofs.Reasons.{at_after, descriptor_after, failing_after, stop_told_at, told_faults, write_stop_told}
+use Rattle.usb_enum.proofs.courses.LastRequests.{leads_went}
+use Rattle.usb_enum.proofs.stops.Reasons.{at_after, descriptor_after, failing_after, stop_told_at, told_faults, write_stop_told}
 use Rattle.usb_enum.proofs.passes.pass.Goals as goal
 
 pub returns-in_err-target-clause-part : goal.returns-in_err-target-clause-part

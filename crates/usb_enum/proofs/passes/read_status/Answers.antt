@@ -1,6 +1,6 @@
-use Rattle.usb_enum.proofs.Frames.{status_asks}
-use Rattle.usb_enum.proofs.Stretches.{status_goes}
-use Rattle.usb_enum.proofs.Reasons.{call_ends, read_by}
+use Rattle.usb_enum.proofs.devices.Frames.{status_asks}
+use Rattle.usb_enum.proofs.courses.Stretches.{status_goes}
+use Rattle.usb_enum.proofs.stops.Reasons.{call_ends, read_by}
 use Rattle.usb_enum.proofs.passes.read_status.Goals as goal
 
 pub returns-clause-read : goal.returns-clause-read

@@ -3,8 +3,8 @@ use Rattle.std.proofs.Common.{◌∙◌, ap, option_and_then, sym}
 use Rattle.usb_enum.specs.Readings.{bytes_given}
 use Rattle.usb_enum.specs.Text.{first_language_of}
 use Rattle.usb_enum.proofs.Parts.{part_handed}
-use Rattle.usb_enum.proofs.StringReadings.{language_asked}
-use Rattle.usb_enum.proofs.ToldFailures.{handed_on}
+use Rattle.usb_enum.proofs.readings.StringReadings.{language_asked}
+use Rattle.usb_enum.proofs.stops.ToldFailures.{handed_on}
 use Rattle.usb_enum.proofs.strings.language.Goals as goal
 
 pub returns-in-Some-clause-read : goal.returns-in-Some-clause-read

@@ -7,9 +7,9 @@ use Rattle.usb_enum.specs.Refusals.{no_fault}
 use Rattle.usb_enum.specs.StringRequests.{unnamed}
 use Rattle.usb_enum.specs.Text.{string_units}
 use Rattle.usb_enum.proofs.Parts.{asking, part_fails, part_handed, steps_none}
-use Rattle.usb_enum.proofs.Refusals.{fault_explains}
-use Rattle.usb_enum.proofs.StringReadings.{string_named, unnamed_learned}
-use Rattle.usb_enum.proofs.ToldFailures.{handed_on}
+use Rattle.usb_enum.proofs.refusals.Refusals.{fault_explains}
+use Rattle.usb_enum.proofs.readings.StringReadings.{string_named, unnamed_learned}
+use Rattle.usb_enum.proofs.stops.ToldFailures.{handed_on}
 use Rattle.usb_enum.proofs.strings.read_one.Goals as goal
 
 pub returns-then-index-eq0-clause-read : goal.returns-then-index-eq0-clause-read

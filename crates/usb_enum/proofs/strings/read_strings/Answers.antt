@@ -4,9 +4,9 @@ use Rattle.usb_enum.specs.LearnedFacts.{DeviceFact}
 use Rattle.usb_enum.specs.Readings.{AtMaximum, language_of}
 use Rattle.usb_enum.specs.StringRequests.{AsksLanguage, asked, unnamed}
 use Rattle.usb_enum.proofs.Parts.{asking, part_fails, steps_joined, steps_none, steps_then, steps_wider}
-use Rattle.usb_enum.proofs.StringRefusals.{string_stops, strings_read}
-use Rattle.usb_enum.proofs.StringReadings.{unnamed_strings_learned, no_strings_learned, strings_learned}
-use Rattle.usb_enum.proofs.ToldFailures.{handed_on}
+use Rattle.usb_enum.proofs.refusals.StringRefusals.{string_stops, strings_read}
+use Rattle.usb_enum.proofs.readings.StringReadings.{unnamed_strings_learned, no_strings_learned, strings_learned}
+use Rattle.usb_enum.proofs.stops.ToldFailures.{handed_on}
 use Rattle.usb_enum.proofs.strings.read_strings.Goals as goal
 
 pub returns-then-indexes-eq0-3-clause-read : goal.returns-then-indexes-eq0-3-clause-read

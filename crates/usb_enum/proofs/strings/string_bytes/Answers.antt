@@ -1,12 +1,12 @@
-use Rattle.usb_enum.proofs.PlainStops.{stop_plain}
+use Rattle.usb_enum.proofs.stops.PlainStops.{stop_plain}
 use Rattle.std.proofs.Common.{◌∙◌, sym}
 use Rattle.usb_hub.specs.GivenAnswers.{string_given}
 use Rattle.usb_enum.proofs.Parts.{steps_asked}
-use Rattle.usb_enum.proofs.StringRequests.{string_given as asked_given, string_refused}
-use Rattle.usb_enum.proofs.StringReadings.{string_learned, no_string_learned}
-use Rattle.usb_enum.proofs.StringRefusals.{string_unrefused}
+use Rattle.usb_enum.proofs.readings.StringRequests.{string_given as asked_given, string_refused}
+use Rattle.usb_enum.proofs.readings.StringReadings.{string_learned, no_string_learned}
+use Rattle.usb_enum.proofs.refusals.StringRefusals.{string_unrefused}
 use Rattle.usb_request.specs.Requests.{get_string_descriptor}
-use Rattle.usb_enum.proofs.Reasons.{string_told}
+use Rattle.usb_enum.proofs.stops.Reasons.{string_told}
 use Rattle.usb_enum.proofs.strings.string_bytes.Goals as goal
 
 pub returns-in-Ok-clause-read : goal.returns-in-Ok-clause-read

@@ -3,7 +3,7 @@ use Rattle.std.proofs.lemmas.List.{take_all}
 use Rattle.std.specs.Prelude.{slice_index_or}
 use Rattle.usb_port.specs.PortState.{off, status_of}
 use Rattle.usb_world.specs.World.{root_port_at, root_row}
-use Rattle.usb_bus.specs.Sim.{world_of}
+use Rattle.usb_sim.specs.Sim.{world_of}
 use Rattle.usb_far.specs.FarEnd.{statuses}
 use Rattle.usb_far.proofs.Deeds.{status_more}
 use Rattle.usb_far.proofs.far_end.statuses.Goals as goal

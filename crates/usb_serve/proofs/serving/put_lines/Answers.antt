@@ -3,9 +3,9 @@ use Rattle.std.specs.Global.{Vec}
 use Rattle.std.specs.Io.KnownBytes.{Appends}
 use Rattle.std.specs.Prelude.{All}
 use Rattle.usb_bus.specs.Watch.{AppendsFront}
-use Rattle.usb_serve.specs.ServeResults.{IsLine}
-use Rattle.usb_serve.proofs.Causes.{line_calm, line_kept}
-use Rattle.usb_serve.proofs.Transcripts.{texts_split, flat_map-take, puts_line, cuts_line}
+use Rattle.usb_run.specs.ItemLines.{IsLine}
+use Rattle.usb_serve.proofs.LineFaults.{line_calm, line_kept}
+use Rattle.usb_run.proofs.Interface.{texts_split, flat_map-take, puts_line, cuts_line}
 use Rattle.usb_serve.proofs.serving.put_lines.Goals as goal
 
 -- a line without its newline, and the newline

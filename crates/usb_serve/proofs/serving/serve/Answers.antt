@@ -1,8 +1,8 @@
 use Rattle.std.proofs.Common.{refl, sym, subst}
 use Rattle.usb_bus.specs.Watch.{inner_of}
-use Rattle.usb_serve.specs.declared.serving.Mode.TheVariants.{Tree, Run}
+use Rattle.usb_run.specs.declared.mode.Mode.TheVariants.{Tree, Run}
 use Rattle.usb_serve.specs.ServedRuns.{IsWritten, of_plan, unread}
-use Rattle.usb_serve.proofs.Enough.{written_enough}
+use Rattle.usb_serve.proofs.WrittenEnough.{written_enough}
 use Rattle.usb_serve.proofs.serving.serve.Goals as goal
 
 pub returns-in-Err-clause-served : goal.returns-in-Err-clause-served

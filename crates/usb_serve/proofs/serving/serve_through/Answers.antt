@@ -1,7 +1,7 @@
 use Rattle.std.proofs.Common.{◌≡◌, subst}
 use Rattle.usb_bus.specs.Watch.{inner_of}
 use Rattle.usb_serve.specs.declared.output.Output.{Output}
-use Rattle.usb_serve.specs.declared.runs.RunFault.TheVariants.{TraceFailed}
+use Rattle.usb_run.specs.declared.runs.RunFault.TheVariants.{TraceFailed}
 use Rattle.usb_serve.specs.declared.serving.ServeFault.TheVariants as serve
 use Rattle.usb_serve.specs.Outputs.{held}
 use Rattle.usb_serve.specs.ServedRuns.{IsServed}

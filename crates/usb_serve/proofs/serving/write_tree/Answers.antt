@@ -4,7 +4,7 @@ use Rattle.std.specs.Prelude.{OnOk, is_some}
 use Rattle.usb_bus.specs.Watch.{AppendsFront, inner_of}
 use Rattle.usb_plan.specs.Attempts.{bound_of}
 use Rattle.usb_text.specs.ListingLines.{bound_line}
-use Rattle.usb_serve.specs.Transcript.{Next}
+use Rattle.usb_run.specs.Transcript.{Next}
 use Rattle.usb_serve.proofs.ServedItems.{tree_begun, tree_cut, tree_over, tree_stopped, tree_told, tree_unbound, tree_unlined, tree_unopened}
 use Rattle.usb_serve.proofs.serving.write_tree.Goals as goal
 

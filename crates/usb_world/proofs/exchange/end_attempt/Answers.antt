@@ -1,5 +1,5 @@
 use Rattle.std.proofs.Common.{sym, ◌∙◌}
-use Rattle.usb_world.proofs.Routes.{route_over}
+use Rattle.usb_world.proofs.ways.Routes.{route_over}
 use Rattle.usb_world.proofs.exchange.end_attempt.Goals as goal
 
 pub returns-else-is_whole-clause-over : goal.returns-else-is_whole-clause-over

@@ -1,6 +1,6 @@
 use Rattle.std.proofs.Common.{sym, ◌∙◌}
-use Rattle.usb_world.proofs.Exchanges.{over_plugged, over_made}
-use Rattle.usb_world.proofs.RoutesKept.{kept_at}
+use Rattle.usb_world.proofs.attempts.Exchanges.{over_plugged, over_made}
+use Rattle.usb_world.proofs.ways.RoutesKept.{kept_at}
 use Rattle.usb_world.proofs.exchange.exchange_by_packets.Goals as goal
 
 pub returns-in_err-made-clause-plugged : goal.returns-in_err-made-clause-plugged

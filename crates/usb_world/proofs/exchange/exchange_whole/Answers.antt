@@ -4,8 +4,8 @@ use Rattle.usb_world.specs.Wire.{marked_some}
 use Rattle.usb_world.specs.Exchange.{ack_if}
 use Rattle.usb_world.specs.declared.exchange.Exchange.{Exchange}
 use Rattle.usb_world.specs.declared.wire.Mark.TheVariants.{Whole}
-use Rattle.usb_world.proofs.Exchanges.{over_settled}
-use Rattle.usb_world.proofs.OneWalk.{CutShort, Walked, walk_over, walk_cut, walked_made, walked_kept, made_plugged, made_settled, cut_plugged}
+use Rattle.usb_world.proofs.attempts.Exchanges.{over_settled}
+use Rattle.usb_world.proofs.ways.OneWalk.{CutShort, Walked, walk_over, walk_cut, walked_made, walked_kept, made_plugged, made_settled, cut_plugged}
 use Rattle.usb_world.proofs.exchange.exchange_whole.Goals as goal
 
 cut_short : (c : goal.After-from_residual)

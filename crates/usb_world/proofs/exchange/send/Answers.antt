@@ -1,6 +1,6 @@
 use Rattle.std.proofs.Common.{refl, sym, ◌∙◌}
-use Rattle.usb_world.proofs.Exchanges.{delivered_stays_plugged, sent_went, went_to}
-use Rattle.usb_world.proofs.Routes.{route_row, route_figure, route_heard, route_ports, route_stopped, alone_after}
+use Rattle.usb_world.proofs.attempts.Exchanges.{delivered_stays_plugged, sent_went, went_to}
+use Rattle.usb_world.proofs.ways.Routes.{route_row, route_figure, route_heard, route_ports, route_stopped, alone_after}
 use Rattle.usb_world.proofs.exchange.send.Goals as goal
 
 pub returns-in-None-clause-plugged : goal.returns-in-None-clause-plugged

@@ -4,12 +4,12 @@ use Rattle.usb_world.specs.Wire.{harm_to, marked_some}
 use Rattle.usb_world.specs.Exchange.{answer_mark, clears_at, goes_out}
 use Rattle.usb_device.specs.Delivery.{both, heard_of}
 use Rattle.usb_world.specs.declared.wire.Outgoing.{Outgoing}
-use Rattle.usb_world.specs.AttemptPackets.{after_sent, answers_to, IfOut, IsDataOut, IsAckOut}
+use Rattle.usb_tree.specs.AttemptPackets.{after_sent, answers_to, IfOut, IsDataOut, IsAckOut}
 use Rattle.usb_world.specs.CutPackets.{IsStopped}
-use Rattle.usb_world.proofs.Exchanges.{Makes, made_exchange, made_ports, plugged_further}
-use Rattle.usb_world.proofs.Refusals.{token_not_stopped, reply_not_stopped}
-use Rattle.usb_world.proofs.Routes.{alone_data, alone_ack}
-use Rattle.usb_world.proofs.Courses.{goes, reply_goes}
+use Rattle.usb_world.proofs.attempts.Exchanges.{Makes, made_exchange, made_ports, plugged_further}
+use Rattle.usb_world.proofs.attempts.Refusals.{token_not_stopped, reply_not_stopped}
+use Rattle.usb_world.proofs.ways.Routes.{alone_data, alone_ack}
+use Rattle.usb_world.proofs.courses.Courses.{goes, reply_goes}
 use Rattle.usb_world.proofs.exchange.send_packets.Goals as goal
 
 pub returns-clause-plugged : goal.returns-clause-plugged

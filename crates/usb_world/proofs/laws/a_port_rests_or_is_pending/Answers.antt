@@ -1,4 +1,4 @@
-use Rattle.usb_world.proofs.RestingPorts.{rests_or_pends, stands_or_pends}
+use Rattle.usb_world.proofs.ports.RestingPorts.{rests_or_pends, stands_or_pends}
 use Rattle.usb_world.proofs.laws.a_port_rests_or_is_pending.Goals as goal
 
 pub returns-clause-rests : goal.returns-clause-rests

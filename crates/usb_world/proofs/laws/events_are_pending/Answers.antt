@@ -1,4 +1,4 @@
-use Rattle.usb_world.proofs.Courses.{untouched_or_pending}
+use Rattle.usb_world.proofs.courses.Courses.{untouched_or_pending}
 use Rattle.usb_world.proofs.laws.events_are_pending.Goals as goal
 
 pub returns : goal.returns

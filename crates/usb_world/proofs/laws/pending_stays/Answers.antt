@@ -1,4 +1,4 @@
-use Rattle.usb_world.proofs.Courses.{pending_persists}
+use Rattle.usb_world.proofs.courses.Courses.{pending_persists}
 use Rattle.usb_world.proofs.laws.pending_stays.Goals as goal
 
 pub returns : goal.returns

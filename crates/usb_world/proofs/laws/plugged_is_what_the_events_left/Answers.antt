@@ -1,4 +1,4 @@
-use Rattle.usb_world.proofs.PluggedDevices.{events_went, devices_left}
+use Rattle.usb_world.proofs.events.PluggedDevices.{events_went, devices_left}
 use Rattle.usb_world.proofs.laws.plugged_is_what_the_events_left.Goals as goal
 
 pub returns-clause-events : goal.returns-clause-events

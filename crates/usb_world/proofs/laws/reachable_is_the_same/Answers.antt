@@ -1,4 +1,4 @@
-use Rattle.usb_world.proofs.Courses.{same_device}
+use Rattle.usb_world.proofs.courses.Courses.{same_device}
 use Rattle.usb_world.proofs.laws.reachable_is_the_same.Goals as goal
 
 pub returns : goal.returns

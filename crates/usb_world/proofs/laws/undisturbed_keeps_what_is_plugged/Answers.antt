@@ -1,5 +1,5 @@
-use Rattle.usb_world.proofs.PluggedDevices.{undisturbed_keeps, undisturbed_way}
-use Rattle.usb_world.proofs.Ways.{undisturbed_on_way}
+use Rattle.usb_world.proofs.events.PluggedDevices.{undisturbed_keeps, undisturbed_way}
+use Rattle.usb_world.proofs.ways.Ways.{undisturbed_on_way}
 use Rattle.usb_world.proofs.laws.undisturbed_keeps_what_is_plugged.Goals as goal
 
 pub returns : goal.returns

@@ -1,6 +1,6 @@
 use Rattle.std.proofs.Common.{arith}
-use Rattle.usb_world.proofs.Routes.{alone_token, way_by_index}
-use Rattle.usb_world.proofs.RoutesKept.{index_kept}
+use Rattle.usb_world.proofs.ways.Routes.{alone_token, way_by_index}
+use Rattle.usb_world.proofs.ways.RoutesKept.{index_kept}
 use Rattle.usb_world.proofs.route.exchange_keeping.Goals as goal
 
 pub exchange_along-requires : goal.exchange_along-requires

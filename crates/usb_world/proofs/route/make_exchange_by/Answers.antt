@@ -1,6 +1,6 @@
 use Rattle.std.proofs.Common.{arith, length, ap, sym, ◌∙◌}
-use Rattle.usb_world.proofs.Routes.{way_by_index}
-use Rattle.usb_world.proofs.Silence.{nobody_there, silence_made}
+use Rattle.usb_world.proofs.ways.Routes.{way_by_index}
+use Rattle.usb_world.proofs.attempts.Silence.{nobody_there, silence_made}
 use Rattle.usb_world.proofs.route.make_exchange_by.Goals as goal
 
 pub returns-in-Nobody-clause-made : goal.returns-in-Nobody-clause-made

@@ -5,8 +5,8 @@ use Rattle.std.proofs.lemmas.Grind.{common_steps}
 use Rattle.usb_backlog.proofs.Interface.{all_none}
 use Rattle.usb_host.specs.HostState.{HostState}
 use Rattle.usb_host.proofs.StepSums.{host_goes_none}
-use Rattle.usb_host.proofs.Owners.{owning_kept}
-use Rattle.usb_host.proofs.Soundness.{sound_none, sound_kept}
+use Rattle.usb_host.proofs.devices.Owners.{owning_kept}
+use Rattle.usb_host.proofs.knowledge.Soundness.{sound_none, sound_kept}
 use Rattle.usb_host.proofs.host.Host.clear_halt.Goals as goal
 
 pub returns-then-self-clause-stopped : goal.returns-then-self-clause-stopped

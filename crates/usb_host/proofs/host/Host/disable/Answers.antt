@@ -10,8 +10,8 @@ use Rattle.usb_hub.specs.Moments.{CommandsPort}
 use Rattle.usb_host.specs.declared.fault.HostFault.TheVariants.{Bus}
 use Rattle.usb_host.specs.Ports.{StandsAt}
 use Rattle.usb_host.proofs.OwnedPorts.{none_disabled, cleared_enable_disabled, port_failed, not_disabled}
-use Rattle.usb_host.proofs.Causes.{told_caused, untold_caused}
-use Rattle.usb_host.proofs.DroppedHubs.{fault_after-no_bus, told_backlog, told_dropped, untold_droppable, nowhere_dropped}
+use Rattle.usb_host.proofs.devices.Causes.{told_caused, untold_caused}
+use Rattle.usb_host.proofs.knowledge.DroppedHubs.{fault_after-no_bus, told_backlog, told_dropped, untold_droppable, nowhere_dropped}
 use Rattle.usb_enum.proofs.Interface.{order_most}
 use Rattle.usb_host.proofs.StepSums.{goes_by, host_goes_none}
 use Rattle.usb_host.proofs.host.Host.disable.Goals as goal

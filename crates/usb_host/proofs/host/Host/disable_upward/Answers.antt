@@ -1,7 +1,7 @@
 use Rattle.std.proofs.Common.{arith, refl, sym}
 use Rattle.usb_world.proofs.Interface.{way_itself, way_parent, way_trans}
 use Rattle.usb_host.proofs.ParentPaths.{parent_length}
-use Rattle.usb_host.proofs.DroppedHubs.{failed_by}
+use Rattle.usb_host.proofs.knowledge.DroppedHubs.{failed_by}
 use Rattle.usb_host.proofs.StepSums.{host_rests_then}
 use Rattle.usb_host.proofs.PortDrops.{climb_done, climb_fails, climb_top, climbed_none, climbed_on}
 use Rattle.usb_host.proofs.host.Host.disable_upward.Goals as goal

@@ -5,10 +5,10 @@ use Rattle.usb_table.specs.KnownPorts.{known_port}
 use Rattle.usb_table.specs.Table.{Table}
 use Rattle.usb_host.specs.HostState.{HostState}
 use Rattle.usb_host.specs.Ports.{StandsAt}
-use Rattle.usb_host.proofs.Agreements.{nested_entered, known_some}
-use Rattle.usb_host.proofs.Balances.{accounts_entered, range_claimed}
+use Rattle.usb_host.proofs.entries.Agreements.{nested_entered, known_some}
+use Rattle.usb_host.proofs.entries.Balances.{accounts_entered, range_claimed}
 use Rattle.usb_host.proofs.PortLooks.{discover_done, discover_fails, discover_lost}
-use Rattle.usb_host.proofs.RisingEntries.{rises_entered}
+use Rattle.usb_host.proofs.entries.RisingEntries.{rises_entered}
 use Rattle.usb_host.proofs.PortLocations.{placed}
 use Rattle.usb_host.proofs.host.Host.discover.Goals as goal
 

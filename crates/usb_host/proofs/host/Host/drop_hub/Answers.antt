@@ -9,10 +9,10 @@ use Rattle.usb_table.specs.Table.{Table, entered}
 use Rattle.usb_table.proofs.Interface.{known_port-without}
 use Rattle.usb_host.specs.HostState.{HostState}
 use Rattle.usb_host.specs.Transfers.{table_in}
-use Rattle.usb_host.proofs.Agreements.{nested_entered}
-use Rattle.usb_host.proofs.Balances.{accounts_entered}
+use Rattle.usb_host.proofs.entries.Agreements.{nested_entered}
+use Rattle.usb_host.proofs.entries.Balances.{accounts_entered}
 use Rattle.usb_host.proofs.PortDrops.{drop_done, drop_unlisted, drop_untold}
-use Rattle.usb_host.proofs.RisingEntries.{rises_entered}
+use Rattle.usb_host.proofs.entries.RisingEntries.{rises_entered}
 use Rattle.usb_host.proofs.host.Host.drop_hub.Goals as goal
 
 pub invariant_of-self-2 : goal.invariant_of-self-2

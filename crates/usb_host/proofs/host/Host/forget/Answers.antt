@@ -10,8 +10,8 @@ use Rattle.usb_host.specs.Accounts.{Accounts}
 use Rattle.usb_host.specs.Agreement.{Agrees}
 use Rattle.usb_host.specs.HostState.{HostState}
 use Rattle.usb_host.specs.Transfers.{table_in}
-use Rattle.usb_host.proofs.Agreements.{nested_without}
-use Rattle.usb_host.proofs.RisingEntries.{rises_without}
+use Rattle.usb_host.proofs.entries.Agreements.{nested_without}
+use Rattle.usb_host.proofs.entries.RisingEntries.{rises_without}
 use Rattle.usb_host.proofs.host.Host.forget.Goals as goal
 
 -- what is left agrees with the addresses that are left

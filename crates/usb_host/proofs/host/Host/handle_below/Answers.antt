@@ -4,9 +4,9 @@ use Rattle.usb_port.specs.Order.{parent_of}
 use Rattle.usb_port.specs.Path.{IsPortNumber}
 use Rattle.usb_port.proofs.Interface.{parent}
 use Rattle.usb_table.specs.KnownPorts.{known_port}
-use Rattle.usb_host.proofs.HandlingPayments.{number_handled, number_stops, number_unknown}
-use Rattle.usb_host.proofs.Hubs.{below_due}
-use Rattle.usb_host.proofs.Services.{pushed_part}
+use Rattle.usb_host.proofs.payments.HandlingPayments.{number_handled, number_stops, number_unknown}
+use Rattle.usb_host.proofs.knowledge.Hubs.{below_due}
+use Rattle.usb_host.proofs.services.Services.{pushed_part}
 use Rattle.usb_host.proofs.host.Host.handle_below.Goals as goal
 
 pub returns-then-not-push-clause-handles : goal.returns-then-not-push-clause-handles

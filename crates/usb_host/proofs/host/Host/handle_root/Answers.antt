@@ -3,7 +3,7 @@ use Rattle.usb_world.specs.World.{root_port_at}
 use Rattle.usb_host.specs.Agreement.{Agrees}
 use Rattle.usb_host.specs.HostState.{HostState}
 use Rattle.usb_host.specs.Service.{HandlesPort}
-use Rattle.usb_host.proofs.Hubs.{root_stands}
+use Rattle.usb_host.proofs.knowledge.Hubs.{root_stands}
 use Rattle.usb_host.proofs.host.Host.handle_root.Goals as goal
 
 pub service_port-requires : goal.service_port-requires

@@ -3,11 +3,11 @@ use Rattle.usb_request.specs.Features.{PORT_POWER}
 use Rattle.usb_world.specs.World.{World, roots_of}
 use Rattle.usb_bus.specs.Traces.{Traced, still}
 use Rattle.usb_bus.proofs.Interface.{traced_set}
-use Rattle.usb_host.proofs.Powers.{powered_none, powered_length, powers_one, powered_all, powered_world}
-use Rattle.usb_host.proofs.Agreements.{nested_none}
-use Rattle.usb_host.proofs.RisingEntries.{rises_none}
-use Rattle.usb_host.proofs.Balances.{accounts_none, range_none}
-use Rattle.usb_host.proofs.Openings.{powered_is_opening, owning_opening, sound_opening}
+use Rattle.usb_host.proofs.parts.Powers.{powered_none, powered_length, powers_one, powered_all, powered_world}
+use Rattle.usb_host.proofs.entries.Agreements.{nested_none}
+use Rattle.usb_host.proofs.entries.RisingEntries.{rises_none}
+use Rattle.usb_host.proofs.entries.Balances.{accounts_none, range_none}
+use Rattle.usb_host.proofs.parts.Openings.{powered_is_opening, owning_opening, sound_opening}
 use Rattle.usb_host.specs.HostState.{HostState}
 use Rattle.usb_host.specs.Ownership.{HostMapHolds}
 use Rattle.usb_host.specs.Soundness.{HostInvariant}

@@ -1,4 +1,4 @@
-use Rattle.usb_host.proofs.RestingRounds.{none_right}
+use Rattle.usb_host.proofs.rests.RestingRounds.{none_right}
 use Rattle.usb_host.proofs.host.Host.next_waiting.Goals as goal
 
 pub returns-clause-none : goal.returns-clause-none

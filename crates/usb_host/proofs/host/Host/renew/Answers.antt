@@ -1,5 +1,5 @@
 use Rattle.std.proofs.Common.{arith, refl}
-use Rattle.usb_host.proofs.HubCounts.{hubs-forgot}
+use Rattle.usb_host.proofs.entries.HubCounts.{hubs-forgot}
 use Rattle.usb_host.proofs.PortLooks.{entered_hubs, forgot_placed}
 use Rattle.usb_host.proofs.host.Host.renew.Goals as goal
 

@@ -1,7 +1,7 @@
 use Rattle.std.proofs.Common.{arith, refl}
-use Rattle.usb_host.proofs.Ranks.{rank_most, rank_rises}
+use Rattle.usb_host.proofs.entries.Ranks.{rank_most, rank_rises}
 use Rattle.usb_host.proofs.RoundLoops.{waiting_begin, waiting_cut, waiting_end, waiting_handled}
-use Rattle.usb_host.proofs.RoundPayments.{one_waits}
+use Rattle.usb_host.proofs.payments.RoundPayments.{one_waits}
 use Rattle.usb_host.proofs.host.Host.retry_waiting.Goals as goal
 
 pub waiting-init : goal.waiting-init

@@ -3,7 +3,7 @@ use Rattle.std.specs.Prelude.{IfSome}
 use Rattle.usb_port.specs.Path.{IsPath}
 use Rattle.usb_host.specs.Soundness.{NoneWait}
 use Rattle.usb_host.specs.declared.host.Round.TheVariants.{Quiet}
-use Rattle.usb_host.proofs.Ranks.{rank_after}
+use Rattle.usb_host.proofs.entries.Ranks.{rank_after}
 use Rattle.usb_host.proofs.RoundLoops.{WaitingHandled}
 use Rattle.usb_host.proofs.host.Host.retry_waiting.Given as goal
 

@@ -4,15 +4,15 @@ use Rattle.std.proofs.lemmas.Grind.{common_steps}
 use Rattle.usb_host.specs.Bounds.{round_bound}
 use Rattle.usb_host.specs.Budget.{PaysRound}
 use Rattle.usb_host.specs.HostState.{HostState}
-use Rattle.usb_host.proofs.RoundPayments.{pays_stopped, stopped_pays}
+use Rattle.usb_host.proofs.payments.RoundPayments.{pays_stopped, stopped_pays}
 use Rattle.usb_host.specs.Progress.{HostSteps}
 use Rattle.usb_host.specs.Service.{DidParts}
 use Rattle.usb_host.specs.Soundness.{RoundsSound}
-use Rattle.usb_host.proofs.IdleRounds.{round_rests}
+use Rattle.usb_host.proofs.rests.IdleRounds.{round_rests}
 use Rattle.usb_host.proofs.StepSums.{host_goes_none}
-use Rattle.usb_host.proofs.Owners.{round_owning}
-use Rattle.usb_host.proofs.RoundServices.{parts_done}
-use Rattle.usb_host.proofs.Soundness.{rounds_stopped}
+use Rattle.usb_host.proofs.devices.Owners.{round_owning}
+use Rattle.usb_host.proofs.services.RoundServices.{parts_done}
+use Rattle.usb_host.proofs.knowledge.Soundness.{rounds_stopped}
 use Rattle.usb_host.proofs.host.Host.round.Goals as goal
 
 pub returns-then-self-clause-stopped : goal.returns-then-self-clause-stopped

@@ -5,7 +5,7 @@ use Rattle.usb_table.specs.Listing.{hub_facts_at}
 use Rattle.usb_host.specs.HostState.{HostState}
 use Rattle.usb_host.specs.Service.{first_byte}
 use Rattle.usb_host.proofs.HubPolls.{poll_cut, poll_lost, poll_quiet, poll_served, poll_undropped, poll_unserved}
-use Rattle.usb_host.proofs.HubServices.{failed_more}
+use Rattle.usb_host.proofs.services.HubServices.{failed_more}
 use Rattle.usb_host.proofs.host.Host.serve_hub.Goals as goal
 
 pub returns-in-Ok-None-clause-polls : goal.returns-in-Ok-None-clause-polls

@@ -1,8 +1,8 @@
 use Rattle.std.proofs.Common.{arith, refl}
 use Rattle.usb_table.specs.Findings.{is_hub}
-use Rattle.usb_host.proofs.IdleRounds.{none_next}
-use Rattle.usb_host.proofs.Ranks.{rank_most, rank_rises}
-use Rattle.usb_host.proofs.RestingRounds.{next_listed}
+use Rattle.usb_host.proofs.rests.IdleRounds.{none_next}
+use Rattle.usb_host.proofs.entries.Ranks.{rank_most, rank_rises}
+use Rattle.usb_host.proofs.rests.RestingRounds.{next_listed}
 use Rattle.usb_host.proofs.RoundLoops.{hubs_begin, hubs_cut, hubs_all_handled, hubs_handled}
 use Rattle.usb_host.proofs.host.Host.serve_hubs.Goals as goal
 

@@ -1,6 +1,6 @@
 use Rattle.std.proofs.Common.{arith}
 use Rattle.usb_host.proofs.StepSums.{host_goes_none}
-use Rattle.usb_host.proofs.Owners.{stays_owned_none}
+use Rattle.usb_host.proofs.devices.Owners.{stays_owned_none}
 use Rattle.usb_host.proofs.host.Host.serve_own.Goals as goal
 
 pub returns-then-not-push-clause-serves : goal.returns-then-not-push-clause-serves

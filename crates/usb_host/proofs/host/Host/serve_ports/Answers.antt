@@ -1,5 +1,5 @@
 use Rattle.std.proofs.Common.{arith}
-use Rattle.usb_host.proofs.HubServices.{bit_not, bit_so}
+use Rattle.usb_host.proofs.services.HubServices.{bit_not, bit_so}
 use Rattle.usb_host.proofs.RoundLoops.{ports_begin, ports_clear, ports_cut, ports_end, ports_handled}
 use Rattle.usb_host.proofs.host.Host.serve_ports.Goals as goal
 use Rattle.usb_host.proofs.host.Host.serve_ports.Goals.{then-bits-number-eq1+in_ok-handle_below, else-bits-number-eq1}

@@ -4,8 +4,8 @@ use Rattle.slab.specs.Slab.{get}
 use Rattle.usb_table.specs.Findings.{HasDevice, HasNoDevice}
 use Rattle.usb_table.specs.Keys.{findings, key_of_address}
 use Rattle.usb_table.specs.Table.{Table}
-use Rattle.usb_table.proofs.Addresses.{addressed_stands, has_device, key_of_address-no_device}
-use Rattle.usb_table.proofs.Keys.{findings-standing, some_standing}
+use Rattle.usb_table.proofs.entries.Addresses.{addressed_stands, has_device, key_of_address-no_device}
+use Rattle.usb_table.proofs.entries.Keys.{findings-standing, some_standing}
 use Rattle.usb_table.proofs.table.DeviceTable.at_address.Goals as goal
 
 pub index-requires : goal.index-requires

@@ -7,8 +7,8 @@ use Rattle.slab.specs.Slab.{get}
 use Rattle.usb_port.specs.Order.{path_cmp}
 use Rattle.usb_table.specs.Keys.{findings}
 use Rattle.usb_table.specs.Table.{Table, ArePipesAt}
-use Rattle.usb_table.proofs.Keys.{entries_rise, some_standing}
-use Rattle.usb_table.proofs.PipeCalls.{are_pipes_at}
+use Rattle.usb_table.proofs.entries.Keys.{entries_rise, some_standing}
+use Rattle.usb_table.proofs.levels.PipeCalls.{are_pipes_at}
 use Rattle.usb_table.proofs.table.DeviceTable.entries.Goals as goal
 
 pub index-requires : goal.index-requires

@@ -9,7 +9,7 @@ use Rattle.usb_table.specs.Keys.{IsPiped, findings, key_of_path, key_of_address,
 use Rattle.usb_table.specs.KnownPorts.{is_below_hub}
 use Rattle.usb_table.specs.Pipes.{ArePipesOf, new_pipes}
 use Rattle.usb_table.specs.Table.{Table, entered}
-use Rattle.usb_table.proofs.NewEntries.{came_indexes, came_piped, came_table, away_key, free_key}
+use Rattle.usb_table.proofs.entries.NewEntries.{came_indexes, came_piped, came_table, away_key, free_key}
 use Rattle.usb_table.proofs.table.DeviceTable.insert.Goals as goal
 
 on_err : {A E : Type 0} (r : Result A E) (P : Type 0) → P → OnErr r P

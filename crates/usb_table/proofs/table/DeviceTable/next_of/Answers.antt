@@ -12,8 +12,8 @@ use Rattle.usb_port.specs.Order.{path_cmp}
 use Rattle.usb_table.specs.Keys.{PathKeys, findings, finding_under, entries_of}
 use Rattle.usb_table.specs.Table.{Table}
 use Rattle.usb_table.specs.Kinds.{fits}
-use Rattle.usb_table.proofs.Keys.{entries_rise, finding_stands, findings-standing, some_standing}
-use Rattle.usb_table.proofs.NextEntries.{first_from, first_behind, next_is, last_is}
+use Rattle.usb_table.proofs.entries.Keys.{entries_rise, finding_stands, findings-standing, some_standing}
+use Rattle.usb_table.proofs.entries.NextEntries.{first_from, first_behind, next_is, last_is}
 use Rattle.usb_table.proofs.table.DeviceTable.next_of.Goals as goal
 
 pub entries-init : goal.entries-init

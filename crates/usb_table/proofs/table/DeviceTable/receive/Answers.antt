@@ -4,7 +4,7 @@ use Rattle.usb_bus.specs.Traces.{still}
 use Rattle.usb_table.specs.declared.pipes.Pipes.{Pipes}
 use Rattle.usb_table.specs.declared.fault.EndpointFault.TheVariants.{NoDevice}
 use Rattle.usb_table.specs.Transfers.{PipesReceived}
-use Rattle.usb_table.proofs.PipeCalls.{CallThrough, faces_at, through_none, through_slot}
+use Rattle.usb_table.proofs.levels.PipeCalls.{CallThrough, faces_at, through_none, through_slot}
 use Rattle.usb_table.proofs.TransferLeaves.{table_receives}
 use Rattle.usb_table.proofs.table.DeviceTable.receive.Goals as goal
 

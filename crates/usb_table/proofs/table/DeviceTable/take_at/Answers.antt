@@ -9,8 +9,8 @@ use Rattle.usb_port.specs.Order.{path_cmp}
 use Rattle.usb_table.specs.Findings.{address_found}
 use Rattle.usb_table.specs.Keys.{PathKeys, findings, key_of_path, UpdatesAddress}
 use Rattle.usb_table.specs.Table.{removed}
-use Rattle.usb_table.proofs.Keys.{entries_of-key, findings-standing, entries-has_at}
-use Rattle.usb_table.proofs.RemovedEntries.{gone_indexes, gone_piped, gone_table}
+use Rattle.usb_table.proofs.entries.Keys.{entries_of-key, findings-standing, entries-has_at}
+use Rattle.usb_table.proofs.entries.RemovedEntries.{gone_indexes, gone_piped, gone_table}
 use Rattle.usb_table.proofs.table.DeviceTable.take_at.Goals as goal
 
 on_none : {A : Type 0} (r : Option A) (P : Type 0) → P → IfNone r P

@@ -1,0 +1,6 @@
+-- The device at a port.
+pub mod Enumerations
+pub mod Frames
+pub mod Presence
+pub mod ReachedDevices
+pub mod SharedAddresses

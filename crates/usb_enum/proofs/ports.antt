@@ -1,0 +1,4 @@
+-- What calls and requests leave of ports.
+pub mod Hubs
+pub mod Ports
+pub mod Powers

@@ -1,0 +1,72 @@
+-- What the end of an enumeration that is given up leaves.
+use Rattle.std.proofs.Common.{◌≡◌, ℕ, List, Option, None, Result, Ok, Err, refl, subst, sym}
+use Rattle.std.specs.Prelude.{IfErr, IsErrAnd}
+use Rattle.usb_port.specs.Calls.{clear_call}
+use Rattle.usb_request.specs.Features.{PORT_ENABLE}
+use Rattle.usb_world.specs.World.{World}
+use Rattle.usb_bus.specs.Traces.{StepRun}
+use Rattle.usb_pipe.specs.declared.fault.PipeFault.{PipeFault}
+use Rattle.usb_pipe.specs.Control.{FaultAfter}
+use Rattle.usb_hub.specs.declared.port.HubPort.{HubPort}
+use Rattle.usb_hub.specs.Addresses.{KeepsCleared}
+use Rattle.usb_hub.specs.Moments.{CommandsPort}
+use Rattle.usb_enum.specs.declared.cause.Cause.{Cause}
+use Rattle.usb_enum.specs.declared.fault.EnumFault.{EnumFault}
+use Rattle.usb_enum.specs.declared.finding.Finding.{Finding}
+use Rattle.usb_enum.specs.declared.finding.Finding.TheVariants.{Refused as RefusedFinding}
+use Rattle.usb_enum.specs.declared.stop.Stop.{Stop}
+use Rattle.usb_enum.specs.declared.stop.Stop.TheVariants.{Refused, Fault}
+use Rattle.usb_enum.specs.Addresses.{AtPort, OnlyCalls, Within}
+use Rattle.usb_enum.specs.Findings.{Closes}
+use Rattle.usb_enum.specs.FairEnumerations.{Faulted}
+use Rattle.usb_enum.specs.Losses.{NoNewStretch}
+use Rattle.usb_enum.specs.Stop.{at_port, FaultAllowedAt}
+use Rattle.usb_enum.proofs.stops.Endings.{ends_refused, ends_fault}
+use Rattle.usb_enum.proofs.devices.Enumerations.{within_none, within_kept}
+use Rattle.usb_enum.proofs.courses.Fairness.{called_faulted}
+use Rattle.usb_enum.proofs.devices.Frames.{calls_none, disable_calls}
+use Rattle.usb_enum.proofs.devices.ReachedDevices.{disables_none, clear_enable_disables}
+
+-- nothing was called
+pub closed_fault : (port : HubPort) (address : ℕ) (why : EnumFault) (w : World) → Closes port address (Fault why) w (Err why) w
+closed_fault port address why w = record {
+  ends = ends_fault port address w w why (within_none port address w);
+  only = calls_none port address w;
+  there = disables_none port address w why w;
+  lost = λ cause other is e. absurd cc;
+}
+
+module _ (port : HubPort) (address : ℕ) (cause : Cause) (old : World) (outcome : Result (Unit {0}) PipeFault) (new : World) (ends : IfErr outcome (λ why. FaultAfter 1 old why new)) (calls : CommandsPort port (clear_call PORT_ENABLE) old outcome new)
+    (keeps : KeepsCleared port PORT_ENABLE old outcome new) where
+  pub closed_refused : outcome ≡ Ok tt → Closes port address (Refused cause) old (Ok (RefusedFinding cause)) new
+  closed_refused done = record {
+    ends = ends_refused port address old new cause (keeps.bare refl done);
+    only = disable_calls port address old outcome new ends calls keeps;
+    there = clear_enable_disables port address cause old outcome new calls done;
+    lost = λ other why is e. absurd cc;
+  }
+
+  pub closed_lost : (n : ℕ) (why : EnumFault) {a b : Option (List ℕ)} → StepRun n old a new b → Err why ≡ at_port outcome → FaultAllowedAt port why new → (new.fault ≡ None → NoNewStretch old new) → Closes port address (Refused cause) old (Err why) new
+  closed_lost n why went told fault goes = record {
+    ends = ends_fault port address old new why within;
+    only = only;
+    there = disables_none port address old why new;
+    lost = λ other given is e. subst (λ x. Faulted port address x old new) (same why given e) (called_faulted port address n (clear_call PORT_ENABLE) why went at fault (record { outcome = outcome; told = told; calls = calls; goes = goes }));
+  }
+    where
+      within : Within port address old new
+      within = within_kept port address old new keeps.keeps
+
+      only : OnlyCalls port address old new
+      only = disable_calls port address old outcome new ends calls keeps
+
+      at : AtPort port address old new
+      at = record { within = within; only = only }
+
+      same : (x y : EnumFault) → (let r : Result Finding EnumFault = Err x in r ≡ Err y) → x ≡ y
+      same x y e = cc
+
+-- an error that is handed on
+pub closed_handed : (port : HubPort) (address : ℕ) (stop : Stop) (old : World) (r : Result Finding EnumFault) (why : EnumFault) (new : World) → IsErrAnd r (λ e. e ≡ why) → Closes port address stop old (Err why) new → Closes port address stop old r new
+closed_handed port address stop old (Ok x) why new same closes = absurd same
+closed_handed port address stop old (Err e) why new same closes = subst (λ x. Closes port address stop old (Err x) new) (sym same) closes

@@ -1,0 +1,4 @@
+-- The verdict on a device.
+pub mod VerdictCauses
+pub mod VerdictExamples
+pub mod VerdictRows

@@ -1,0 +1,9 @@
+-- The entries of the table.
+pub mod Agreements
+pub mod Balances
+pub mod EntryClaims
+pub mod HubCounts
+pub mod Ranks
+pub mod RisingEntries
+pub mod Roots
+pub mod WaitingDevices

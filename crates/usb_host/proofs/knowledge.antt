@@ -1,0 +1,14 @@
+-- What a host knows stays so.
+pub mod DroppedHubs
+pub mod FinishedPorts
+pub mod FoundDevices
+pub mod Hubs
+pub mod KnowledgeKept
+pub mod Places
+pub mod RestedWorlds
+pub mod ServedPorts
+pub mod Servers
+pub mod SettledListings
+pub mod Soundness
+pub mod TidiedPorts
+pub mod ToldBits

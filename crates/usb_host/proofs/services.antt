@@ -1,0 +1,5 @@
+-- What is done at the ports.
+pub mod HubServices
+pub mod RoundServices
+pub mod ServedWork
+pub mod Services

@@ -1,0 +1,149 @@
+-- How the parts of a round join as what was done in it.
+use Rattle.std.proofs.Common.{◌≡◌, ◌∙◌, ◌+◌, arith, refl, sym, ap, subst, Bool, false, List, ℕ, Option, Some, Result, Ok, Err, is_err}
+use Rattle.std.specs.Prelude.{[], IfOk, IsErr}
+use Rattle.usb_table.specs.NextEntries.{ComesAfter}
+use Rattle.usb_world.specs.PlanData.{PlanData}
+use Rattle.usb_world.specs.World.{changes, root_row}
+use Rattle.usb_enum.proofs.Interface.{went_sound}
+use Rattle.usb_host.specs.Bounds.{hubs_bound, looks_bound, roots_bound, round_bound}
+use Rattle.usb_host.specs.Budget.{Affords, PaysRound, Weights}
+use Rattle.usb_host.specs.HostState.{HostState}
+use Rattle.usb_host.specs.Ports.{Waits}
+use Rattle.usb_host.specs.Progress.{HostProgress, Did, Remains, either}
+use Rattle.usb_host.specs.Service.{DidParts, LookedAgain, LookedOnce, LooksAgain, ServesEach, ServesHubs, WentByParts, next_device}
+use Rattle.usb_host.specs.Soundness.{Part}
+use Rattle.usb_host.specs.declared.fault.HostFault.{HostFault}
+use Rattle.usb_host.specs.declared.host.Round.{Round}
+use Rattle.usb_host.specs.declared.host.Round.TheVariants.{Worked, Quiet}
+use Rattle.usb_host.proofs.rests.IdleRounds.{all_idle, hubs_idle, looks_idle, roots_idle}
+use Rattle.usb_host.proofs.StepSums.{did_then}
+use Rattle.usb_host.proofs.RoundParts.{part-fails, part-then, parts_fail, parts_keep}
+use Rattle.usb_host.proofs.rests.RestingRounds.{ok_is, quiet_first}
+use Rattle.usb_host.proofs.payments.RoundPayments.{hubs_fail, looks_fail, parts_pay, roots_fail}
+
+-- A second look
+
+either_worked : (r : Round) → either r Worked ≡ Worked
+either_worked Worked = refl
+either_worked Quiet = refl
+
+pub looked_then : (last : Option (List ℕ)) (path : List ℕ) (before round : Round) (a b c : HostState) → LookedAgain last before a b → Waits path b → ComesAfter last path → round ≡ Worked → LookedOnce path b c → LookedAgain (Some path) (either before round) a c
+looked_then last path before round a b c looked waits after is once =
+    let worked : either before round ≡ Worked = ap (either before) is ∙ either_worked before in
+    subst (λ (r : Round). LookedAgain (Some path) r a c) (sym worked) (next_device last path before looked waits after once)
+
+-- The parts
+
+parts_failed : (result : Result Round HostFault) (a b : HostState) → IsErr result
+    → Part round_bound a result b
+    → ((c : Weights) (plan : PlanData) → Affords c plan a → PaysRound c plan a result b)
+    → (a.entries ≡ [] → changes (root_row a.world) ≡ 0 → ⊥) → WentByParts a result b
+parts_failed (Ok round) a b e part pays idle = absurd (cc e)
+parts_failed (Err fault) a b e part pays idle = record {
+  keeps = parts_fail (Err fault) a b refl part;
+  did = tt;
+  none = λ is. absurd (cc is);
+  parts = tt;
+  pays = pays;
+  idle = λ entries none. absurd (idle entries none);
+}
+
+module _ (a b : HostState) where
+  -- the root ports failed
+  pub parts_rootless : (fault : HostFault) (other : Result Round HostFault) → IsErr other
+      → ServesEach a (Err fault) b → WentByParts a other b
+  parts_rootless fault other e x =
+      parts_failed other a b e (part-fails round_bound roots_bound a b fault other x.part e
+      (omega arith)) (λ c plan w. roots_fail c plan a b (Err fault) other e x.pays w)
+      (λ entries none. roots_idle a entries none b fault x.idle)
+
+  module _ (roots : Round) (x : ServesEach a (Ok roots) b) (d : HostState) where
+    -- the hubs failed
+    pub parts_hubless : (fault : HostFault) (other : Result Round HostFault) → IsErr other
+        → ServesHubs b (Err fault) d → WentByParts a other d
+    parts_hubless fault other e y =
+        parts_failed other a d e (part-fails round_bound (roots_bound + hubs_bound) a d fault other
+        (part-then (roots_bound + hubs_bound) roots_bound hubs_bound a b d roots _ x.part
+        y.keeps.part (omega arith)) e (omega arith))
+        (λ c plan w. hubs_fail roots_bound roots a b x.part.goes.went x.part.sound x.pays hubs_bound
+        d y.keeps.part.goes.went c plan (Err fault) other e y.pays w)
+        (λ entries none. hubs_idle a entries none b roots x.idle d fault y.idle)
+
+    module _ (hubs : Round) (y : ServesHubs b (Ok hubs) d) (f : HostState) where
+      both_served : Part (roots_bound + hubs_bound) a (Ok hubs) d
+      both_served = part-then (roots_bound + hubs_bound) roots_bound hubs_bound a b d roots
+          (Ok hubs) x.part y.keeps.part (omega arith)
+
+      -- the second looks failed
+      pub parts_lookless : (fault : HostFault) (other : Result Round HostFault) → IsErr other
+          → LooksAgain d (Err fault) f → WentByParts a other f
+      parts_lookless fault other e z =
+          parts_failed other a f e (part-fails round_bound round_bound a f fault other
+          (part-then round_bound (roots_bound + hubs_bound) looks_bound a d f hubs _ both_served
+          z.keeps.part (omega arith)) e (omega arith))
+          (λ c plan w. looks_fail roots_bound roots a b x.part.goes.went x.part.sound x.pays
+          hubs_bound d y.keeps.part.goes.went hubs y.keeps.part.sound y.pays looks_bound f
+          z.keeps.part.goes.went c plan (Err fault) other e z.keeps w)
+          (λ entries none. looks_idle a entries none b roots x.idle d hubs y.idle f fault
+          z.keeps.idle)
+
+      -- all was done
+      pub parts_made : (looks : Round) → LooksAgain d (Ok looks) f
+          → WentByParts a (Ok (either (either roots hubs) looks)) f
+      parts_made looks z = record {
+        keeps = parts_keep roots hubs looks a b d f (λ is. x.serves.none (ok_is roots Quiet is))
+            x.part y.keeps z.keeps;
+        did = did_then (roots_bound + hubs_bound) looks_bound (either roots hubs) looks a d f
+            both_served.goes z.keeps.part.goes
+            (did_then roots_bound hubs_bound roots hubs a b d x.part.goes y.keeps.part.goes
+            x.serves.did y.did) z.did;
+        none = λ is.
+            let both = quiet_first (either roots hubs) looks
+            (ok_is (either (either roots hubs) looks) Quiet is) in
+            (x.serves.none (quiet_first roots hubs both)).none;
+        parts = λ s still.
+            let before = x.part.sound.sound.sound s in
+            record {
+              roots = roots;
+              first = b;
+              served = x.serves.served s;
+              hubs = hubs;
+              second = d;
+              polled = y.polls before
+                  (went_sound looks_bound d.world f.world z.keeps.part.goes.went still);
+              looks = looks;
+              looked = z.looked (y.keeps.part.sound.sound.sound before);
+              is = refl;
+            };
+        pays = λ c plan w.
+            parts_pay roots_bound roots a b x.part.goes.went x.part.sound x.pays hubs_bound d
+            y.keeps.part.goes.went hubs y.keeps.part.sound y.pays looks_bound f
+            z.keeps.part.goes.went c plan looks z.keeps w;
+        idle = λ entries none.
+            all_idle a entries none b roots x.idle d hubs y.idle f looks z.keeps.idle;
+      }
+
+did_worked : (r : Round) (a b : HostState) → Did r a b → r ≡ Worked → HostProgress a b
+did_worked Worked a b did is = did
+did_worked Quiet a b did is = absurd (cc is)
+
+did_quiet : (r : Round) (a b : HostState) → Did r a b → r ≡ Quiet → Remains a b
+did_quiet Worked a b did is = absurd (cc is)
+did_quiet Quiet a b did is = did
+
+-- a host that has not stopped goes on
+pub parts_done : (result : Result Round HostFault) (a b : HostState) (stopped : Bool)
+    → a.stopped ≡ false → stopped ≡ is_err result → WentByParts a result b
+    → IfOk result (λ round. DidParts round a (record b { stopped = stopped }))
+parts_done (Ok round) a b stopped going is went =
+    let same : stopped ≡ b.stopped = is ∙ sym (went.keeps.part.goes.going ∙ going) in
+    subst (λ (x : Bool). DidParts round a (record b { stopped = x })) (sym same) (record {
+      did = record {
+        worked = did_worked round a b went.did;
+        quiet = λ quiet.
+            (did_quiet round a b went.did quiet, went.none (ap (λ (r : Round). Ok r) quiet));
+        rooted = went.keeps.part.owned.rooted;
+      };
+      parts = went.parts;
+    })
+parts_done (Err fault) a b stopped going is went = tt

@@ -1,0 +1,6 @@
+-- What a course of steps keeps.
+pub mod KnowledgeKept
+pub mod Ownership
+pub mod RoundEnds
+pub mod RunCourses
+pub mod RunParts

@@ -1,0 +1,3 @@
+-- How runs end.
+pub mod Causes
+pub mod Ends

@@ -1,0 +1,24 @@
+-- The lines of items.
+use Rattle.std.specs.Prelude.{◌≡◌, ℕ, ◌+◌, List, [], ◌∷◌, ◌++◌}
+use Rattle.usb_run.specs.declared.runs.Item.{Item}
+use Rattle.usb_run.specs.declared.runs.Item.TheVariants.{Listing, Sent, Received, Cleared}
+use Rattle.usb_run.specs.TransferLines.{sent_line, received_line, cleared_line}
+use Rattle.usb_text.specs.ListingLines.{listing_lines}
+
+-- the lines of an item; the number is that of a listing
+abbrev pub item_lines : ℕ → Item → List (List ℕ)
+item_lines number (Listing entries taken) = listing_lines number entries
+item_lines number (Sent path sent) = sent_line path sent ∷ []
+item_lines number (Received path received) = received_line path received ∷ []
+item_lines number (Cleared path cleared) = cleared_line path cleared ∷ []
+
+-- listings alone are numbered
+abbrev pub number_of : Item → ℕ → ℕ
+number_of (Listing entries taken) number = number + 1
+number_of (Sent path sent) number = number
+number_of (Received path received) number = number
+number_of (Cleared path cleared) number = number
+
+-- bytes that end in a newline
+abbrev pub IsLine : List ℕ → Type 0
+IsLine line = (front : List ℕ) × (line ≡ front ++ 10 ∷ [])

@@ -1,0 +1,57 @@
+-- What runs leave of a bus's world.
+use Rattle.std.specs.Prelude.{◌≡◌, ℕ, ◌+◌, Some, Bool, false, Result, OnOk, IfErr, if◌then◌else◌}
+use Rattle.usb_world.specs.PlanData.{PlanData}
+use Rattle.usb_world.specs.World.{World, AttemptsWithin, to_come}
+use Rattle.usb_world.specs.declared.types.BusFault.{BusFault}
+use Rattle.usb_world.specs.declared.types.BusFault.TheVariants as bus
+use Rattle.usb_host.specs.declared.fault.HostFault.{HostFault}
+use Rattle.usb_host.specs.declared.fault.HostFault.TheVariants as host
+use Rattle.usb_host.specs.HostState.{HostState}
+use Rattle.usb_run.specs.declared.runs.Item.{Item}
+use Rattle.usb_run.specs.declared.runs.Item.TheVariants.{Listing}
+use Rattle.usb_run.specs.declared.runs.RunFault.{RunFault}
+use Rattle.usb_run.specs.declared.runs.RunFault.TheVariants.{LimitReached, Memory, TraceFailed}
+
+-- no attempt was made yet
+pub record IsBegun (plan : PlanData) (w : World) : Type 0 where
+  pub attempts : w.attempts ≡ 0
+  pub limit : w.limit ≡ plan.limit
+
+-- what a fault of the bus is to a run
+abbrev pub run_fault : BusFault → RunFault
+run_fault bus.LimitReached = LimitReached
+run_fault bus.Memory = Memory
+run_fault bus.TraceFailed = TraceFailed
+
+-- what the fault of a round is to a run
+abbrev pub round_fault : HostFault → RunFault
+round_fault host.Stopped = Memory
+round_fault host.NoDevice = Memory
+round_fault host.NoEndpoint = Memory
+round_fault (host.Pipe fault) = Memory
+round_fault (host.Bus fault) = run_fault fault
+round_fault host.Memory = Memory
+
+-- a fault of a run is told only where its cause stands: the limit where the attempts equal it and the bus gave one up for it, the trace where the bus could not write it
+abbrev pub IsCaused : RunFault → World → Type 0
+IsCaused LimitReached w = (w.attempts ≡ w.limit) × (w.fault ≡ Some bus.LimitReached)
+IsCaused Memory w = Unit {0}
+IsCaused TraceFailed w = w.fault ≡ Some bus.TraceFailed
+
+-- a part of a run that goes so: its host goes on where no fault is told, and a fault has its cause
+pub record RunsOn {A : Type 0} (Goes : HostState → Result A RunFault → HostState → Type 0) (old : HostState) (result : Result A RunFault) (new : HostState) : Type 0 where
+  pub goes : Goes old result new
+  pub running : OnOk result (new.stopped ≡ false)
+  pub caused : IfErr result (λ fault. IsCaused fault new.world)
+
+-- attempts were made within the limit, and no event was added
+abbrev pub Spent : HostState → HostState → Type 0
+Spent old new = (n : ℕ) × AttemptsWithin n old.world new.world
+
+-- how many items are to come at most
+abbrev pub items_left : Bool → World → ℕ
+items_left over w = to_come w + (if over then 0 else 1)
+
+-- what the host has found, and how many events had come
+abbrev pub listing_of : HostState → Item
+listing_of h = Listing h.entries h.world.taken

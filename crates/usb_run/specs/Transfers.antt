@@ -1,0 +1,96 @@
+-- What a run makes of an event that has come, and what a transfer comes to.
+use Rattle.std.specs.Prelude.{◌≡◌, ℕ, length, Option, Some, None, Result, Ok, Err}
+use Rattle.std.specs.Global.{Vec}
+use Rattle.usb_world.specs.declared.event.Ask.{Ask}
+use Rattle.usb_world.specs.declared.event.Ask.TheVariants.{Show, Send, Receive, Clear}
+use Rattle.usb_pipe.specs.declared.fault.PipeFault.{PipeFault}
+use Rattle.usb_pipe.specs.declared.fault.PipeFault.TheVariants as pipe
+use Rattle.usb_host.specs.declared.fault.HostFault.{HostFault}
+use Rattle.usb_host.specs.declared.fault.HostFault.TheVariants as host
+use Rattle.usb_host.specs.HostCalls.{ClearTells, ReceiveTells, SendTells}
+use Rattle.usb_host.specs.HostState.{HostState}
+use Rattle.usb_run.specs.declared.runs.Item.{Item}
+use Rattle.usb_run.specs.declared.runs.Item.TheVariants.{Sent, Received, Cleared}
+use Rattle.usb_run.specs.declared.runs.RunFault.{RunFault}
+use Rattle.usb_run.specs.declared.runs.RunFault.TheVariants.{Memory}
+use Rattle.usb_run.specs.declared.transfer.TransferFault.{TransferFault}
+use Rattle.usb_run.specs.declared.transfer.TransferFault.TheVariants as transfer
+use Rattle.usb_run.specs.Run.{run_fault, listing_of}
+
+abbrev pub answer_of_pipe : PipeFault → Result TransferFault RunFault
+answer_of_pipe pipe.Stalled = Ok transfer.Stalled
+answer_of_pipe pipe.Busy = Ok transfer.Busy
+answer_of_pipe pipe.NoAnswer = Ok transfer.NoAnswer
+answer_of_pipe pipe.Broken = Ok transfer.Broken
+answer_of_pipe (pipe.Bus fault) = Err (run_fault fault)
+answer_of_pipe pipe.Memory = Err Memory
+
+-- the host's faults of a transfer are its answers; those after which the host stops end the run
+abbrev pub fault_in_run : HostFault → Result TransferFault RunFault
+fault_in_run host.Stopped = Err Memory
+fault_in_run host.NoDevice = Ok transfer.NoDevice
+fault_in_run host.NoEndpoint = Ok transfer.NoEndpoint
+fault_in_run (host.Pipe fault) = answer_of_pipe fault
+fault_in_run (host.Bus fault) = Err (run_fault fault)
+fault_in_run host.Memory = Err Memory
+
+abbrev pub failed : {A : Type 0} → Result TransferFault RunFault → Result (Result A TransferFault) RunFault
+failed (Ok fault) = Ok (Err fault)
+failed (Err fault) = Err fault
+
+-- what a transfer came to, where it did not end the run
+abbrev pub transfer_ended : {A : Type 0} → Result A HostFault → Result (Result A TransferFault) RunFault
+transfer_ended (Ok done) = Ok (Ok done)
+transfer_ended (Err fault) = failed (fault_in_run fault)
+
+-- how many bytes were sent, where they were
+abbrev pub sent_count : ℕ → Result (Unit {0}) TransferFault → Result ℕ TransferFault
+sent_count count (Ok done) = Ok count
+sent_count count (Err fault) = Err fault
+
+-- One call
+
+-- the host made one call, and this is told of it
+pub record Transfers {A : Type 0} (Tells : HostState → Result A HostFault → HostState → Type 0) (old : HostState) (told : Result A TransferFault) (new : HostState) : Type 0 where
+  pub answer : Result A HostFault
+  pub call : Tells old answer new
+  pub tells : transfer_ended answer ≡ Ok told
+
+-- the host made one call, and its fault ends the run
+pub record TransferStops {A : Type 0} (Tells : HostState → Result A HostFault → HostState → Type 0) (old : HostState) (fault : RunFault) (new : HostState) : Type 0 where
+  pub answer : Result A HostFault
+  pub call : Tells old answer new
+  pub tells : transfer_ended answer ≡ Err fault
+
+-- What a run makes of an event
+
+-- nothing of a change, a listing at once where the host is to list, and of a transfer to the device at a path what it came to
+abbrev pub IsItemOf : Option Ask → Option Item → HostState → HostState → Type 0
+IsItemOf None item old new = (item ≡ None) × (new ≡ old)
+IsItemOf (Some Show) item old new = (item ≡ Some (listing_of new)) × (new ≡ old)
+IsItemOf (Some (Send path bytes)) item old new =
+    (told : Result (Unit {0}) TransferFault) × (item ≡ Some (Sent path (sent_count (length bytes) told)))
+    × Transfers (SendTells path bytes) old told new
+IsItemOf (Some (Receive path packets)) item old new =
+    (told : Result (Vec ℕ) TransferFault) × (item ≡ Some (Received path told))
+    × Transfers (ReceiveTells path packets) old told new
+IsItemOf (Some (Clear path)) item old new =
+    (told : Result (Unit {0}) TransferFault) × (item ≡ Some (Cleared path told))
+    × Transfers (ClearTells path) old told new
+
+-- no item of it: memory was refused for a listing, or a transfer ended the run
+abbrev pub StopsAt : Option Ask → RunFault → HostState → HostState → Type 0
+StopsAt None fault old new = ⊥
+StopsAt (Some Show) fault old new = (fault ≡ Memory) × (new ≡ old)
+StopsAt (Some (Send path bytes)) fault old new = TransferStops (SendTells path bytes) old fault new
+StopsAt (Some (Receive path packets)) fault old new = TransferStops (ReceiveTells path packets) old fault new
+StopsAt (Some (Clear path)) fault old new = TransferStops (ClearTells path) old fault new
+
+abbrev pub Does : Option Ask → HostState → Result (Option Item) RunFault → HostState → Type 0
+Does due old (Ok item) new = IsItemOf due item old new
+Does due old (Err fault) new = StopsAt due fault old new
+
+-- the item of what is asked, or the fault in its place
+abbrev pub Gives : Ask → HostState → Result Item RunFault → HostState → Type 0
+Gives ask old (Ok item) new = IsItemOf (Some ask) (Some item) old new
+Gives ask old (Err fault) new = StopsAt (Some ask) fault old new

@@ -1,5 +1,0 @@
-use Rattle.usb_serve.proofs.AskedItems.{something_asked}
-use Rattle.usb_serve.proofs.runs.item_of.Goals as goal
-
-pub returns-in-Some-clause-on : goal.returns-in-Some-clause-on
-returns-in-Some-clause-on g c = something_asked _ c.in-Some.ask _ _ _ c.in-Some.is c.asked_item.ensures.on

@@ -1,0 +1,23 @@
+-- How a run with its text ends, to the one who is served.
+use Rattle.std.specs.Prelude.{◌≡◌, List, Bool, Result}
+use Rattle.usb_host.specs.HostState.{HostState}
+use Rattle.usb_run.specs.declared.runs.Item.{Item}
+use Rattle.usb_run.specs.declared.runs.RunFault.{RunFault}
+use Rattle.usb_run.specs.declared.mode.Mode.TheVariants.{Run}
+use Rattle.usb_serve.specs.declared.serving.ServeFault.{ServeFault}
+use Rattle.usb_serve.specs.declared.serving.ServeFault.TheVariants.{Write}
+use Rattle.usb_serve.specs.declared.serving.ServeFault.TheVariants as serve
+use Rattle.usb_run.specs.Transcript.{RunsTo}
+
+-- to the one who is served
+abbrev pub of_run : RunFault → ServeFault
+of_run fault = serve.Run fault
+
+-- where the writer failed in a line of report
+abbrev pub at_write : ServeFault → Type 0
+at_write fault = fault ≡ Write
+
+-- how a run with its text ends, with the items that it made
+pub record RunEnds (was : Bool) (old : HostState) (result : Result (Unit {0}) ServeFault) (new : HostState) : Type 0 where
+  pub items : List Item
+  pub ends : RunsTo Run of_run at_write was old items result new

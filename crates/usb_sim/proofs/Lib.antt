@@ -1,0 +1,4 @@
+pub mod Plans
+pub mod Arrivals
+pub mod Endings
+pub mod OneLines

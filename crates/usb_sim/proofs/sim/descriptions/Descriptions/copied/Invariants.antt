@@ -1,0 +1,6 @@
+use Rattle.std.proofs.Common.{◌≡◌, take}
+use Rattle.std.specs.Prelude.{map}
+use Rattle.usb_sim.proofs.sim.descriptions.Descriptions.copied.Given as goal
+
+abbrev pub invariant-specs : goal.invariant-specs
+invariant-specs l = map (λ spec. spec.value) l.all.items ≡ take l.spec-index l.specs

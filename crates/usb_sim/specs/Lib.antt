@@ -1,0 +1,3 @@
+pub mod Tracer
+pub mod Sim
+pub mod Parts

@@ -1,0 +1,27 @@
+//! What is so of every simulated bus and its trace.
+//!
+//! Each call does nothing; what it ensures is for a reader, and for proofs to cite.
+ghost use Rattle.std.specs.Prelude.{◌≡◌, ◌≢◌, ℕ, List, Some, true};
+ghost use Rattle.usb_bus.specs.Shown.{is_unbroken, shown_name};
+ghost use Rattle.usb_sim.specs.Sim.{world_of, tracer_of};
+ghost use Rattle.usb_bus.specs.Trace.{plug_line};
+ghost use Rattle.usb_bus.specs.Watch.{tells_failure};
+ghost use Rattle.usb_world.specs.declared.types.BusFault.TheVariants.{TraceFailed};
+
+use crate::{SimBus, Trace, Untraced};
+
+/// The trace has failed exactly where this is the fault that was told.
+pub fn trace_fault<T: Trace>(bus: &SimBus<T>)
+    ensures { T.failed (tracer_of bus.now) ≡ tells_failure (world_of bus.now).fault }
+{}
+
+/// A bus that is untraced never told that its trace failed.
+pub fn untraced_fault(bus: &SimBus<Untraced>)
+    ensures { (world_of bus.now).fault ≢ Some TraceFailed }
+{}
+
+/// A plug is one line of the trace, whatever the name of its device holds.
+#[tactic(auto, using(crate::proofs::OneLines::plug_unbroken))]
+pub fn plug_is_one_line()
+    ensures { (path name : List ℕ) → is_unbroken (plug_line path (shown_name name)) ≡ true }
+{}

@@ -1,0 +1,156 @@
+//! The simulated bus as the host sees it.
+ghost use Rattle.std.specs.Prelude.{◌≡◌, ◌+◌, ◌-◌, ◌<◌, ◌≤◌, ◌∷◌, [], length, slice_index_or, true, false, None};
+ghost use Rattle.usb_port.specs.PortState.{off, status_of};
+ghost use Rattle.usb_device.specs.HolderIndex.{IsIndexOf};
+ghost use Rattle.usb_device.specs.Tree.{row_of, changed, called};
+ghost use Rattle.usb_port.specs.Calls.{IsSetFeature, IsClearFeature};
+ghost use Rattle.usb_world.specs.World.{Attempted, IsAttempt, IsRootPort};
+ghost use Rattle.usb_world.specs.Steps.{AttemptFails, SetsRoot, ClearsRoot, after, root_call};
+ghost use Rattle.usb_bus.specs.Traces.{Attempts};
+ghost use Rattle.usb_world.specs.declared.types.BusFault.TheVariants.{TraceFailed};
+
+use super::SimBus;
+use crate::Trace;
+use usb_bus::Bus;
+use usb_device::{Holders, Ports, keeps_enable};
+use usb_port::PortCall;
+use usb_world::{Attempt, BusFault, Outcome, damage_of, make_exchange_by, outcome_of};
+
+impl<T: Trace> Bus for SimBus<T> {
+    ghost use Rattle.usb_sim.specs.Parts.{RefusesAttempt};
+    ghost use Rattle.usb_sim.specs.Sim.{world_of, tracer_of, trace_of};
+
+    ghost modelled = { true };
+
+    ghost world = { world_of };
+
+    ghost trace = { trace_of };
+
+    fn attempt(&mut self, attempt: &Attempt) -> Result<Outcome, BusFault>
+        requires { IsAttempt attempt.now }
+        ensures attempts { Attempts attempt.now (world_of self.old) (trace_of self.old) result
+            (world_of self.new) (trace_of self.new) }
+        ensures trace { result ≡ Err TraceFailed → (world_of self.old).fault ≡ None
+            → T.failed (tracer_of self.new) ≡ true }
+        ensures refuses { RefusesAttempt attempt.now self.old result self.new }
+    {
+        if let Some(fault) = self.fault {
+            return Err(fault);
+        }
+        if self.attempts == self.limit {
+            self.fault = Some(BusFault::LimitReached);
+            return Err(BusFault::LimitReached);
+        }
+        self.make_attempt(attempt)
+    }
+
+    fn root_ports(&self) -> u8 {
+        self.roots.count() as u8
+    }
+
+    #[tactic(auto, unfolding(usb_world::specs::World::root_port_at))]
+    fn root_status(&self, port: u8) -> [u8; 4] {
+        status_of(&self.roots, port)
+    }
+
+    #[tactic(auto, using(usb_world::proofs::Interface::set_call_root, usb_world::proofs::Interface::set_none))]
+    fn root_set(&mut self, port: u8, feature: u16) {
+        if let Some(call) = PortCall::of_set(feature) {
+            self.call_root(port, call);
+        }
+    }
+
+    #[tactic(auto, using(usb_world::proofs::Interface::clear_ends, usb_world::proofs::Interface::clear_none))]
+    fn root_clear(&mut self, port: u8, feature: u16) {
+        if let Some(call) = PortCall::of_clear(feature) {
+            self.call_root(port, call);
+        }
+    }
+
+    ghost settled = { λ known bus. bus.settled };
+
+    ghost between = { λ known bus working.
+        record { settled = bus.settled; sane = bus.sane working; ruled = bus.ruled } };
+}
+
+impl<T: Trace> SimBus<T> {
+    ghost use Rattle.usb_sim.specs.Parts.{AttemptMade};
+    ghost use Rattle.usb_sim.specs.Sim.{world_of, tracer_of, trace_of};
+
+    /// A call at a root port.
+    #[tactic(auto, unfolding(usb_world::specs::Steps::after))]
+    fn call_root(&mut self, port: u8, call: PortCall)
+        ensures world { world_of self.new ≡ after (root_call call port) (world_of self.old) }
+        ensures tracer { tracer_of self.new ≡ tracer_of self.old }
+    {
+        call_at(&mut self.roots, &mut self.holders, port, call);
+        self.losses = self.losses.after_clearing(call.clears_connection_change());
+    }
+
+    /// The events that are due, and then an attempt and its line.
+    #[tactic(auto, unfolding(usb_world::specs::Steps::at_attempt, usb_world::specs::Steps::with_attempt, usb_world::specs::Steps::outcome_in, usb_bus::specs::Lines::step_lines))]
+    fn make_attempt(&mut self, attempt: &Attempt) -> Result<Outcome, BusFault>
+        requires attempt { IsAttempt attempt.now }
+        requires sound { (world_of self.old).fault ≡ None }
+        requires within { (world_of self.old).attempts < (world_of self.old).limit }
+        ensures made { AttemptMade attempt.now (world_of self.old) (trace_of self.old) result
+            (world_of self.new) (trace_of self.new) }
+        ensures trace { result ≡ Err TraceFailed → T.failed (tracer_of self.new) ≡ true }
+    {
+        self.take_due_events()?;
+        self.shared |= self.holders.is_shared();
+        let damage = damage_of(&self.damages, self.attempts + 1);
+        // Where memory is refused, some devices had the host's data and others had not: the fault stands before they go.
+        self.fault = Some(BusFault::Memory);
+        make_exchange_by(
+            &mut self.roots,
+            &mut self.holders,
+            attempt,
+            damage,
+            &mut self.exchange,
+        )?;
+        // All went: only the line can fail.
+        self.fault = Some(BusFault::TraceFailed);
+        self.attempts += 1;
+        self.losses = self
+            .losses
+            .after_clearing(self.exchange.change_cleared)
+            .counted(self.exchange.address_lost);
+        self.tracer
+            .put_attempt(self.attempts, attempt.pre, &self.exchange)?;
+        self.fault = None;
+        Ok(outcome_of(
+            &self.exchange.answer,
+            self.exchange.answer_mark,
+            attempt.max,
+        ))
+    }
+}
+
+/// A call at the port of a number, counted from 1; `holders` is the index of the ports.
+fn call_at(roots: &mut Ports, holders: &mut Holders, port: u8, call: PortCall)
+    requires { IsIndexOf holders.old roots.old }
+    ensures called { roots.new ≡ changed (called call) roots.old (port ∷ []) }
+    ensures index { IsIndexOf holders.new roots.new }
+{
+    if keeps_enable(call) {
+        roots.call(port, call);
+        return;
+    }
+    let forgotten = holders.forget(roots, &[port]);
+    roots.call(port, call);
+    if forgotten {
+        holders.note(roots, &[port]);
+    } else {
+        holders.renew(roots);
+    }
+}
+
+/// The status of the port of a number, counted from 1.
+fn status_of(roots: &Ports, port: u8) -> [u8; 4]
+    requires least { 1 ≤ port }
+    requires most { port ≤ length (row_of roots.now) }
+    ensures { result ≡ status_of (slice_index_or (row_of roots.now) (port - 1) off) }
+{
+    roots.port(port).unwrap().status()
+}

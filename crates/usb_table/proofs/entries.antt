@@ -1,0 +1,11 @@
+-- The entries of the table.
+pub mod Addresses
+pub mod EnteredFindings
+pub mod Keys
+pub mod NewEntries
+pub mod NextEntries
+pub mod Paths
+pub mod Ports
+pub mod Ranges
+pub mod Removals
+pub mod RemovedEntries

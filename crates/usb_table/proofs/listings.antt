@@ -1,0 +1,4 @@
+-- What is listed.
+pub mod ListingExample
+pub mod OneListing
+pub mod PlannedListing

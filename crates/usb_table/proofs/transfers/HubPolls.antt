@@ -1,0 +1,288 @@
+-- A poll of a hub leaves its status pipe level, tells of its ports, and is answered where the hub is reached.
+use Rattle.std.proofs.Common.{◌≡◌, ◌≢◌, ◌∙◌, refl, sym, ap, subst, Bool, true, false, ℕ, ◌≤◌, ◌&&◌, eq-eqb}
+use Rattle.std.proofs.lemmas.Option.{same_Some}
+use Rattle.std.specs.Prelude.{List, ◌||◌, not, Option, Some, None, IfSome, is_some, option_map, Result, Ok, Err, IsOk, MatchResult, if◌then◌else◌}
+use Rattle.arrayvec.specs.ArrayVec.{ArrayVec}
+use Rattle.usb_device.specs.Rows.{State}
+use Rattle.usb_device.specs.Spec.{Spec}
+use Rattle.usb_device.specs.Tree.{place, reach, Location, path_to}
+use Rattle.usb_device.specs.View.{state_there}
+use Rattle.usb_world.specs.declared.types.Attempt.{Attempt}
+use Rattle.usb_world.specs.declared.types.Outcome.{Outcome}
+use Rattle.usb_world.specs.Addresses.{is_setup}
+use Rattle.usb_world.specs.Devices.{Was, EachWas}
+use Rattle.usb_tree.specs.Paths.{address_of}
+use Rattle.usb_tree.specs.AttemptPackets.{IsSettled, deep_at}
+use Rattle.usb_world.specs.RestingPorts.{LeavesPortAlone}
+use Rattle.usb_world.specs.Steps.{Course, here, attempt, at_attempt}
+use Rattle.usb_world.specs.World.{World}
+use Rattle.usb_world.proofs.Interface.{course_then, data_asks_nothing, each_none}
+use Rattle.usb_tree.proofs.Interface.{equal_same}
+use Rattle.usb_bus.specs.Traces.{StepRun}
+use Rattle.usb_transaction.specs.Transactions.{AttemptsMade, transaction_bound}
+use Rattle.usb_transaction.specs.declared.target.Target.{Target}
+use Rattle.usb_transaction.specs.Answerer.{Answerer}
+use Rattle.usb_transaction.specs.Leaves.{is_at}
+use Rattle.usb_transaction.specs.AttemptLog.{AttemptLog}
+use Rattle.usb_transaction.specs.Failures.{NoThreeDamaged, Listens}
+use Rattle.usb_transaction.proofs.Interface.{trail_settled}
+use Rattle.usb_pipe.specs.declared.fault.PipeFault.{PipeFault}
+use Rattle.usb_pipe.specs.declared.fault.PipeFault.TheVariants as why
+use Rattle.usb_pipe.specs.Control.{FaultAfter}
+use Rattle.usb_pipe.specs.Interrupt.{Interrupt, Polls}
+use Rattle.usb_pipe.specs.Leaves.{IsNoBusFault, PollLeaves, PollTells, ToldOf}
+use Rattle.usb_pipe.specs.Failures.{PollingFailure}
+use Rattle.usb_pipe.proofs.Interface.{poll_tells, polling_why, who_polls}
+use Rattle.usb_hub.specs.CallFailures.{NoHubFailed}
+use Rattle.usb_enum.specs.declared.finding.Accepted.{Accepted}
+use Rattle.usb_enum.specs.Device.{configuration_of}
+use Rattle.usb_enum.proofs.Interface.{each_joint}
+use Rattle.usb_table.specs.declared.pipes.Pipes.{Pipes}
+use Rattle.usb_table.specs.declared.pipes.Pipes.TheVariants.{Hub, Function, Absent}
+use Rattle.usb_table.specs.Findings.{accepted_device_at}
+use Rattle.usb_table.specs.KnownPorts.{is_below_hub}
+use Rattle.usb_table.specs.Levels.{StatusPipeInSync, PipesInSync, InSyncAt, IsHeld, KeepsInSync, BitsOf, HubTold, IsListening, KeepsPolled, TablePolls, SparesBulk}
+use Rattle.usb_table.specs.Listing.{entry_address}
+use Rattle.usb_table.specs.Pipes.{IsStatusPipe, ArePipesIf, ArePipesTo}
+use Rattle.usb_table.specs.Table.{Table, pipes_at, GoesThrough}
+use Rattle.usb_table.specs.Transfers.{NotPolled, OnlyTransfers, PipesPolled, PollTook, PolledThrough}
+use Rattle.usb_table.proofs.levels.Endpoints.{status_end}
+use Rattle.usb_table.proofs.levels.FittingPipes.{PipesMove, poll_moves}
+use Rattle.usb_table.proofs.levels.Levels.{address_found, held_address, entry_address-one_path, moved_levels, single, still_levels}
+use Rattle.usb_table.proofs.levels.MovedPipes.{EachMoves}
+use Rattle.usb_table.proofs.transfers.SparedBulk.{spares-changes, spares-same}
+use Rattle.usb_table.proofs.transfers.DevicesKept.{RanAs, polls_only, polls_spare, same_spares}
+
+-- INs ask nothing of any port
+
+trail_rests : (x : List ℕ) {a : Attempt} {old mid : World} {outcomes : List Outcome} → is_setup a.kind ≡ false → AttemptLog a old outcomes mid → IsSettled old.roots → Course (LeavesPortAlone x) old mid
+trail_rests x kind AttemptLog.start settled = here _
+trail_rests x {a} kind (AttemptLog.next w t m) settled = course_then (attempt a) (trail_rests x kind t settled) (data_asks_nothing a w x kind (trail_settled t settled))
+
+-- A poll of the hub at a path
+
+module _ (path : List ℕ) (device : Accepted) (pipe rest : Interrupt) (old new : Table) (before after : World) (result : Result (Option (ArrayVec ℕ)) PipeFault)
+    (goes : GoesThrough path old new) (stands : accepted_device_at path old.entries ≡ Some device)
+    (was : pipes_at path old ≡ Hub pipe) (left : pipes_at path new ≡ Hub rest)
+    (are : IsStatusPipe device (is_below_hub path) pipe) (x : PolledThrough pipe before result rest after) where
+  endpoint : (pipe.ep ≡ 1) × (1 ≤ pipe.target.max)
+  endpoint = subst (λ o. IfSome o (λ e. (e.0 ≡ 1) × (1 ≤ e.1))) are.endpoint (status_end (configuration_of device))
+
+  far : pipe.ep ≢ 0
+  far e = absurd (cc (endpoint.0, e))
+
+  addressed : pipe.target.addr ≡ device.address
+  addressed = ap (λ (t : Target). t.addr) are.target
+
+  leaves : after.shared ≡ false → EachWas (PollLeaves pipe before result rest after) before after
+  leaves = poll_tells pipe result rest before after endpoint.0 endpoint.1 x.settled x.polls
+
+  ran : after.shared ≡ false → EachWas RanAs before after
+  ran = (polls_spare pipe far before result rest after x.settled x.polls).ran
+
+  keeps : OnlyTransfers before after
+  keeps = polls_only pipe far before result rest after x.settled x.polls
+
+  moves : EachMoves device.address (IsOk result) (Hub pipe) (Hub rest) before after
+  moves unshared =
+      subst (λ a. EachWas (PipesMove a (IsOk result) (Hub pipe) (Hub rest)) before after) addressed
+      (each_joint (PollLeaves pipe before result rest after) RanAs (PipesMove pipe.target.addr (IsOk result) (Hub pipe) (Hub rest)) (poll_moves pipe rest before after result) before after (leaves unshared) (ran unshared))
+
+  hub_levels : KeepsInSync path (IsOk result) old before new after
+  hub_levels = moved_levels path device (IsOk result) (Hub pipe) (Hub rest) old new before after stands goes was left keeps moves
+
+  unshared : IsHeld old before → after.shared ≡ false
+  unshared = single path device (IsOk result) (Hub pipe) (Hub rest) old new before after stands goes was left keeps moves
+
+  -- what is so of the hub before
+  fits : IsHeld old before → InSyncAt path old before → (s : State) → reach before.roots path ≡ true → state_there before.roots path ≡ Some s → StatusPipeInSync pipe s × (is_at s pipe.target ≡ true)
+  fits held level s on there = (
+    subst (λ (q : Pipes). PipesInSync q s) was (level.level device s stands on there),
+    eq-eqb (address_of s) pipe.target.addr (held_address old before path device s held stands on there ∙ sym addressed),
+  )
+
+  -- the bits that were told
+  bits_of : (j : Location) (bits : ℕ) → path ≡ path_to j → ToldOf pipe before after j bits → BitsOf path before after bits
+  bits_of j bits is told = record {
+    mid = told.told.mid;
+    rests = λ y. trail_rests y refl told.told.trail x.settled;
+    port = told.told.b;
+    state = told.told.s;
+    ports = told.told.below;
+    stood = ap (place (at_attempt told.told.mid).roots) is ∙ told.told.stood;
+    told = told.told.told;
+    since = λ y. trail_rests y refl told.told.since (trail_settled told.told.trail x.settled);
+    came = told.came;
+  }
+
+  tells_of : (j : Location) → path ≡ path_to j → (r : Result (Option (ArrayVec ℕ)) PipeFault) → PollTells (ToldOf pipe before after j) r → PollTells (BitsOf path before after) r
+  tells_of j is (Ok None) t = bits_of j 0 is t
+  tells_of j is (Ok (Some packet)) t = record { bits = t.bits; some = t.some; so = bits_of j t.bits is t.so; is = t.is }
+  tells_of j is (Err fault) t = tt
+
+  -- whoever answered has the address of the path, so it is the hub
+  hub_told : IsHeld old before → InSyncAt path old before → (got : Option (ArrayVec ℕ)) → result ≡ Ok got → HubTold path before result after
+  hub_told held level got e = record { reached = ap (reach after.roots) is ∙ who.on; tells = tells_of who.spot is result told }
+    where
+      who : Answerer pipe.target before after
+      who = who_polls pipe got rest before after x.settled (subst (λ r. Polls pipe before r rest after) e x.polls) (unshared held)
+
+      has : entry_address (path_to who.spot) old.entries ≡ Some device.address
+      has = sym (held.own (path_to who.spot) who.was_on) ∙ ap (option_map address_of) who.stood ∙ ap Some (equal_same (address_of who.before) pipe.target.addr who.at ∙ addressed)
+
+      is : path ≡ path_to who.spot
+      is = entry_address-one_path old before path (path_to who.spot) device.address held (address_found path old.entries device stands) has
+
+      was_so : Was (PollLeaves pipe before result rest after) before who.spot who.now
+      was_so = leaves (unshared held) who.spot who.now who.on who.stands
+
+      fitted : StatusPipeInSync pipe was_so.before × (is_at was_so.before pipe.target ≡ true)
+      fitted = fits held level was_so.before (ap (reach before.roots) is ∙ was_so.on) (ap (state_there before.roots) is ∙ was_so.stands)
+
+      told : PollTells (ToldOf pipe before after who.spot) result
+      told = was_so.so.tells fitted.1 fitted.0.tells fitted.0.level
+
+  -- whoever else was asked has another address, so its bulk endpoints stay as they were, and so do those of the hub
+  spared_by : IsHeld old before → InSyncAt path old before → (j : Location) (v : State) (x : Was (PollLeaves pipe before result rest after) before j v) → (b : Bool) → is_at x.before pipe.target ≡ b → SparesBulk j x.before v
+  spared_by held level j v x false e = spares-same j x.before v (x.so.others e)
+  spared_by held level j v x true e = spares-changes j x.before v (x.so.frame fitted.0.tells)
+    where
+      has : entry_address (path_to j) old.entries ≡ Some device.address
+      has = sym (held.own (path_to j) x.on) ∙ ap (option_map address_of) x.stands ∙ ap Some (equal_same (address_of x.before) pipe.target.addr e ∙ addressed)
+
+      is : path ≡ path_to j
+      is = entry_address-one_path old before path (path_to j) device.address held (address_found path old.entries device stands) has
+
+      fitted : StatusPipeInSync pipe x.before × (is_at x.before pipe.target ≡ true)
+      fitted = fits held level x.before (ap (reach before.roots) is ∙ x.on) (ap (state_there before.roots) is ∙ x.stands)
+
+  hub_spares : IsHeld old before → InSyncAt path old before → EachWas SparesBulk before after
+  hub_spares held level j v on there =
+      let x : Was (PollLeaves pipe before result rest after) before j v = leaves (unshared held) j v on there in
+      record { before = x.before; on = x.on; stands = x.stands; so = spared_by held level j v x (is_at x.before pipe.target) refl }
+
+  -- a hub that is reached in the end is polled
+  module _ (held : IsHeld old before) (level : InSyncAt path old before) (three : NoThreeDamaged before) (heard : IsListening path device after) where
+    before_it : Was RanAs before heard.spot heard.state
+    before_it = ran (unshared held) heard.spot heard.state heard.on heard.stands
+
+    fitted : StatusPipeInSync pipe before_it.before × (is_at before_it.before pipe.target ≡ true)
+    fitted = fits held level before_it.before (ap (reach before.roots) heard.is ∙ before_it.on) (ap (state_there before.roots) heard.is ∙ before_it.stands)
+
+    abbrev hears_by : Bool → Bool → Bool → Spec → Bool
+    hears_by low pre deep d = if low then d.low && (not deep || pre) else not d.low
+
+    listened : Listens pipe.target heard.spot before_it.before
+    listened = record {
+      at = fitted.1;
+      loud = ap (λ (d : Spec). d.silent) (sym before_it.so.0) ∙ heard.listens.loud;
+      hears =
+          ap (λ (t : Target). hears_by t.low t.pre (deep_at false heard.spot.rest) before_it.before.spec) are.target
+          ∙ ap (λ (d : Spec). hears_by device.low (device.low && is_below_hub path) (deep_at false heard.spot.rest) d) (sym before_it.so.0)
+          ∙ heard.listens.hears;
+    }
+
+    never : (why : PipeFault) → IsNoBusFault {A = Option (ArrayVec ℕ)} (Err why) → result ≡ Err why → ⊥
+    never why sound e = answered_at.answered listened fitted.0.tells fitted.0.level fitted.0.runs why e
+      where
+        cause : Was (PollingFailure pipe result) before heard.spot heard.state
+        cause =
+            polling_why pipe result rest before after endpoint.0 endpoint.1 x.settled three x.polls (subst (IsNoBusFault {A = Option (ArrayVec ℕ)}) (sym e) sound) (unshared held) heard.spot heard.state heard.on heard.stands
+
+        answered_at : PollingFailure pipe result heard.spot before_it.before heard.state
+        answered_at = subst (λ s. PollingFailure pipe result heard.spot s heard.state) (same_Some cause.before before_it.before (sym cause.stands ∙ before_it.stands)) cause.so
+
+    served_by : (r : Result (Option (ArrayVec ℕ)) PipeFault) → result ≡ r → NoHubFailed r
+    served_by (Ok got) e = tt
+    served_by (Err why.Stalled) e = never why.Stalled tt e
+    served_by (Err why.Busy) e = never why.Busy tt e
+    served_by (Err why.NoAnswer) e = never why.NoAnswer tt e
+    served_by (Err why.Broken) e = never why.Broken tt e
+    served_by (Err (why.Bus fault)) e = tt
+    served_by (Err why.Memory) e = tt
+
+    hub_served : NoHubFailed result
+    hub_served = served_by result refl
+
+  ok_got : (r : Result (Option (ArrayVec ℕ)) PipeFault) → IsOk r → (got : Option (ArrayVec ℕ)) × (r ≡ Ok got)
+  ok_got (Ok got) ok = (got, refl)
+  ok_got (Err fault) ok = absurd (cc ok)
+
+  same_one : (d : Accepted) → accepted_device_at path old.entries ≡ Some d → device ≡ d
+  same_one d e = same_Some device d (sym stands ∙ e)
+
+  pub hub_polled : KeepsPolled path old before result new after
+  hub_polled = record {
+    levels = hub_levels;
+    told = λ held level d e hub ok. let g = ok_got result ok in hub_told held level g.0 g.1;
+    why = λ held level three d e hub heard. hub_served held level three (subst (λ y. IsListening path y after) (sym (same_one d e)) heard);
+    spares = hub_spares;
+  }
+
+-- Whatever stands there
+
+module _ (path : List ℕ) (old new : Table) (before after : World)
+    (result : Result (Option (ArrayVec ℕ)) PipeFault) (goes : GoesThrough path old new) where
+  -- no hub stands there
+  none_polled : ((device : Accepted) → accepted_device_at path old.entries ≡ Some device
+      → is_some device.hub ≡ true → ⊥)
+      → NotPolled (pipes_at path old) before result (pipes_at path new) after
+      → KeepsPolled path old before result new after
+  none_polled none x = record {
+    levels =
+        still_levels path (IsOk result) old new before after goes x.1 x.2
+        (same_spares before after x.2);
+    told = λ held level d e hub ok. absurd (none d e hub);
+    why = λ held level three d e hub heard. absurd (none d e hub);
+    spares = λ held level.
+        rw x.2 (each_none SparesBulk (λ j s. spares-same j s s refl) before);
+  }
+
+  polled_to : (device : Accepted) (pipes left : Pipes)
+      → accepted_device_at path old.entries ≡ Some device → pipes_at path old ≡ pipes
+      → pipes_at path new ≡ left → ArePipesTo device (is_below_hub path) pipes
+      → PipesPolled pipes before result left after → KeepsPolled path old before result new after
+  polled_to device (Hub pipe) left e was is are x =
+      hub_polled path device pipe x.0 old new before after result goes e was (is ∙ x.1) are.1 x.2
+  polled_to device (Function pipes) left e was is are x =
+      none_polled (λ d f hub. absurd (cc (same_Some device d (sym e ∙ f), hub, are.0)))
+      (x.0, is ∙ x.1 ∙ sym was, x.2)
+  polled_to device Absent left e was is are x = absurd are
+
+  polled_by : (found : Option Accepted) → accepted_device_at path old.entries ≡ found
+      → ArePipesIf found (is_below_hub path) (pipes_at path old)
+      → PipesPolled (pipes_at path old) before result (pipes_at path new) after
+      → KeepsPolled path old before result new after
+  polled_by None e none x =
+      let y = subst (λ p. PipesPolled p before result (pipes_at path new) after) none x in
+      none_polled (λ d f hub. absurd (cc (sym e ∙ f))) (y.0, y.1 ∙ sym none, y.2)
+  polled_by (Some device) e are x =
+      polled_to device (pipes_at path old) (pipes_at path new) e refl refl are x
+
+-- a packet that came took an attempt
+
+took_by : (old : World) (result : Result (Option (ArrayVec ℕ)) PipeFault) (new : World)
+    → MatchResult result (λ _. AttemptsMade 1 old new) (λ fault. FaultAfter 0 old fault new)
+    → PollTook old result new
+took_by old (Ok None) new ends = tt
+took_by old (Ok (Some packet)) new ends = ends
+took_by old (Err fault) new ends = ends
+
+polled_took : (pipes left : Pipes) (old : World) (result : Result (Option (ArrayVec ℕ)) PipeFault)
+    (new : World) → PipesPolled pipes old result left new → PollTook old result new
+polled_took (Hub pipe) left old result new x = took_by old result new x.2.polls.ends
+polled_took (Function pipes) left old result new x = rw x.0 tt
+polled_took Absent left old result new x = rw x.0 tt
+
+pub table_polls : (path : List ℕ) (old new : Table) (before after : World)
+    (text now : Option (List ℕ)) (result : Result (Option (ArrayVec ℕ)) PipeFault)
+    → GoesThrough path old new
+    → StepRun transaction_bound before text after now
+    → PipesPolled (pipes_at path old) before result (pipes_at path new) after
+    → TablePolls path old before text result new after now
+table_polls path old new before after text now result goes went x = record {
+  went = went;
+  took = polled_took (pipes_at path old) (pipes_at path new) before result after x;
+  polled = x;
+  keeps = polled_by path old new before after result goes _ refl goes.fits x;
+}

@@ -1,0 +1,337 @@
+-- The halts that are cleared through the pipes at a path are those of the device there.
+use Rattle.std.proofs.Common.{◌≡◌, ◌≢◌, inl, inr, ◌∙◌, refl, sym, ap, subst, Bool, true, false, ℕ, ◌==◌, List, Option, None, Some, Result, Ok, Err}
+use Rattle.std.specs.Prelude.{is_ok, is_some, if◌then◌else◌}
+use Rattle.usb_device.specs.declared.bulk.EndpointState.{EndpointState as End}
+use Rattle.usb_device.specs.Bulk.{rested}
+use Rattle.usb_device.specs.Rows.{State}
+use Rattle.usb_device.specs.Tree.{Location}
+use Rattle.usb_world.specs.declared.types.BusFault.{BusFault}
+use Rattle.usb_world.specs.Devices.{EachWas}
+use Rattle.usb_tree.specs.Paths.{address_of}
+use Rattle.usb_world.specs.World.{World}
+use Rattle.usb_world.proofs.Interface.{each_joined, each_none, each_wider}
+use Rattle.usb_transaction.specs.declared.target.Target.{Target}
+use Rattle.usb_pipe.specs.declared.condition.Condition.{Condition}
+use Rattle.usb_pipe.specs.declared.condition.Condition.TheVariants.{Ready, Halted, Broken}
+use Rattle.usb_pipe.specs.declared.fault.PipeFault.{PipeFault}
+use Rattle.usb_pipe.specs.declared.fault.PipeFault.TheVariants as pipe_fault
+use Rattle.usb_pipe.specs.Bulk.{Bulk, Clears, is_ready}
+use Rattle.usb_pipe.specs.Leaves.{BegunAgain, pipe_known}
+use Rattle.usb_enum.specs.declared.finding.Accepted.{Accepted}
+use Rattle.usb_table.specs.declared.fault.EndpointFault.{EndpointFault}
+use Rattle.usb_table.specs.declared.fault.EndpointFault.TheVariants.{Pipe}
+use Rattle.usb_table.specs.declared.pipes.BulkPipes.{BulkPipes}
+use Rattle.usb_table.specs.declared.pipes.Pipes.{Pipes}
+use Rattle.usb_table.specs.declared.pipes.Pipes.TheVariants.{Function}
+use Rattle.usb_table.specs.Deliveries.{HaltCleared, HaltClearedBy, HaltsCleared, TransfersAt, Restarted, pipe_out, pipe_in}
+use Rattle.usb_table.specs.Findings.{out_endpoint, in_endpoint, accepted_device_at}
+use Rattle.usb_table.specs.KnownPorts.{is_below_hub}
+use Rattle.usb_table.specs.Levels.{PipesInSync, IsHeld, InSyncAt}
+use Rattle.usb_table.specs.Pipes.{IsBulkPipe, IsPipe}
+use Rattle.usb_table.specs.Table.{Table, pipes_at, ArePipesAt}
+use Rattle.usb_table.specs.Transfers.{ClearedBy, ClearedAfter, PipesCleared, both_sides, endpoint_answer}
+use Rattle.usb_table.proofs.levels.FittingPipes.{PipesMove, clear_out_moves, clear_in_moves}
+use Rattle.usb_table.proofs.levels.KeptPipes.{ready_or_not}
+use Rattle.usb_table.proofs.levels.MovedPipes.{EachMoves, clear_whole, known_left}
+use Rattle.usb_table.proofs.transfers.PathTransfers.{PathReaches, changes_there, done_through, levels_there, none_changes, not_bus}
+use Rattle.usb_table.proofs.ThroughPipes.{through_both}
+use Rattle.usb_table.proofs.transfers.DevicesKept.{clears_single}
+
+-- The two ends of one pipe
+
+rested_then : (c : Condition) (before : End) → c ≢ Ready → (if is_ready c then before else rested) ≡ rested
+rested_then Ready before other = absurd (other refl)
+rested_then Halted before other = refl
+rested_then Broken before other = refl
+
+-- where a call is done only if the answer is one of success
+begun_ends : (done : Bool) (pipe : Bulk) (old : World) (answer : Result (Unit {0}) PipeFault)
+    (left : Bulk) (new : World) → (done ≡ true → is_ok answer ≡ true)
+    → Clears pipe old answer left new → (before after : End) → BegunAgain pipe answer before after
+    → HaltCleared done pipe left before after
+begun_ends done pipe old (Ok u) left new less x before after b = record {
+  works = λ ready.
+      ((x.ready ready).pipe_kept, b ∙ ap (λ c. if is_ready c then before else rested) ready);
+  begun = λ e other. ((x.sent other).pipe_left, b ∙ rested_then pipe.condition before other);
+  either = elim (ready_or_not pipe.condition) [
+    | inl ready ↦ inl (b ∙ ap (λ c. if is_ready c then before else rested) ready)
+    | inr other ↦ inr (b ∙ rested_then pipe.condition before other)
+  ];
+}
+begun_ends done pipe old (Err why) left new less x before after b = record {
+  works = λ ready. let is = (x.ready ready).answer in absurd (cc is);
+  begun = λ e other. let ok = less e in absurd (cc ok);
+  either = b;
+}
+
+none_ends : (done : Bool) (pipe : Option Bulk) → (done ≡ true → ⊥) → (end : End)
+    → HaltClearedBy done pipe pipe end end
+none_ends done None not end = refl
+none_ends done (Some pipe) not end =
+    record { works = λ ready. (refl, refl); begun = λ e. absurd (not e); either = inl refl }
+
+-- no address was held twice before
+pub cleared_single : (pipe left : Option Bulk) (old : World) (answer : Result (Unit {0}) PipeFault)
+    (new : World) → ClearedBy pipe old answer left new → new.shared ≡ false → old.shared ≡ false
+cleared_single None left old answer new x single = ap (λ w. w.shared) (sym x.2) ∙ single
+cleared_single (Some pipe) None old answer new x single = absurd x
+cleared_single (Some pipe) (Some left) old answer new x single =
+    clears_single pipe old answer left new x.clears single
+
+-- One device at the address, over the clear of one pipe or of both
+
+abbrev EndRelation : Type 1
+EndRelation = End → End → Type 0
+
+record ClearsIt (Out Into : EndRelation) (left : BulkPipes) (s v : State) : Type 0 where
+  sink : v.sink ≡ s.sink
+  place : v.place ≡ s.place
+  out : Out s.bulk_out v.bulk_out
+  into : Into s.bulk_in v.bulk_in
+  level : PipesInSync (Function left) v
+
+-- where the call ends so
+record ClearStep (ends : Type 0) (a : ℕ) (Out Into : EndRelation) (pipes left : BulkPipes) (j : Location)
+    (s v : State) : Type 0 where
+  others : (address_of s == a) ≡ false → v ≡ s
+  same : address_of v ≡ address_of s
+  itself : ends → (address_of s == a) ≡ true → PipesInSync (Function pipes) s
+      → ClearsIt Out Into left s v
+
+abbrev EndStays : EndRelation
+EndStays before after = after ≡ before
+
+-- a call is done only if the answer is one of success; where it ends so, that is not the bus's own
+record FitsAnswer (ends : Type 0) (done : Bool) (answer : Result (Unit {0}) PipeFault)
+    : Type 0 where
+  sure : ends → (why : BusFault) → answer ≢ Err (pipe_fault.Bus why)
+  less : done ≡ true → is_ok answer ≡ true
+
+module _ (ends : Type 0) where
+  abbrev ClearSteps : ℕ → EndRelation → EndRelation → BulkPipes → BulkPipes → World → World → Type 0
+  ClearSteps a Out Into pipes left = EachWas (ClearStep ends a Out Into pipes left)
+
+  clear_step_none : (a : ℕ) (Out Into : EndRelation) (pipes : BulkPipes) → ((end : End) → Out end end)
+      → ((end : End) → Into end end) → (w : World) → ClearSteps a Out Into pipes pipes w w
+  clear_step_none a Out Into pipes out into w =
+      each_none (ClearStep ends a Out Into pipes pipes)
+      (λ j s. record {
+        others = λ h. refl;
+        same = refl;
+        itself = λ e at level. record {
+          sink = refl;
+          place = refl;
+          out = out s.bulk_out;
+          into = into s.bulk_in;
+          level = level;
+        };
+      }) w
+
+  steps_then : (a : ℕ) (Out Into : EndRelation) (pipes mid left : BulkPipes) (u w v : World)
+      → ClearSteps a Out EndStays pipes mid u w → ClearSteps a EndStays Into mid left w v
+      → ClearSteps a Out Into pipes left u v
+  steps_then a Out Into pipes mid left =
+      each_joined (ClearStep ends a Out EndStays pipes mid) (ClearStep ends a EndStays Into mid left)
+      (ClearStep ends a Out Into pipes left)
+      (λ j s t v x y. record {
+        others = λ h. y.others (ap (λ n. n == a) x.same ∙ h) ∙ x.others h;
+        same = y.same ∙ x.same;
+        itself = λ e at level.
+            let p = x.itself e at level in
+            let q = y.itself e (ap (λ n. n == a) x.same ∙ at) p.level in
+            record {
+              sink = q.sink ∙ p.sink;
+              place = q.place ∙ p.place;
+              out = subst (λ (o : End). Out s.bulk_out o) (sym q.out) p.out;
+              into = subst (λ (o : End). Into o v.bulk_in) p.into q.into;
+              level = q.level;
+            };
+      })
+
+  module _ (done : Bool) (device : Accepted) (other : Option Bulk) (old : World)
+      (answer : Result (Unit {0}) PipeFault) (new : World) (so : FitsAnswer ends done answer)
+      (single : new.shared ≡ false) where
+    abbrev OutSteps : ℕ → EndRelation → Option Bulk → Option Bulk → Type 0
+    OutSteps a Out pipe left =
+        ClearSteps a Out EndStays (both_sides false pipe other) (both_sides false left other) old new
+
+    abbrev InSteps : ℕ → EndRelation → Option Bulk → Option Bulk → Type 0
+    InSteps a Into pipe left =
+        ClearSteps a EndStays Into (both_sides true pipe other) (both_sides true left other) old new
+
+    -- Through one pipe of a device that was found
+
+    module _ (endpoint : ℕ × ℕ) (pipe left : Bulk) (x : Clears pipe old answer left new) where
+      surely_known : ends → pipe_known answer left ≡ left
+      surely_known e = known_left answer left (so.sure e)
+
+      out_step : IsBulkPipe device false endpoint pipe
+          → OutSteps device.address (HaltCleared done pipe left) (Some pipe) (Some left)
+      out_step is =
+          let Out = HaltCleared done pipe left in
+          subst (λ (t : Target). OutSteps t.addr Out (Some pipe) (Some left)) is.target
+          (clear_whole pipe old answer left new x _
+          (λ j s v a b k.
+          let m = clear_out_moves ends pipe left answer j s v surely_known a b k other is.way in
+          record {
+            others = m.others;
+            same = m.same;
+            itself = λ e at level.
+                let leaves = a.sink at is.way level.0 in
+                let spares = b.into is.way level.0.endpoint in
+                record {
+                  sink = leaves.1;
+                  place = spares.1;
+                  out = begun_ends done pipe old answer left new so.less x s.bulk_out v.bulk_out
+                      leaves.2;
+                  into = spares.0;
+                  level = m.itself e at level;
+                };
+          }) single)
+
+      in_step : IsBulkPipe device true endpoint pipe
+          → InSteps device.address (HaltCleared done pipe left) (Some pipe) (Some left)
+      in_step is =
+          let Into = HaltCleared done pipe left in
+          subst (λ (t : Target). InSteps t.addr Into (Some pipe) (Some left)) is.target
+          (clear_whole pipe old answer left new x _
+          (λ j s v a b k.
+          let m = clear_in_moves ends pipe left answer j s v surely_known a b k other is.way in
+          record {
+            others = m.others;
+            same = m.same;
+            itself = λ e at level.
+                let leaves = a.source at is.way level.1.0 level.1.1 in
+                let spares = b.out is.way level.1.1.endpoint in
+                record {
+                  sink = spares.1;
+                  place = leaves.1;
+                  out = spares.0;
+                  into = begun_ends done pipe old answer left new so.less x s.bulk_in v.bulk_in
+                      leaves.2;
+                  level = m.itself e at level;
+                };
+          }) single)
+
+    -- Through it, if there is one
+
+    out_by : (endpoint : Option (ℕ × ℕ)) (out left : Option Bulk) → IsPipe device false endpoint out
+        → ClearedBy out old answer left new
+        → OutSteps device.address (HaltClearedBy done out left) out left
+    out_by endpoint None left is x =
+        rw (x.1, x.2) (clear_step_none device.address (HaltClearedBy done None None) EndStays
+        (both_sides false None other) (λ end. refl) (λ end. refl) old)
+    out_by endpoint (Some pipe) None is x = absurd x
+    out_by None (Some pipe) (Some left) is x = absurd is
+    out_by (Some endpoint) (Some pipe) (Some left) is x = out_step endpoint pipe left x.clears is
+
+    in_by : (endpoint : Option (ℕ × ℕ)) (into left : Option Bulk) → IsPipe device true endpoint into
+        → ClearedBy into old answer left new
+        → InSteps device.address (HaltClearedBy done into left) into left
+    in_by endpoint None left is x =
+        rw (x.1, x.2) (clear_step_none device.address EndStays (HaltClearedBy done None None)
+        (both_sides true None other) (λ end. refl) (λ end. refl) old)
+    in_by endpoint (Some pipe) None is x = absurd x
+    in_by None (Some pipe) (Some left) is x = absurd is
+    in_by (Some endpoint) (Some pipe) (Some left) is x = in_step endpoint pipe left x.clears is
+
+  -- Through both, one and then the other
+
+  module _ (done : Bool) (device : Accepted) (pipes left : BulkPipes)
+      (out : IsPipe device false (out_endpoint device) pipes.out)
+      (into : IsPipe device true (in_endpoint device) pipes.into)
+      (result : Result (Unit {0}) EndpointFault)
+      (sure : ends → (why : BusFault) → result ≢ Err (Pipe (pipe_fault.Bus why)))
+      (less : done ≡ true → is_ok result ≡ true) (old mid new : World) where
+    abbrev BothSteps : Option Bulk → Type 0
+    BothSteps rest =
+        ClearSteps device.address (HaltClearedBy done pipes.out left.out)
+        (HaltClearedBy done pipes.into rest) pipes (record { out = left.out; into = rest }) old new
+
+    -- the answer of a pipe
+    pipe_answers : (answer : Result (Unit {0}) PipeFault) → result ≡ endpoint_answer answer
+        → FitsAnswer ends done answer
+    pipe_answers answer told = record {
+      sure = λ e. not_bus answer result told (sure e);
+      less = λ e. done_through answer result told ∙ less e;
+    }
+
+    in_turn : (first : Result (Unit {0}) PipeFault) → ClearedBy pipes.out old first left.out mid
+        → ClearedAfter first pipes.into mid result left.into new → new.shared ≡ false
+        → BothSteps left.into
+    in_turn (Ok u) x y single =
+        steps_then device.address _ _ pipes (record pipes { out = left.out }) left old mid new
+        (out_by done device pipes.into old (Ok u) mid
+        (record { sure = λ e why f. cc f; less = λ e. refl })
+        (cleared_single pipes.into left.into mid y.0 new y.2 single) (out_endpoint device) pipes.out
+        left.out out x)
+        (in_by done device left.out mid y.0 new (pipe_answers y.0 y.1) single (in_endpoint device)
+        pipes.into left.into into y.2)
+    in_turn (Err fault) x y single =
+        let not : done ≡ true → ⊥ =
+        λ e. let ok = less e in let failed = ap is_ok y.0 in absurd (cc (ok, failed)) in
+        subst BothSteps (sym y.1)
+        (steps_then device.address _ _ pipes (record pipes { out = left.out })
+        (record pipes { out = left.out }) old new new
+        (out_by done device pipes.into old (Err fault) new (pipe_answers (Err fault) y.0) single
+        (out_endpoint device) pipes.out left.out out (rw y.2 x))
+        (clear_step_none device.address EndStays (HaltClearedBy done pipes.into pipes.into)
+        (record pipes { out = left.out }) (λ end. refl) (none_ends done pipes.into not) new))
+
+    pub in_turn_moves : (first : Result (Unit {0}) PipeFault)
+        → ClearedBy pipes.out old first left.out mid
+        → ClearedAfter first pipes.into mid result left.into new
+        → EachMoves device.address ends (Function pipes) (Function left) old new
+    in_turn_moves first x y single =
+        each_wider _ (PipesMove device.address ends (Function pipes) (Function left))
+        (λ j s v c. record {
+          others = c.others;
+          same = c.same;
+          itself = λ e at f. (c.itself e at f).level;
+        }) old new (in_turn first x y single)
+
+-- At a path
+
+module _ (path : List ℕ) (old : Table) (before after : World) where
+  abbrev Cleared : Bool → Pipes → Pipes → Type 0
+  Cleared done pipes left =
+      TransfersAt path done (HaltsCleared done pipes left) old before after
+
+  not_cleared : (result : Result (Unit {0}) EndpointFault) (pipes : Pipes) (fault : EndpointFault)
+      → result ≡ Err fault → after ≡ before → PathReaches path before (PipesInSync pipes)
+      → Cleared (is_ok result) pipes pipes
+  not_cleared result pipes fault e same level =
+      subst (λ (b : Bool). Cleared b pipes pipes) (sym (ap is_ok e))
+      (record {
+        each = none_changes path (HaltsCleared false pipes pipes) before after same
+            (λ s on there. record {
+              sink = refl;
+              place = refl;
+              out = none_ends false (pipe_out pipes) (λ e. cc e) s.bulk_out;
+              into = none_ends false (pipe_in pipes) (λ e. cc e) s.bulk_in;
+              level = level s on there;
+            });
+        known = λ done. absurd (cc done);
+      })
+
+  pub cleared_restarts : (new : Table) (result : Result (Unit {0}) EndpointFault)
+      → ((why : BusFault) → result ≢ Err (Pipe (pipe_fault.Bus why))) → IsHeld old before
+      → InSyncAt path old before → after.shared ≡ false → ArePipesAt path old
+      → PipesCleared (pipes_at path old) before result (pipes_at path new) after
+      → Restarted path (is_ok result) old before new after
+  cleared_restarts new result other held level single are x =
+      through_both before result after (accepted_device_at path old.entries) (is_below_hub path)
+      (λ p l. PathReaches path before (PipesInSync p) → Cleared (is_ok result) p l)
+      (λ pipes fault told. not_cleared result pipes fault)
+      (λ device pipes left found out into y l. record {
+        each = changes_there path old before held device found device.address refl _
+            (HaltsCleared (is_ok result) (Function pipes) (Function left)) after
+            (λ j s v z. z.others)
+            (λ s on there j v z at.
+            let c = z.itself tt at (l s on there) in
+            record { sink = c.sink; place = c.place; out = c.out; into = c.into; level = c.level })
+            (in_turn (Unit {0}) (is_ok result) device pipes left out into result (λ e. other)
+            (λ e. e) before y.mid after y.first y.out y.into single);
+        known = λ done. ap is_some found;
+      })
+      (pipes_at path old) (pipes_at path new) are x (levels_there path old before level are)

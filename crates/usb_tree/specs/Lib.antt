@@ -1,0 +1,5 @@
+pub mod Paths
+pub mod WayEffects
+pub mod AttemptPackets
+pub mod FoundHolder
+pub mod LonePackets

@@ -1,0 +1,5 @@
+-- What a course of steps keeps.
+pub mod Counts
+pub mod Courses
+pub mod LiftedSteps
+pub mod StepInvariants

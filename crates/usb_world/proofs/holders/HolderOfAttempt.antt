@@ -1,0 +1,32 @@
+-- Where no address is held twice, one device holds the address of an attempt or none does.
+use Rattle.std.proofs.Common.{◌≡◌, ◌⊎◌, inl, inr, true, false}
+use Rattle.usb_world.specs.declared.types.Attempt.{Attempt}
+use Rattle.usb_world.specs.declared.types.Outcome.TheVariants.{Nothing}
+use Rattle.usb_tree.specs.AttemptPackets.{NobodyHolds}
+use Rattle.usb_tree.specs.FoundHolder.{Found}
+use Rattle.usb_world.specs.World.{World}
+use Rattle.usb_world.specs.Steps.{at_attempt, outcome_in, attempt, after}
+use Rattle.usb_world.specs.OneHolder.{IsMade, HolderIn, AttemptAnswerer}
+use Rattle.usb_tree.proofs.Interface.{decided}
+use Rattle.usb_tree.proofs.Interface.{who_holds}
+use Rattle.usb_world.proofs.holders.OneHolderAttempts.{nobody_in, silent_in}
+
+-- one device holds the address of an attempt, or none does
+pub holder_or_nobody : (a : Attempt) (w : World) → IsMade a w → (after (attempt a) w).shared ≡ false → HolderIn a w ⊎ NobodyHolds a.addr (at_attempt w).roots
+holder_or_nobody a w m u = pick (who_holds a.addr (at_attempt w).roots)
+  where
+    pick : Found a.addr (at_attempt w).roots ⊎ NobodyHolds a.addr (at_attempt w).roots → HolderIn a w ⊎ NobodyHolds a.addr (at_attempt w).roots
+    pick (inl y) = inl (record { made = m; single = u; found = y })
+    pick (inr y) = inr y
+
+-- what is answered comes from one device, which is not silent
+pub one_answers : (a : Attempt) (w : World) → IsMade a w → (after (attempt a) w).shared ≡ false → (outcome_in a w ≡ Nothing → ⊥) → AttemptAnswerer a w
+one_answers a w m u c = pick (holder_or_nobody a w m u)
+  where
+    heard_of : (h : HolderIn a w) → (h.own.spec.silent ≡ true) ⊎ (h.own.spec.silent ≡ false) → AttemptAnswerer a w
+    heard_of h (inl y) = elim (c (silent_in a w h y).outcome) [ ]
+    heard_of h (inr y) = record { holder = h; loud = y }
+
+    pick : HolderIn a w ⊎ NobodyHolds a.addr (at_attempt w).roots → AttemptAnswerer a w
+    pick (inl y) = heard_of y (decided y.own.spec.silent)
+    pick (inr y) = elim (c (nobody_in a w m y).0) [ ]

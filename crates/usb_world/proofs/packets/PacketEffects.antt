@@ -1,0 +1,221 @@
+-- What a packet does to reachable, live and pending, and to the devices and ports.
+use Rattle.std.proofs.Common.{◌≡◌, ℕ, zero, suc, ◌&&◌, ◌||◌, not, if◌then◌else◌, inl, inr, Bool}
+use Rattle.std.proofs.Common.{true, false, List, [], ◌∷◌, Option, None, Some, option_map, refl, ap}
+use Rattle.std.proofs.Common.{sym, ◌∙◌}
+use Rattle.usb_port.specs.PortState.{PortState}
+use Rattle.usb_device.specs.declared.effect.Effect.{Effect}
+use Rattle.usb_device.specs.declared.effect.Effect.TheVariants.{Leaves, Calls, PortsOff}
+use Rattle.usb_device.specs.Rows.{State}
+use Rattle.usb_device.specs.Tree.{Ports, ended, vacant, taken, full, reach_at, state_at, place_at}
+use Rattle.usb_device.specs.Tree.{acted, Place, empty}
+use Rattle.usb_device.specs.Delivery.{answer_of, effect_of, after_packet}
+use Rattle.usb_device.specs.declared.delivery.Sent.{Sent}
+use Rattle.usb_tree.specs.Paths.{has_power_at, pending_at}
+use Rattle.usb_tree.specs.WayEffects.{IsNew, takes_reset, effect_resets, resets_at, reset_if}
+use Rattle.usb_tree.specs.WayEffects.{effect_keeps_pending, packet_keeps_pending}
+use Rattle.usb_tree.specs.AttemptPackets.{deep_at}
+use Rattle.usb_tree.proofs.Interface.{both, and_kept, or-rises, either_of, neither, false_true}
+use Rattle.usb_world.proofs.ports.PortCalls.{off_way, ResetIf, same_reset, call_way, KeepsPending}
+use Rattle.usb_world.proofs.ports.PortCalls.{pending_kept, call_kept}
+use Rattle.usb_world.proofs.ways.WayChanges.{same_way-behind}
+use Rattle.usb_tree.proofs.Interface.{reset_if-false}
+
+-- a device's own state after a packet, which reaches it or does not
+abbrev pub heard_state : Sent → Bool → Bool → Option Place → Option State
+heard_state q deep on None = None
+heard_state q deep on (Some (empty b)) = None
+heard_state q deep on (Some (full b s a)) = Some (if on then (answer_of q deep s a).1 else s)
+
+-- a device after a packet, which comes to it or does not
+abbrev pub met : Bool → Sent → Bool → PortState → State → Ports → Ports → Ports
+met x q deep b s a k = if x then taken b (answer_of q deep s a).1 (acted (effect_of q deep s) (after_packet q true a)) k else taken b s a k
+
+-- what is so in both cases
+pub met_either : (P : Ports → Type 0) (x : Bool) (q : Sent) (deep : Bool)
+    (b : PortState) (s : State) (a k : Ports)
+    → P (met true q deep b s a k) → P (met false q deep b s a k)
+    → P (met x q deep b s a k)
+met_either P true q deep b s a k h g = h
+met_either P false q deep b s a k h g = g
+
+-- What a device asks of its ports
+
+acted_way : (e : Effect) (x : Ports) (j : ℕ) (p : List ℕ)
+    → ResetIf (effect_resets e x j p) x (acted e x) j p
+acted_way Leaves x j p = same_reset false x j p refl
+acted_way (Calls c i) x j p = call_way c x i j p
+acted_way PortsOff x j p =
+    let off : _ = off_way x j p in
+    (off.1 ∙ reset_if-false (state_at x j p), λ f h. false_true (sym off.0 ∙ h), λ f. false_true f, off.2)
+
+acted_kept : (e : Effect) (x : Ports) (j : ℕ) (p : List ℕ) → effect_keeps_pending e j p ≡ true
+    → KeepsPending x (acted e x) j p
+acted_kept Leaves x j p h = (λ g. g, λ g. g)
+acted_kept (Calls c i) x j p h = call_kept c x i j p h
+acted_kept PortsOff x j p h = false_true h
+
+-- Where a reset falls
+
+pub resets_nil : (q : Sent) (deep : Bool) (k : Ports) (j : ℕ) → resets_at q deep k j [] ≡ false
+unfolding resets_at
+resets_nil q deep ended j = refl
+resets_nil q deep (vacant b k) zero = refl
+resets_nil q deep (vacant b k) (suc j) = resets_nil q deep k j
+resets_nil q deep (taken b s a k) zero = refl
+resets_nil q deep (taken b s a k) (suc j) = resets_nil q deep k j
+
+-- a packet changes no port of the row on which it starts
+packet_takes : (q : Sent) (deep : Bool) (k : Ports) (j : ℕ) → takes_reset (place_at (after_packet q deep k) j []) ≡ takes_reset (place_at k j [])
+unfolding after_packet place_at
+packet_takes q deep ended j = refl
+packet_takes q deep (vacant b k) zero = refl
+packet_takes q deep (vacant b k) (suc j) = packet_takes q deep k j
+packet_takes q deep (taken b s a k) zero = elim b.enable as (λ x. takes_reset (place_at (met x q deep b s a (after_packet q deep k)) zero []) ≡ takes_reset (Some (full b s a))) [ true ↦ refl | false ↦ refl ]
+packet_takes q deep (taken b s a k) (suc j) = elim b.enable as (λ x. takes_reset (place_at (met x q deep b s a (after_packet q deep k)) (suc j) []) ≡ takes_reset (place_at k j [])) [ true ↦ packet_takes q deep k j | false ↦ packet_takes q deep k j ]
+
+packet_asks : (e : Effect) (q : Sent) (deep : Bool) (k : Ports) (j : ℕ) (p : List ℕ) → effect_resets e (after_packet q deep k) j p ≡ effect_resets e k j p
+packet_asks Leaves q deep k j p = refl
+packet_asks (Calls c i) q deep k j [] = rw (packet_takes q deep k j) refl
+packet_asks (Calls c i) q deep k j (n ∷ p) = refl
+packet_asks PortsOff q deep k j p = refl
+
+-- A packet
+
+spared : (x y z : Bool) → x ≡ true → (not x || (y && z)) ≡ true → (y ≡ true) × (z ≡ true)
+spared true y z e h = both y z h
+spared false y z e h = false_true e
+
+-- what is live or pending, and spared, is so after a packet
+pub packet_kept : (q : Sent) (deep : Bool) (k : Ports) (j : ℕ) (p : List ℕ)
+    → packet_keeps_pending q deep k j p ≡ true → KeepsPending k (after_packet q deep k) j p
+unfolding after_packet has_power_at pending_at packet_keeps_pending
+packet_kept q deep ended j p h = (λ g. g, λ g. g)
+packet_kept q deep (vacant b k) zero p h =
+    pending_kept (vacant b k) (vacant b (after_packet q deep k)) zero p
+    (same_way-behind (empty b) k (after_packet q deep k) p).0
+packet_kept q deep (vacant b k) (suc j) p h = packet_kept q deep k j p h
+packet_kept q deep (taken b s a k) zero [] h =
+    met_either (λ m. KeepsPending (taken b s a k) m zero [])
+    b.enable q deep b s a (after_packet q deep k) (λ g. g, λ g. g) (λ g. g, λ g. g)
+packet_kept q deep (taken b s a k) zero (zero ∷ p) h =
+    met_either (λ m. KeepsPending (taken b s a k) m zero (zero ∷ p))
+    b.enable q deep b s a (after_packet q deep k) (λ g. g, λ g. g) (λ g. g, λ g. g)
+packet_kept q deep (taken b s a k) zero (suc j ∷ p) h =
+    split b.enable refl (packet_kept q true a j p)
+  where
+    split : (x : Bool) → b.enable ≡ x
+        → (packet_keeps_pending q true a j p ≡ true → KeepsPending a (after_packet q true a) j p)
+        → KeepsPending (taken b s a k) (met x q deep b s a (after_packet q deep k)) zero (suc j ∷ p)
+    split true e ih =
+        let on : _ = spared b.enable (effect_keeps_pending (effect_of q deep s) j p) (packet_keeps_pending q true a j p) e h in
+        let asked : _ = acted_kept (effect_of q deep s) (after_packet q true a) j p on.0 in (
+          and_kept b.power _ _ (λ g. asked.0 ((ih on.1).0 g)),
+          and_kept b.power _ _
+              (or-rises b.connection_changed (pending_at a j p) _ (λ g. asked.1 ((ih on.1).1 g))),
+        )
+    split false e ih = (λ g. g, λ g. g)
+packet_kept q deep (taken b s a k) (suc j) p h =
+    met_either (λ m. KeepsPending (taken b s a k) m (suc j) p)
+    b.enable q deep b s a (after_packet q deep k) (packet_kept q deep k j p h)
+    (packet_kept q deep k j p h)
+
+pub heard_state-unheard : (q : Sent) (d : Bool) (k : Ports) (j : ℕ) (p : List ℕ) → state_at k j p ≡ heard_state q d false (place_at k j p)
+unfolding state_at place_at
+heard_state-unheard q d ended j p = refl
+heard_state-unheard q d (vacant b k) zero [] = refl
+heard_state-unheard q d (vacant b k) zero (n ∷ p) = refl
+heard_state-unheard q d (vacant b k) (suc j) p = heard_state-unheard q d k j p
+heard_state-unheard q d (taken b s a k) zero [] = refl
+heard_state-unheard q d (taken b s a k) zero (zero ∷ p) = refl
+heard_state-unheard q d (taken b s a k) zero (suc j ∷ p) = heard_state-unheard q d a j p
+heard_state-unheard q d (taken b s a k) (suc j) p = heard_state-unheard q d k j p
+
+pub true_deep : (p : List ℕ) → deep_at true p ≡ true
+true_deep [] = refl
+true_deep (n ∷ p) = refl
+
+reset_then : (x y : Bool) (o : Option State) → (x ≡ true → y ≡ false) → option_map (reset_if x) (option_map (reset_if y) o) ≡ option_map (reset_if (x || y)) o
+reset_then x y None f = refl
+reset_then true true (Some s) f = false_true (sym (f refl))
+reset_then true false (Some s) f = refl
+reset_then false y (Some s) f = refl
+
+-- a device asks for no reset but on its own ports
+asks_here : (e : Effect) (q : Sent) (a : Ports) (j : ℕ) (p : List ℕ) → effect_resets e a j p ≡ true → resets_at q true a j p ≡ false
+asks_here e q a j [] h = resets_nil q true a j
+asks_here Leaves q a j (n ∷ p) h = false_true h
+asks_here (Calls c i) q a j (n ∷ p) h = false_true h
+asks_here PortsOff q a j (n ∷ p) h = false_true h
+
+-- the device at a path hears a packet or not, and is then reset or not
+abbrev HeardIf : Sent → Bool → Bool → Bool → Ports → Ports → ℕ → List ℕ → Type 0
+HeardIf q deep on r k m j p =
+    (state_at m j p ≡ option_map (reset_if r) (heard_state q deep on (place_at k j p)))
+    × (r ≡ false → reach_at m j p ≡ true → reach_at k j p ≡ true)
+    × (r ≡ true → IsNew (place_at m j p))
+
+pub packet_way : (q : Sent) (deep : Bool) (k : Ports) (j : ℕ) (p : List ℕ)
+    → HeardIf q (deep_at deep p) (reach_at k j p) (resets_at q deep k j p) k
+    (after_packet q deep k) j p
+unfolding after_packet reach_at place_at resets_at state_at
+packet_way q deep ended j p = (refl, λ f h. h, λ f. false_true f)
+packet_way q deep (vacant b k) zero [] = (refl, λ f h. h, λ f. false_true f)
+packet_way q deep (vacant b k) zero (n ∷ p) = (refl, λ f h. h, λ f. false_true f)
+packet_way q deep (vacant b k) (suc j) p = packet_way q deep k j p
+packet_way q deep (taken b s a k) zero [] = split b.enable
+  where
+    split : (x : Bool) → HeardIf q deep x false (taken b s a k)
+        (met x q deep b s a (after_packet q deep k)) zero []
+    split true = (refl, λ f h. h, λ f. false_true f)
+    split false = (refl, λ f h. h, λ f. false_true f)
+packet_way q deep (taken b s a k) zero (zero ∷ p) =
+    met_either (λ m. HeardIf q true false false (taken b s a k) m zero (zero ∷ p))
+    b.enable q deep b s a (after_packet q deep k) (refl, λ f h. h, λ f. false_true f)
+    (refl, λ f h. h, λ f. false_true f)
+packet_way q deep (taken b s a k) zero (suc j ∷ p) = split b.enable (packet_way q true a j p)
+  where
+    split : (x : Bool) → HeardIf q (deep_at true p) (reach_at a j p) (resets_at q true a j p) a
+        (after_packet q true a) j p
+        → HeardIf q true (x && reach_at a j p)
+        (x && (effect_resets (effect_of q deep s) a j p || resets_at q true a j p))
+        (taken b s a k) (met x q deep b s a (after_packet q deep k)) zero (suc j ∷ p)
+    split true ih =
+        let asked : _ = acted_way (effect_of q deep s) (after_packet q true a) j p in
+        let same : _ = packet_asks (effect_of q deep s) q true a j p in (
+          asked.0
+              ∙ ap (λ x. option_map (reset_if x) (state_at (after_packet q true a) j p)) same
+              ∙ ap (option_map (reset_if (effect_resets (effect_of q deep s) a j p))) ih.0
+              ∙ reset_then (effect_resets (effect_of q deep s) a j p) (resets_at q true a j p)
+              (heard_state q (deep_at true p) (reach_at a j p) (place_at a j p))
+              (asks_here (effect_of q deep s) q a j p)
+              ∙ ap (λ d. option_map
+              (reset_if (effect_resets (effect_of q deep s) a j p || resets_at q true a j p))
+              (heard_state q d (reach_at a j p) (place_at a j p))) (true_deep p),
+          λ f.
+              let none_of : _ =
+              neither (effect_resets (effect_of q deep s) a j p) (resets_at q true a j p) f in
+              and_kept b.enable _ _ (λ g. ih.1 none_of.1 (asked.1 (same ∙ none_of.0) g)),
+          λ f. elim (either_of (effect_resets (effect_of q deep s) a j p)
+              (resets_at q true a j p) f)
+              [ inl y ↦ asked.2 (same ∙ y) | inr y ↦ asked.3 (ih.2 y) ],
+        )
+    split false ih = (
+      heard_state-unheard q true a j p
+          ∙ reset_if-false (heard_state q true false (place_at a j p)),
+      λ f h. h,
+      λ f. false_true f,
+    )
+packet_way q deep (taken b s a k) (suc j) p =
+    met_either
+    (λ m. HeardIf q (deep_at deep p) (reach_at k j p) (resets_at q deep k j p) (taken b s a k) m
+    (suc j) p)
+    b.enable q deep b s a (after_packet q deep k) (packet_way q deep k j p)
+    (packet_way q deep k j p)
+
+-- a packet changes each device that it reaches by that device's row, and no other, but for those
+-- that it resets
+pub packet_state : (q : Sent) (deep : Bool) (k : Ports) (j : ℕ) (p : List ℕ)
+    → state_at (after_packet q deep k) j p
+    ≡ option_map (reset_if (resets_at q deep k j p))
+    (heard_state q (deep_at deep p) (reach_at k j p) (place_at k j p))
+packet_state q deep k j p = (packet_way q deep k j p).0

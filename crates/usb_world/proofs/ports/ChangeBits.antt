@@ -1,0 +1,251 @@
+-- A port of which nothing is asked keeps its change bits and its power, where the device above it is still reached.
+use Rattle.std.proofs.Common.{◌≡◌, ℕ, zero, suc, ◌&&◌, ◌||◌, not, Bool, true, false, List, [], ◌∷◌}
+use Rattle.std.proofs.Common.{◌++◌, Option, None, Some, refl, ap, sym, subst, ◌∙◌, inl, inr}
+use Rattle.std.proofs.lemmas.Option.{same_Some}
+use Rattle.usb_port.specs.PortState.{PortState, plugged, unplugged}
+use Rattle.usb_port.specs.declared.call.PortCall.{PortCall}
+use Rattle.usb_device.specs.declared.delivery.Sent.{Sent}
+use Rattle.usb_device.specs.declared.effect.Effect.{Effect}
+use Rattle.usb_device.specs.declared.effect.Effect.TheVariants.{Leaves, Calls, PortsOff}
+use Rattle.usb_port.specs.Calls.{is_reset}
+use Rattle.usb_device.specs.Rows.{fresh}
+use Rattle.usb_device.specs.Spec.{Spec}
+use Rattle.usb_device.specs.Tree.{Ports, ended, vacant, taken, Place, empty, full, before, port_of}
+use Rattle.usb_device.specs.Tree.{called, replaced, changed, changed_at, port_at, place_at}
+use Rattle.usb_device.specs.Delivery.{effect_of}
+use Rattle.usb_device.specs.View.{port_there}
+use Rattle.usb_world.specs.declared.event.Action.{Action}
+use Rattle.usb_world.specs.declared.types.Attempt.{Attempt}
+use Rattle.usb_world.specs.Exchange.{token_out, payload_out, reply_out, ports_in}
+use Rattle.usb_tree.specs.Paths.{is_way, same_number}
+use Rattle.usb_tree.specs.AttemptPackets.{after_sent, after_attempt, sent_resets, IsAttemptAt}
+use Rattle.usb_tree.specs.WayEffects.{effect_resets, resets_at, leaves_port, way_leaves}
+use Rattle.usb_tree.specs.WayEffects.{takes_reset}
+use Rattle.usb_world.specs.World.{World}
+use Rattle.usb_world.specs.Steps.{after_change, way_of, names_path, after_event, at_attempt, damage_in}
+use Rattle.usb_world.specs.Steps.{with_attempt, Course}
+use Rattle.usb_world.specs.Courses.{made_resets, root_resets}
+use Rattle.usb_world.specs.PortRequests.{sent_leaves, made_leaves, root_leaves, leaves_step}
+use Rattle.usb_world.specs.PortRequests.{LeavesPort, row_reached, StillSet}
+use Rattle.usb_tree.proofs.Interface.{false_true, both, and_false, or_right, not-true, decided}
+use Rattle.usb_world.proofs.ways.WayChanges.{SamePorts, same_ports, changed_there, root_there}
+use Rattle.usb_world.proofs.ports.RootResets.{same_number-is}
+use Rattle.usb_world.proofs.packets.PacketPlaces.{way_ports}
+use Rattle.usb_world.proofs.packets.AttemptPackets.{token_out as token_calm, ack_out as ack_calm}
+use Rattle.usb_world.proofs.packets.AttemptPackets.{forgotten_ports}
+use Rattle.usb_world.proofs.courses.LiftedSteps.{OverSteps, happened_by, over_course}
+use Rattle.usb_world.proofs.courses.Courses.{happened_reach, made_reach, root_reach, goes}
+use Rattle.usb_world.proofs.packets.PacketWays.{calm_leaves}
+
+still_set-same : (b : PortState) (o : Option PortState) → o ≡ Some b → StillSet b o
+still_set-same b o h = record { now = b; stands = h; power = λ e. e; connection = λ e. e; enable = λ e. e; reset = λ e. e }
+
+still_then : (b : PortState) (o v : Option PortState) → StillSet b o → ((c : PortState) → o ≡ Some c → StillSet c v) → StillSet b v
+still_then b o v x f =
+    let y : _ = f x.now x.stands in
+    record { now = y.now; stands = y.stands; power = λ e. y.power (x.power e); connection = λ e. y.connection (x.connection e); enable = λ e. y.enable (x.enable e); reset = λ e. y.reset (x.reset e) }
+
+-- Events
+
+still_unplugged : (c b : PortState) → Some c ≡ Some b → StillSet b (Some (unplugged c))
+still_unplugged c b h =
+    subst (λ x. StillSet x (Some (unplugged c))) (same_Some c b h)
+    (record { now = unplugged c; stands = refl; power = λ e. e; connection = λ e. or_right c.power c.connection_changed e; enable = λ e. e; reset = λ e. e })
+
+still_plugged : (low : Bool) (c b : PortState) → Some c ≡ Some b → StillSet b (Some (plugged low (unplugged c)))
+still_plugged low c b h =
+    subst (λ x. StillSet x (Some (plugged low (unplugged c)))) (same_Some c b h)
+    (record { now = plugged low (unplugged c); stands = refl; power = λ e. e; connection = λ e. or_right c.power (c.power || c.connection_changed) (or_right c.power c.connection_changed e); enable = λ e. e; reset = λ e. e })
+
+-- the port at which something is plugged or unplugged
+still_put : (o : Option Spec) (x : Place) (k : Ports) (b : PortState)
+    → Some (port_of x) ≡ Some b → StillSet b (port_at (before (replaced o x) k) zero [])
+unfolding port_at fresh
+still_put None x k b h = still_unplugged (port_of x) b h
+still_put (Some s) x k b h = still_plugged s.low (port_of x) b h
+
+struck_port : (o : Option Spec) (k : Ports) (i : ℕ) (e : List ℕ) (b : PortState)
+    → port_at k i e ≡ Some b → StillSet b (port_at (changed_at (replaced o) k i e) i e)
+unfolding changed_at port_at
+struck_port o ended i e b h = still_set-same b None h
+struck_port o (vacant c k) zero [] b h = still_put o (empty c) k b h
+struck_port o (vacant c k) zero (n ∷ e) b h = still_set-same b None h
+struck_port o (vacant c k) (suc i) e b h = struck_port o k i e b h
+struck_port o (taken c s a k) zero [] b h = still_put o (full c s a) k b h
+struck_port o (taken c s a k) zero (zero ∷ e) b h = still_set-same b None h
+struck_port o (taken c s a k) zero (suc i ∷ e) b h = struck_port o a i e b h
+struck_port o (taken c s a k) (suc i) e b h = struck_port o k i e b h
+
+struck_there : (o : Option Spec) (k : Ports) (p : List ℕ) (b : PortState)
+    → port_there k p ≡ Some b → StillSet b (port_there (changed (replaced o) k p) p)
+struck_there o k [] b h = still_set-same b None h
+struck_there o k (zero ∷ p) b h = still_set-same b None h
+struck_there o k (suc i ∷ p) b h = struck_port o k i p b h
+
+-- what leads to a port and not to the device above it is that port's own path
+last_step : (x q : List ℕ) (n : ℕ) → is_way x q ≡ false → is_way x (q ++ (n ∷ [])) ≡ true
+    → x ≡ q ++ (n ∷ [])
+unfolding is_way
+last_step [] q n w h = false_true (sym w)
+last_step (m ∷ []) [] n w h = ap (λ y. y ∷ []) (sym (same_number-is m n (both (same_number m n) true h).0))
+last_step (m ∷ y ∷ x) [] n w h = false_true (both (same_number m n) false h).1
+last_step (m ∷ x) (k ∷ q) n w h =
+    let on : _ = both (same_number m k) (is_way x (q ++ (n ∷ []))) h in
+    ap (λ y. y ∷ x) (sym (same_number-is m k on.0))
+    ∙ ap (λ l. k ∷ l) (last_step x q n (sym (ap (λ y. y && is_way x q) on.0) ∙ w) on.1)
+
+replaced_bits : (o : Option Spec) (k : Ports) (x q : List ℕ) (n : ℕ) (b : PortState) → way_of x q ≡ false
+    → port_there k (q ++ (n ∷ [])) ≡ Some b → StillSet b (port_there (changed (replaced o) k x) (q ++ (n ∷ [])))
+replaced_bits o k [] q n b w h = still_set-same b _ h
+replaced_bits o k (m ∷ x) q n b w h = elim (decided (is_way (m ∷ x) (q ++ (n ∷ [])))) [
+  | inl on ↦
+      subst (λ y. StillSet b (port_there (changed (replaced o) k y) (q ++ (n ∷ []))))
+      (sym (last_step (m ∷ x) q n w on)) (struck_there o k (q ++ (n ∷ [])) b h)
+  | inr away ↦ still_set-same b _ ((changed_there (replaced o) k (m ∷ x) (q ++ (n ∷ [])) away).1 ∙ h)
+]
+
+happened_bits : (a : Action) (d : List Spec) (k : Ports) (q : List ℕ) (n : ℕ) (b : PortState) → names_path d a q ≡ false
+    → port_there k (q ++ (n ∷ [])) ≡ Some b → StillSet b (port_there (after_change a d k) (q ++ (n ∷ [])))
+happened_bits a d k q n b =
+    happened_by
+    (λ v named.
+    named ≡ false → port_there k (q ++ (n ∷ [])) ≡ Some b
+    → StillSet b (port_there v (q ++ (n ∷ [])))) a d k q (λ w h. still_set-same b _ h)
+    (λ o x. replaced_bits o k x q n b)
+
+no_way : (x : List ℕ) → way_of x [] ≡ false
+unfolding is_way
+no_way [] = refl
+no_way (m ∷ x) = refl
+
+-- where a row is reached, it was before, and no event was at it or above it; none is at the host
+row_happened : (a : Action) (d : List Spec) (k : Ports) (q : List ℕ)
+    → row_reached (after_change a d k) q ≡ true → (row_reached k q ≡ true) × (names_path d a q ≡ false)
+row_happened a d k [] h = (refl, happened_by (λ v named. named ≡ false) a d k [] refl (λ o. no_way))
+row_happened a d k (m ∷ q) h = happened_reach a d k (m ∷ q) h
+
+-- Attempts
+
+sent_ports : (o : Option Sent) (k : Ports) (j : ℕ) (p : List ℕ)
+    → sent_leaves o k j p ≡ true → SamePorts k (after_sent o k) j p
+sent_ports None k j p h = same_ports k j p
+sent_ports (Some q) k j p h = way_ports q false k j p h
+
+pub attempt_ports : (n : ℕ) (t d r : Option Sent) → IsAttemptAt n t d r
+    → (k : Ports) (j : ℕ) (p : List ℕ)
+    → sent_leaves d (after_sent t k) j p ≡ true → SamePorts k (after_attempt t d r k) j p
+attempt_ports n t d r is k j p h =
+    let heard : Ports = after_sent d (after_sent t k) in
+    let first : _ = sent_ports t k j p (calm_leaves t (token_calm n t is.token) k j p) in
+    let second : _ = sent_ports d (after_sent t k) j p h in
+    let third : _ = sent_ports r heard j p (calm_leaves r (ack_calm r is.reply) heard j p) in
+    let last : _ = forgotten_ports (after_sent r heard) j p in (
+      last.0 ∙ third.0 ∙ second.0 ∙ first.0,
+      last.1 ∙ third.1 ∙ second.1 ∙ first.1,
+      last.2 ∙ third.2 ∙ second.2 ∙ first.2,
+      last.3 ∙ third.3 ∙ second.3 ∙ first.3,
+    )
+
+pub made_port : (a : Attempt) (w : World) (p : List ℕ) → made_leaves a w p ≡ true → port_there (with_attempt a w).roots p ≡ port_there w.roots p
+unfolding with_attempt ports_in
+made_port a w [] h = refl
+made_port a w (zero ∷ p) h = refl
+made_port a w (suc j ∷ p) h = (attempt_ports a.addr (token_out a (damage_in w))
+    (payload_out a (damage_in w)) (reply_out a (damage_in w) w.roots)
+    (goes a (damage_in w) w.roots) w.roots j p h).3
+
+-- A step that leaves a port resets no device above it
+
+pub left_effect : (e : Effect) (a : Ports) (j : ℕ) (p : List ℕ) → leaves_port e j ≡ true → effect_resets e a j p ≡ false
+left_effect Leaves a j p h = refl
+left_effect (Calls c i) a j [] h = ap (λ x. is_reset c && (x && takes_reset (place_at a j []))) (not-true (same_number i j) h) ∙ and_false (is_reset c)
+left_effect (Calls c i) a j (n ∷ p) h = refl
+left_effect PortsOff a j p h = refl
+
+left_resets : (q : Sent) (deep : Bool) (k : Ports) (j : ℕ) (p : List ℕ) (n : ℕ) → way_leaves q deep k j (p ++ (n ∷ [])) ≡ true → resets_at q deep k j p ≡ false
+unfolding way_leaves resets_at
+left_resets q deep ended j p n h = refl
+left_resets q deep (vacant b k) zero p n h = refl
+left_resets q deep (vacant b k) (suc j) p n h = left_resets q deep k j p n h
+left_resets q deep (taken b s a k) zero [] n h = refl
+left_resets q deep (taken b s a k) zero (zero ∷ p) n h = refl
+left_resets q deep (taken b s a k) zero (suc j ∷ p) n h = split b.enable h (left_resets q true a j p n)
+  where
+    split : (x : Bool) → (not x || (leaves_port (effect_of q deep s) j && way_leaves q true a j (p ++ (n ∷ [])))) ≡ true
+        → (way_leaves q true a j (p ++ (n ∷ [])) ≡ true → resets_at q true a j p ≡ false) → (x && (effect_resets (effect_of q deep s) a j p || resets_at q true a j p)) ≡ false
+    split true h ih =
+        let on : _ = both (leaves_port (effect_of q deep s) j) (way_leaves q true a j (p ++ (n ∷ []))) h in
+        ap (λ x. x || resets_at q true a j p) (left_effect (effect_of q deep s) a j p on.0) ∙ ih on.1
+    split false h ih = refl
+left_resets q deep (taken b s a k) (suc j) p n h = left_resets q deep k j p n h
+
+left_sent : (o : Option Sent) (k : Ports) (j : ℕ) (p : List ℕ) (n : ℕ) → sent_leaves o k j (p ++ (n ∷ [])) ≡ true → sent_resets o k j p ≡ false
+left_sent None k j p n h = refl
+left_sent (Some q) k j p n h = left_resets q false k j p n h
+
+left_made : (a : Attempt) (w : World) (q : List ℕ) (n : ℕ) → made_leaves a w (q ++ (n ∷ [])) ≡ true → made_resets a w q ≡ false
+left_made a w [] n h = refl
+left_made a w (zero ∷ q) n h = refl
+left_made a w (suc j ∷ q) n h = left_sent (payload_out a (damage_in w)) (after_sent (token_out a (damage_in w)) w.roots) j q n h
+
+left_root : (c : PortCall) (m : ℕ) (k : Ports) (q : List ℕ) (n : ℕ) → root_leaves m (q ++ (n ∷ [])) ≡ true → root_resets c m k q ≡ false
+left_root c zero k q n h = refl
+left_root c (suc i) k [] n h = refl
+left_root c (suc i) k (zero ∷ q) n h = refl
+left_root c (suc i) k (suc j ∷ []) n h = ap (λ x. is_reset c && (x && takes_reset (place_at k j []))) (not-true (same_number i j) h) ∙ and_false (is_reset c)
+left_root c (suc i) k (suc j ∷ x ∷ q) n h = refl
+
+-- Steps
+
+pub root_port : (c : PortCall) (m : ℕ) (k : Ports) (p : List ℕ) → root_leaves m p ≡ true → port_there (changed (called c) k (m ∷ [])) p ≡ port_there k p
+root_port c m k p h = (root_there c m k p h).1
+
+row_reached-made : (a : Attempt) (w : World) (q : List ℕ) (n : ℕ) → made_leaves a w (q ++ (n ∷ [])) ≡ true → row_reached (with_attempt a w).roots q ≡ true → row_reached w.roots q ≡ true
+row_reached-made a w [] n g h = refl
+row_reached-made a w (m ∷ q) n g h = made_reach a w (m ∷ q) (left_made a w (m ∷ q) n g) h
+
+root_row : (c : PortCall) (m : ℕ) (k : Ports) (q : List ℕ) (n : ℕ)
+    → root_leaves m (q ++ (n ∷ [])) ≡ true → row_reached (changed (called c) k (m ∷ [])) q ≡ true
+    → row_reached k q ≡ true
+root_row c m k [] n g h = refl
+root_row c m k (x ∷ q) n g h = root_reach c m k (x ∷ q) (left_root c m k (x ∷ q) n g) h
+
+-- where a row is reached, it was before, and what was set at its port still is
+abbrev BitsStay : List ℕ → ℕ → World → World → Type 0
+BitsStay q n w v =
+    row_reached v.roots q ≡ true
+    → (row_reached w.roots q ≡ true) ×
+    ((b : PortState) → port_there w.roots (q ++ (n ∷ [])) ≡ Some b
+    → StillSet b (port_there v.roots (q ++ (n ∷ []))))
+
+bits_steps : (q : List ℕ) (n : ℕ) → OverSteps (LeavesPort (q ++ (n ∷ []))) (BitsStay q n)
+unfolding after_event leaves_step
+bits_steps q n = record {
+  events = record {
+    same = λ w on. (on, λ b h. still_set-same b _ h);
+    joined = λ w m v x y on.
+        let late : _ = y on in
+        let early : _ = x late.0 in (
+          early.0,
+          λ b h.
+              still_then b (port_there m.roots (q ++ (n ∷ []))) (port_there v.roots (q ++ (n ∷ [])))
+              (early.1 b h) late.1,
+        );
+    came = λ e es w l on.
+        let row : _ = row_happened e.action w.devices w.roots q on in
+        (row.0, λ b. happened_bits e.action w.devices w.roots q n b row.1);
+  };
+  made = λ a w made g on. (
+    row_reached-made a (at_attempt w) q n g on,
+    λ b h. still_set-same b _ (made_port a (at_attempt w) (q ++ (n ∷ [])) g ∙ h),
+  );
+  root = λ c m w g on. (
+    root_row c m w.roots q n g on,
+    λ b h. still_set-same b _ (root_port c m w.roots (q ++ (n ∷ [])) g ∙ h),
+  );
+  refused = λ w on. (on, λ b h. still_set-same b _ h);
+}
+
+pub course_bits : (q : List ℕ) (n : ℕ) {w v : World} → Course (LeavesPort (q ++ (n ∷ []))) w v → row_reached v.roots q ≡ true → (b : PortState)
+    → port_there w.roots (q ++ (n ∷ [])) ≡ Some b → StillSet b (port_there v.roots (q ++ (n ∷ [])))
+course_bits q n c on = (over_course (bits_steps q n) c on).1

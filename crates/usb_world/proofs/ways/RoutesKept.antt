@@ -1,0 +1,274 @@
+-- An attempt that goes straight to one device: whose addresses stay.
+use Rattle.std.proofs.Common.{◌≡◌, ℕ, zero, suc, if◌then◌else◌, Bool, true, false, List, [], ◌∷◌, ◌++◌, Option, None, Some, is_some, option_map, IsSome, nat_eq, refl, ap, ap₂, sym, subst, ◌∙◌}
+use Rattle.std.proofs.lemmas.Option.{same_Some}
+use Rattle.std.specs.Option.{option_eq}
+use Rattle.arrayvec.specs.ArrayVec.{ArrayVec}
+use Rattle.usb_port.specs.PortState.{PortState}
+use Rattle.usb_device.specs.declared.delivery.Sent.{Sent}
+use Rattle.usb_device.specs.declared.effect.Effect.TheVariants.{Leaves}
+use Rattle.usb_device.specs.Rows.{State, forgotten}
+use Rattle.usb_device.specs.Tree.{Ports, ended, vacant, taken, Place, empty, full, before, acted, put, changed, changed_at, changed_in, device_there, plugged_at, reach_at, place_at, Location, state_at}
+use Rattle.usb_device.specs.Delivery.{answer_of, all_forgotten}
+use Rattle.usb_device.specs.Holders.{path_below, reached, all_reached, ReachedSame, keeps_others}
+use Rattle.usb_device.specs.HolderIndex.{IsIndexOf, IsIndexWithout}
+use Rattle.usb_device.specs.declared.holders.Holders.{Holders}
+use Rattle.usb_device.specs.Route.{sent_in, effect_by, forgotten_in, address_by}
+use Rattle.usb_device.proofs.Interface.{changed_at-port, changed_at-same, changed_at-twice, changed_at-zero, index_around, reached-acted, reached-both, same_index}
+use Rattle.usb_world.specs.declared.types.Attempt.{Attempt}
+use Rattle.usb_world.specs.declared.damage.Damage.{Damage}
+use Rattle.usb_tree.specs.Paths.{address_of}
+use Rattle.usb_tree.specs.AttemptPackets.{after_sent, deep_at, IsSettled}
+use Rattle.usb_world.specs.Exchange.{token_out, payload_out, reply_out, ended_in, ports_in}
+use Rattle.usb_tree.specs.LonePackets.{Alone, is_whole_tree, IsWayTo, without_port, IsQuiet, KeptAt}
+use Rattle.usb_tree.proofs.Interface.{false_true, both}
+use Rattle.usb_world.proofs.packets.AttemptPackets.{token_out as token_calm, ack_out as ack_calm}
+use Rattle.usb_world.proofs.holders.OneDevice.{stands, state_stands}
+use Rattle.usb_world.proofs.holders.OneHolderPorts.{asked_of, calm_asked}
+use Rattle.usb_tree.proofs.Interface.{equal_same}
+use Rattle.usb_world.proofs.ways.Routes.{others_packet, others_rest, others_forget, plugged_on, plugged_place, alone_token, alone_data, alone_ack, alone_sent}
+use Rattle.usb_world.proofs.courses.Courses.{goes}
+
+-- ---- changes at one place
+
+place_at-first : (q : Place) (k : Ports) → place_at (before q k) 0 [] ≡ Some q
+unfolding place_at
+place_at-first (empty b) k = refl
+place_at-first (full b s a) k = refl
+
+pub place_at-changed : (f : Place → Place) (k : Ports) (j : ℕ) (p : List ℕ) → place_at (changed_at f k j p) j p ≡ option_map f (place_at k j p)
+unfolding place_at changed_at
+place_at-changed f ended j p = refl
+place_at-changed f (vacant b k) zero [] = place_at-first (f (empty b)) k
+place_at-changed f (vacant b k) zero (n ∷ p) = refl
+place_at-changed f (vacant b k) (suc j) p = place_at-changed f k j p
+place_at-changed f (taken b s a k) zero [] = place_at-first (f (full b s a)) k
+place_at-changed f (taken b s a k) zero (zero ∷ p) = refl
+place_at-changed f (taken b s a k) zero (suc j ∷ p) = place_at-changed f a j p
+place_at-changed f (taken b s a k) (suc j) p = place_at-changed f k j p
+
+-- a device with another state of the same address, and ports below which the same devices are
+-- reached, without what is on one of them
+same_there : (port : ℕ) (b : PortState) (s t : State) (a c : Ports)
+    → t.registers.address ≡ s.registers.address
+    → ((w : Option (ArrayVec ℕ)) (n : ℕ) → reached w n (changed (put None) c (port ∷ []))
+    ≡ reached w n (changed (put None) a (port ∷ [])))
+    → ReachedSame (changed_in (put None) (full b t c) (port ∷ []))
+    (changed_in (put None) (full b s a) (port ∷ []))
+unfolding reached
+same_there port b s t a c e h =
+    λ w n. ap₂ (λ m l. if b.enable then (m, path_below w n) ∷ (l ++ []) else []) e
+    (h (path_below w n) 1)
+
+-- ---- one packet
+
+abbrev pub step_in : Option Sent → Bool → Place → Place
+step_in None = λ deep x. x
+step_in (Some q) = λ deep x. sent_in q deep x
+
+abbrev own_after : Option Sent → Bool → State → Ports → State
+own_after None deep s a = s
+own_after (Some q) deep s a = (answer_of q deep s a).1
+
+step_calm : (o : Option Sent) (deep : Bool) (b : PortState) (s : State) (a : Ports) → asked_of o deep s ≡ Leaves → step_in o deep (full b s a) ≡ full b (own_after o deep s a) a
+step_calm None deep b s a h = refl
+step_calm (Some q) deep b s a h = ap (λ e. full b (answer_of q deep s a).1 (acted e a)) h
+
+step_in-full : (o : Option Sent) (deep : Bool) (b : PortState) (s : State) (a : Ports) → step_in o deep (full b s a) ≡ full b (own_after o deep s a) (acted (asked_of o deep s) a)
+step_in-full None deep b s a = refl
+step_in-full (Some q) deep b s a = refl
+
+pub sent_one : (o : Option Sent) (k : Ports) (j : ℕ) (p : List ℕ) → Alone o k (record { row = j; rest = p }) → after_sent o k ≡ changed_at (step_in o (deep_at false p)) k j p
+sent_one None k j p h = sym (changed_at-same k j p)
+sent_one (Some q) k j p h = others_packet q false k j p h.on (others_rest q k j p h)
+
+quiet_keeps_others : (port : ℕ) (o : Option Sent) (k : Ports) (j : ℕ) (p : List ℕ) (b : PortState)
+    (s : State) (a : Ports)
+    → IsQuiet port o k (suc j ∷ p) → place_at k j p ≡ Some (full b s a)
+    → keeps_others port (asked_of o (deep_at false p) s) ≡ true
+quiet_keeps_others port None k j p b s a h e = refl
+quiet_keeps_others port (Some q) k j p b s a h e =
+    sym (ap (λ x. keeps_others port (effect_by q (deep_at false p) (plugged_on x))) e)
+    ∙ ap (λ x. keeps_others port (effect_by q (deep_at false p) x)) (plugged_place k j p) ∙ h
+
+-- ---- an attempt
+
+pub record PlaceFull (k : Ports) (j : ℕ) (p : List ℕ) : Type 0 where
+  pub port : PortState
+  pub own : State
+  pub below : Ports
+  pub at : place_at k j p ≡ Some (full port own below)
+
+reach-full : (k : Ports) (j : ℕ) (p : List ℕ) → reach_at k j p ≡ true → PlaceFull k j p
+unfolding reach_at place_at
+reach-full ended j p h = false_true h
+reach-full (vacant b k) zero p h = false_true h
+reach-full (vacant b k) (suc j) p h = let x : _ = reach-full k j p h in record { port = x.port; own = x.own; below = x.below; at = x.at }
+reach-full (taken b s a k) zero [] h = record { port = b; own = s; below = a; at = refl }
+reach-full (taken b s a k) zero (zero ∷ p) h = false_true h
+reach-full (taken b s a k) zero (suc j ∷ p) h = let x : _ = reach-full a j p (both b.enable (reach_at a j p) h).1 in record { port = x.port; own = x.own; below = x.below; at = x.at }
+reach-full (taken b s a k) (suc j) p h = let x : _ = reach-full k j p h in record { port = x.port; own = x.own; below = x.below; at = x.at }
+
+module _ (a : Attempt) (d : Option Damage) (k : Ports) (j : ℕ) (p : List ℕ) (one : Alone (token_out a d) k (record { row = j; rest = p })) where
+  abbrev deep : Bool
+  deep = deep_at false p
+
+  abbrev t : Option Sent
+  t = token_out a d
+
+  abbrev q : Option Sent
+  q = payload_out a d
+
+  abbrev r : Option Sent
+  r = reply_out a d k
+
+  abbrev x : Location
+  x = record { row = j; rest = p }
+
+  pub two : Alone q (after_sent t k) x
+  two = alone_data q (after_sent t k) (suc j ∷ p) (alone_sent t k (suc j ∷ p) one) (goes a d k).payload
+
+  pub three : Alone r (after_sent q (after_sent t k)) x
+  three = alone_ack r (after_sent q (after_sent t k)) (suc j ∷ p) (alone_sent q (after_sent t k) (suc j ∷ p) two) (goes a d k).reply
+
+  pub four : Alone None (ended_in a d k) x
+  four = alone_sent r (after_sent q (after_sent t k)) (suc j ∷ p) three
+
+  abbrev pub till_data : Place → Place
+  till_data x = step_in q deep (step_in t deep x)
+
+  abbrev pub till_end : Place → Place
+  till_end x = step_in r deep (till_data x)
+
+  data_is : after_sent q (after_sent t k) ≡ changed_at till_data k j p
+  data_is = sent_one q (after_sent t k) j p two ∙ ap (λ x. changed_at (step_in q deep) x j p) (sent_one t k j p one) ∙ changed_at-twice (step_in q deep) (step_in t deep) k j p
+
+  pub end_is : ended_in a d k ≡ changed_at till_end k j p
+  end_is = sent_one r (after_sent q (after_sent t k)) j p three ∙ ap (λ x. changed_at (step_in r deep) x j p) data_is ∙ changed_at-twice (step_in r deep) till_data k j p
+
+  pub all_is : ports_in a d k ≡ changed_at (λ x. forgotten_in (till_end x)) k j p
+  unfolding ports_in
+  all_is = others_forget (ended_in a d k) j p four.on four.forgot ∙ ap (λ x. changed_at forgotten_in x j p) end_is ∙ changed_at-twice forgotten_in till_end k j p
+
+  pub here : PlaceFull k j p
+  here = reach-full k j p one.on
+
+  abbrev first : State
+  first = own_after t deep here.own here.below
+
+  abbrev second : State
+  second = own_after q deep first here.below
+
+  abbrev below_then : Ports
+  below_then = acted (asked_of q deep first) here.below
+
+  abbrev third : State
+  third = own_after r deep second below_then
+
+  first_place : step_in t deep (full here.port here.own here.below) ≡ full here.port first here.below
+  first_place = step_calm t deep here.port here.own here.below (calm_asked t (token_calm a.addr t (goes a d k).token) deep here.own)
+
+  first_at : place_at (after_sent t k) j p ≡ Some (full here.port first here.below)
+  first_at =
+      ap (λ x. place_at x j p) (sent_one t k j p one) ∙ place_at-changed (step_in t deep) k j p ∙ ap (option_map (step_in t deep)) here.at ∙ ap (λ x. Some x) first_place
+
+  end_place : till_end (full here.port here.own here.below) ≡ full here.port third below_then
+  end_place =
+      ap (λ x. step_in r deep (step_in q deep x)) first_place
+      ∙ ap (step_in r deep) (step_in-full q deep here.port first here.below)
+      ∙ step_calm r deep here.port second below_then (calm_asked r (ack_calm r (goes a d k).reply) deep second)
+
+  end_at : place_at (ended_in a d k) j p ≡ Some (full here.port third below_then)
+  end_at = ap (λ x. place_at x j p) end_is ∙ place_at-changed till_end k j p ∙ ap (option_map till_end) here.at ∙ ap (λ x. Some x) end_place
+
+  module _ (at : option_map address_of (state_at k j p) ≡ Some a.addr) where
+    here_address : here.own.registers.address ≡ a.addr
+    here_address = same_Some here.own.registers.address a.addr (sym (ap (option_map address_of) (sym (state_stands k j p) ∙ ap stands here.at)) ∙ at)
+
+    module _ (port : ℕ) (quiet : IsQuiet port q (after_sent t k) (suc j ∷ p)) where
+      abbrev without : Place → Place
+      without x = changed_in (put None) x (port ∷ [])
+
+      below_same : (w : Option (ArrayVec ℕ)) (n : ℕ)
+          → reached w n (changed (put None) below_then (port ∷ []))
+          ≡ reached w n (changed (put None) here.below (port ∷ []))
+      below_same =
+          reached-acted (asked_of q deep first) port here.below
+          (quiet_keeps_others port q (after_sent t k) j p here.port first here.below quiet first_at)
+
+      left_same : (x : Place) → x ≡ full here.port here.own here.below
+          → third.registers.address ≡ here.own.registers.address
+          → ReachedSame (without (forgotten_in (till_end x))) (without x)
+      left_same x is e =
+          subst (λ y. ReachedSame (without (forgotten_in (till_end y))) (without y)) (sym is)
+          (subst (λ y. ReachedSame (without (forgotten_in y))
+          (without (full here.port here.own here.below))) (sym end_place)
+          (same_there port here.port here.own (forgotten third) here.below below_then e below_same))
+
+      addresses_stay : address_by (plugged_at (ended_in a d k) j p) ≡ Some a.addr
+          → all_reached (without_port port (ports_in a d k) (suc j ∷ p))
+          ≡ all_reached (without_port port k (suc j ∷ p))
+      addresses_stay e =
+          let address : third.registers.address ≡ a.addr =
+          same_Some third.registers.address a.addr (sym (ap (λ x. address_by (plugged_on x)) end_at) ∙ ap address_by (plugged_place (ended_in a d k) j p) ∙ e) in
+          ap all_reached
+          (changed_at-port (put None) (ports_in a d k) j p port
+          ∙ ap (λ x. changed_at without x j p) all_is
+          ∙ changed_at-twice without (λ x. forgotten_in (till_end x)) k j p)
+          ∙ reached-both (λ x. without (forgotten_in (till_end x))) without _ 1 k j p
+          (λ x at. left_same x (same_Some x (full here.port here.own here.below) (sym at ∙ here.at))
+          (address ∙ sym here_address))
+          ∙ sym (ap all_reached (changed_at-port (put None) k j p port))
+
+-- where what was asked of ports keeps who is reached, and the device has the address still
+held_still : (port : ℕ) (a : Attempt) (d : Option Damage) (k : Ports) (p : List ℕ)
+    → IsQuiet port (payload_out a d) (after_sent (token_out a d) k) p
+    → address_by (device_there (ended_in a d k) p) ≡ Some a.addr
+    → KeptAt a.addr port k (ports_in a d k) p
+held_still port a d k [] q e = false_true (ap is_some e)
+held_still port a d k (zero ∷ p) q e = false_true (ap is_some e)
+held_still port a d k (suc j ∷ p) q e = λ settled o. addresses_stay a d k j p (alone_token a d k (suc j ∷ p) settled o) o.at port q e
+
+-- the same, of what the code tells: the address that is left there is the attempt's
+pub kept_at : (port : ℕ) (a : Attempt) (d : Option Damage) (k m n : Ports) (p : List ℕ)
+    (left : Option ℕ)
+    → option_eq nat_eq left (Some a.addr) ≡ true
+    → IsQuiet port (payload_out a d) (after_sent (token_out a d) k) p → m ≡ ended_in a d k
+    → n ≡ all_forgotten m → (IsSome left → left ≡ address_by (device_there m p))
+    → KeptAt a.addr port k n p
+unfolding ports_in
+kept_at port a d k m n p None same asks e over at = false_true same
+kept_at port a d k m n p (Some x) same asks e over at =
+    let told : address_by (device_there m p) ≡ Some a.addr = sym (at refl) ∙ ap (λ y. Some y) (equal_same x a.addr same) in
+    subst (λ y. KeptAt a.addr port k y p) (sym (over ∙ ap all_forgotten e))
+    (held_still port a d k p asks (ap (λ y. address_by (device_there y p)) (sym e) ∙ told))
+
+-- the index of the tree then
+pub index_kept : (n : ℕ) (h : Holders) (k m : Ports) (p : List ℕ) → IsSettled k → IsWayTo n k p
+    → KeptAt n 0 k m p → IsIndexOf h k → IsIndexOf h m
+index_kept n h k m [] s w kept is = absurd kept
+index_kept n h k m (zero ∷ p) s w kept is = absurd kept
+index_kept n h k m (suc j ∷ p) s w kept is =
+    same_index h k m
+    (ap all_reached (sym (changed_at-zero (put None) m j p)) ∙ kept s w
+    ∙ ap all_reached (changed_at-zero (put None) k j p)) is
+
+-- the index without what is on a port of the device
+pub index_port : (n port : ℕ) (h : Holders) (k m : Ports) (p l : List ℕ) → l ≡ p ++ port ∷ []
+    → IsSettled k → IsWayTo n k p → KeptAt n port k m p → IsIndexWithout h k l
+    → IsIndexWithout h m l
+index_port n port h k m [] l e s w kept is = absurd kept
+index_port n port h k m (zero ∷ p) l e s w kept is = absurd kept
+index_port n port h k m (suc j ∷ p) l e s w kept is =
+    subst (λ x. IsIndexWithout h m x) (sym e)
+    (same_index h (without_port port k (suc j ∷ p)) (without_port port m (suc j ∷ p)) (kept s w)
+    (subst (λ x. IsIndexWithout h k x) e is))
+
+-- an attempt changes nothing but the device at its way, with what is below
+pub index_beside : (a : Attempt) (d : Option Damage) (h : Holders) (k m : Ports) (p : List ℕ)
+    → is_whole_tree p ≡ false → IsSettled k → IsWayTo a.addr k p → m ≡ ports_in a d k
+    → IsIndexWithout h k p
+    → IsIndexWithout h m p
+index_beside a d h k m [] f s w e is = false_true (sym f)
+index_beside a d h k m (zero ∷ p) f s w e is = absurd w
+index_beside a d h k m (suc j ∷ p) f s w e is =
+    index_around h _ k m (suc j ∷ p) (e ∙ all_is a d k j p (alone_token a d k (suc j ∷ p) s w)) is

@@ -1,0 +1,116 @@
+-- A change at a place: a way that does not lead there stays. One walk answers all that is asked.
+use Rattle.std.proofs.Common.{◌≡◌, ℕ, zero, suc, ◌&&◌, ◌||◌, false, List, [], ◌∷◌}
+use Rattle.std.proofs.Common.{not, true, refl, ap, sym}
+use Rattle.usb_port.specs.PortState.{PortState}
+use Rattle.usb_port.specs.declared.call.PortCall.{PortCall}
+use Rattle.usb_device.specs.Rows.{State}
+use Rattle.usb_device.specs.Tree.{Ports, ended, vacant, taken, Place, empty, full, before}
+use Rattle.usb_device.specs.Tree.{changed_at}
+use Rattle.usb_device.specs.Tree.{called, reach_at, state_at, port_at}
+use Rattle.usb_device.specs.Tree.{changed, reach}
+use Rattle.usb_device.specs.View.{port_there, state_there}
+use Rattle.usb_world.specs.PortRequests.{root_leaves}
+use Rattle.usb_world.specs.Steps.{way_of}
+use Rattle.usb_tree.specs.Paths.{has_power_at, pending_at, is_way, on_way, same_number}
+use Rattle.usb_tree.proofs.Interface.{false_true, not-true}
+
+-- the ports on the way to a path are what they were: it is reached, live and pending as it was, and
+-- its port is the same
+abbrev pub SamePorts : Ports → Ports → ℕ → List ℕ → Type 0
+SamePorts k m j p =
+    (reach_at m j p ≡ reach_at k j p) × (has_power_at m j p ≡ has_power_at k j p)
+    × (pending_at m j p ≡ pending_at k j p) × (port_at m j p ≡ port_at k j p)
+
+-- and the device at its end
+abbrev pub SameWay : Ports → Ports → ℕ → List ℕ → Type 0
+SameWay k m j p = SamePorts k m j p × (state_at m j p ≡ state_at k j p)
+
+pub same_ports : (k : Ports) (j : ℕ) (p : List ℕ) → SamePorts k k j p
+same_ports k j p = (refl, refl, refl, refl)
+
+same_way-refl : (k : Ports) (j : ℕ) (p : List ℕ) → SameWay k k j p
+same_way-refl k j p = (same_ports k j p, refl)
+
+-- further on in the row
+pub same_way-other_port : (x y : Place) (k : Ports) (j : ℕ) (p : List ℕ)
+    → SameWay (before x k) (before y k) (suc j) p
+unfolding reach_at has_power_at pending_at port_at state_at
+same_way-other_port (empty b) (empty c) k j p = same_way-refl k j p
+same_way-other_port (empty b) (full c t m) k j p = same_way-refl k j p
+same_way-other_port (full b s a) (empty c) k j p = same_way-refl k j p
+same_way-other_port (full b s a) (full c t m) k j p = same_way-refl k j p
+
+-- what stands before a change in its row
+pub same_way-behind : (x : Place) (k m : Ports) (p : List ℕ) → SameWay (before x k) (before x m) zero p
+unfolding reach_at has_power_at pending_at port_at state_at
+same_way-behind (empty b) k m [] = same_way-refl (vacant b k) zero []
+same_way-behind (empty b) k m (n ∷ p) = same_way-refl (vacant b k) zero (n ∷ p)
+same_way-behind (full b s a) k m [] = same_way-refl (taken b s a k) zero []
+same_way-behind (full b s a) k m (zero ∷ p) = same_way-refl (taken b s a k) zero (zero ∷ p)
+same_way-behind (full b s a) k m (suc n ∷ p) = same_way-refl (taken b s a k) zero (suc n ∷ p)
+
+-- past a device
+pub passed_ports : (b : PortState) (s t : State) (a c k m : Ports) (j : ℕ) (p : List ℕ)
+    → SamePorts a c j p → SamePorts (taken b s a k) (taken b t c m) zero (suc j ∷ p)
+unfolding reach_at has_power_at pending_at port_at
+passed_ports b s t a c k m j p x = (
+  ap (λ y. b.enable && y) x.0,
+  ap (λ y. b.power && y) x.1,
+  ap (λ y. b.power && (b.connection_changed || y)) x.2,
+  x.3,
+)
+
+pub changed_apart : (f : Place → Place) (k : Ports) (i : ℕ) (e : List ℕ) (j : ℕ) (p : List ℕ)
+    → on_way i e j p ≡ false → SameWay k (changed_at f k i e) j p
+unfolding changed_at reach_at has_power_at pending_at port_at state_at is_way
+changed_apart f ended i e j p h = same_way-refl ended j p
+changed_apart f (vacant b k) zero [] zero p h = false_true (sym h)
+changed_apart f (vacant b k) zero [] (suc j) p h = same_way-other_port (empty b) (f (empty b)) k j p
+changed_apart f (vacant b k) zero (n ∷ e) j p h = same_way-refl (vacant b k) j p
+changed_apart f (vacant b k) (suc i) e zero p h = same_way-behind (empty b) k (changed_at f k i e) p
+changed_apart f (vacant b k) (suc i) e (suc j) p h = changed_apart f k i e j p h
+changed_apart f (taken b s a k) zero [] zero p h = false_true (sym h)
+changed_apart f (taken b s a k) zero [] (suc j) p h = same_way-other_port (full b s a) (f (full b s a)) k j p
+changed_apart f (taken b s a k) zero (zero ∷ e) j p h = same_way-refl (taken b s a k) j p
+changed_apart f (taken b s a k) zero (suc i ∷ e) zero [] h = same_way-refl (taken b s a k) zero []
+changed_apart f (taken b s a k) zero (suc i ∷ e) zero (zero ∷ p) h =
+    same_way-refl (taken b s a k) zero (zero ∷ p)
+changed_apart f (taken b s a k) zero (suc i ∷ e) zero (suc j ∷ p) h =
+    let x : _ = changed_apart f a i e j p h in
+    (passed_ports b s s a (changed_at f a i e) k k j p x.0, x.1)
+changed_apart f (taken b s a k) zero (suc i ∷ e) (suc j) p h = same_way-refl k j p
+changed_apart f (taken b s a k) (suc i) e zero p h = same_way-behind (full b s a) k (changed_at f k i e) p
+changed_apart f (taken b s a k) (suc i) e (suc j) p h = changed_apart f k i e j p h
+
+pub called_apart : (c : PortCall) (k : Ports) (i j : ℕ) (p : List ℕ)
+    → not (same_number i j) ≡ true → SameWay k (changed_at (called c) k i []) j p
+unfolding is_way
+called_apart c k i j p h = changed_apart (called c) k i [] j p
+    (ap (λ x. x && true) (not-true (same_number i j) h))
+
+-- The same of whole paths
+
+abbrev pub SameThere : Ports → Ports → List ℕ → Type 0
+SameThere k m p =
+    (reach m p ≡ reach k p) × (port_there m p ≡ port_there k p)
+    × (state_there m p ≡ state_there k p)
+
+pub changed_there : (f : Place → Place) (k : Ports) (x p : List ℕ)
+    → way_of x p ≡ false → SameThere k (changed f k x) p
+unfolding is_way
+changed_there f k x [] w = (refl, refl, refl)
+changed_there f k x (zero ∷ p) w = (refl, refl, refl)
+changed_there f k [] (suc j ∷ p) w = (refl, refl, refl)
+changed_there f k (zero ∷ x) (suc j ∷ p) w = (refl, refl, refl)
+changed_there f k (suc i ∷ x) (suc j ∷ p) w =
+    let y : _ = changed_apart f k i x j p w in
+    (y.0.0, y.0.3, y.1)
+
+pub root_there : (c : PortCall) (m : ℕ) (k : Ports) (p : List ℕ)
+    → root_leaves m p ≡ true → SameThere k (changed (called c) k (m ∷ [])) p
+root_there c m k [] h = (refl, refl, refl)
+root_there c m k (zero ∷ p) h = (refl, refl, refl)
+root_there c zero k (suc j ∷ p) h = (refl, refl, refl)
+root_there c (suc i) k (suc j ∷ p) h =
+    let y : _ = called_apart c k i j p h in
+    (y.0.0, y.0.3, y.1)

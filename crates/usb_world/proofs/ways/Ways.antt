@@ -1,0 +1,157 @@
+-- Which paths lead to which, and what is so on the way to a path.
+use Rattle.std.proofs.Common.{◌≡◌, ◌∙◌, refl, sym, ap, ap₂, subst, arith, append-nil, append_assoc}
+use Rattle.std.proofs.Common.{length-append, ℕ, zero, suc, ◌+◌, ◌<◌, inl, inr, Bool, true, false}
+use Rattle.std.proofs.Common.{◌&&◌, ◌||◌, not, List, [], ◌∷◌, ◌++◌, length, Some, is_some}
+use Rattle.std.proofs.Common.{slice_get, nat_eq}
+use Rattle.std.specs.Cmp.Lexicographic.{pointwise, same_text, bytes_decides}
+use Rattle.std.specs.List.{starts_with}
+use Rattle.std.proofs.lemmas.Bool.{eqb-true, eq-eqb}
+use Rattle.usb_port.specs.Order.{is_below as is_port_below, parent_of, port_on_hub}
+use Rattle.usb_port.proofs.Interface.{is_below-extension, rejoined}
+use Rattle.usb_device.specs.Spec.{Spec}
+use Rattle.usb_device.specs.Tree.{Ports, ended, vacant, taken, reach, reach_at}
+use Rattle.usb_world.specs.declared.event.Action.{Action}
+use Rattle.usb_world.specs.declared.event.Action.TheVariants.{Change, Ask}
+use Rattle.usb_world.specs.declared.event.Change.TheVariants.{Plug, Unplug}
+use Rattle.usb_world.specs.declared.event.Event.{Event}
+use Rattle.usb_world.specs.Courses.{NoneNames, Undisturbed}
+use Rattle.usb_tree.specs.Paths.{is_way, same_path, same_number}
+use Rattle.usb_world.specs.Steps.{names_path, way_of}
+use Rattle.usb_world.specs.World.{World}
+use Rattle.usb_world.proofs.ports.RootResets.{same_number-is}
+use Rattle.usb_tree.proofs.Interface.{false_true, both, or_left, or_right, either_of, same_bools, and_kept}
+use Rattle.usb_tree.proofs.Interface.{self_number, self_path}
+
+-- a way goes on to the path
+pub way_rest : (p x : List ℕ) → is_way p x ≡ true → (rest : List ℕ) × (x ≡ p ++ rest)
+unfolding is_way
+way_rest [] x h = (x, refl)
+way_rest (m ∷ p) [] h = false_true h
+way_rest (m ∷ p) (n ∷ x) h =
+    let parts = both (same_number m n) (is_way p x) h in
+    let more = way_rest p x parts.1 in
+    (more.0, ap (λ (k : ℕ). k ∷ x) (same_number-is m n parts.0) ∙ ap (λ (l : List ℕ). m ∷ l) more.1)
+
+pub way_on : (p rest : List ℕ) → is_way p (p ++ rest) ≡ true
+unfolding is_way
+way_on [] rest = refl
+way_on (m ∷ p) rest = rw (self_number m, way_on p rest) refl
+
+pub way_of_rest : (p x rest : List ℕ) → x ≡ p ++ rest → is_way p x ≡ true
+way_of_rest p x rest e = subst (λ (l : List ℕ). is_way p l ≡ true) (sym e) (way_on p rest)
+
+pub way_itself : (p : List ℕ) → is_way p p ≡ true
+way_itself p = way_of_rest p p [] (sym (append-nil p))
+
+pub way_trans : (p q x : List ℕ) → is_way p q ≡ true → is_way q x ≡ true → is_way p x ≡ true
+way_trans p q x pq qx =
+    let first = way_rest p q pq in
+    let second = way_rest q x qx in
+    way_of_rest p x (first.0 ++ second.0) (second.1 ∙ ap (λ (l : List ℕ). l ++ second.0) first.1 ∙ append_assoc p first.0 second.0)
+
+-- Other words for it
+
+number_tests : (m n : ℕ) → same_number m n ≡ nat_eq m n
+number_tests m n =
+    same_bools (same_number m n) (nat_eq m n)
+    (λ h. eq-eqb m n (sym (same_number-is m n h)))
+    (λ h. ap (same_number m) (sym (eqb-true m n h)) ∙ self_number m)
+
+-- a path leads to those that start with it
+pub way_starts : (e p : List ℕ) → is_way e p ≡ starts_with nat_eq p e
+unfolding is_way
+way_starts [] p = refl
+way_starts (m ∷ e) [] = refl
+way_starts (m ∷ e) (n ∷ p) = ap₂ (λ a b. a && b) (number_tests m n) (way_starts e p)
+
+rest_below : (x p rest : List ℕ) → x ≡ p ++ rest → (pointwise nat_eq x p || is_port_below x p) ≡ true
+rest_below x p [] e = or_left (pointwise nat_eq x p) (is_port_below x p) ((bytes_decides x p).1 (e ∙ append-nil p))
+rest_below x p (n ∷ rest) e = or_right (pointwise nat_eq x p) (is_port_below x p) ((is_below-extension x p).1 (n ∷ rest, e, omega arith))
+
+below_rest : (x p : List ℕ) → (pointwise nat_eq x p || is_port_below x p) ≡ true → is_way p x ≡ true
+below_rest x p h = elim (either_of (pointwise nat_eq x p) (is_port_below x p) h) [
+  | inl same ↦ way_of_rest p x [] (same_text x p (sym same) ∙ sym (append-nil p))
+  | inr on ↦ let rest = (is_below-extension x p).0 on in way_of_rest p x rest.0 rest.1
+]
+
+-- a path is another or stands below it
+pub at_or_below_way : (x p : List ℕ) → (pointwise nat_eq x p || is_port_below x p) ≡ is_way p x
+at_or_below_way x p =
+    same_bools (pointwise nat_eq x p || is_port_below x p) (is_way p x) (below_rest x p) (λ h. let rest = way_rest p x h in rest_below x p rest.0 rest.1)
+
+is_port_below-longer : (x p rest : List ℕ) → x ≡ p ++ rest → not (same_path p x) ≡ true → is_port_below x p ≡ true
+is_port_below-longer x p [] e h = false_true (sym (ap (λ (l : List ℕ). not (same_path p l)) (e ∙ append-nil p) ∙ ap not (self_path p)) ∙ h)
+is_port_below-longer x p (n ∷ rest) e h = (is_below-extension x p).1 (n ∷ rest, e, omega arith)
+
+-- Above
+
+pub shorter_by : (p x : List ℕ) → length x < length p → (b : Bool) → is_way p x ≡ b → b ≡ false
+shorter_by p x shorter true h =
+    let rest = way_rest p x h in
+    let long : length x ≡ length p + length rest.0 = ap length rest.1 ∙ length-append p rest.0 in
+    absurd (omega (arith, long, shorter))
+shorter_by p x shorter false h = refl
+
+-- a path does not lead to a shorter one
+pub way_shorter : (p x : List ℕ) → length x < length p → is_way p x ≡ false
+way_shorter p x shorter = shorter_by p x shorter (is_way p x) refl
+
+pub way_parent : (path hub : List ℕ) → parent_of path ≡ Some hub → is_way hub path ≡ true
+way_parent path hub is = way_of_rest hub path (port_on_hub path ∷ []) (rejoined path hub is)
+
+not_so : (a b : Bool) → (a ≡ true → b ≡ true) → b ≡ false → a ≡ false
+not_so true b f h = false_true (sym h ∙ f refl)
+not_so false b f h = refl
+
+-- what is not below a port is not below one that is
+pub way_apart : (p q x : List ℕ) → is_way p q ≡ true → is_way p x ≡ false → is_way q x ≡ false
+way_apart p q x on away = not_so (is_way q x) (is_way p x) (way_trans p q x on) away
+
+-- What is so on the way to a path
+
+reached_above : (k : Ports) (j : ℕ) (x rest : List ℕ)
+    → reach_at k j (x ++ rest) ≡ true → reach_at k j x ≡ true
+unfolding reach_at
+reached_above ended j x rest h = false_true h
+reached_above (vacant b k) zero x rest h = false_true h
+reached_above (vacant b k) (suc j) x rest h = reached_above k j x rest h
+reached_above (taken b s a k) zero [] [] h = h
+reached_above (taken b s a k) zero [] (zero ∷ rest) h = false_true h
+reached_above (taken b s a k) zero [] (suc n ∷ rest) h = (both b.enable (reach_at a n rest) h).0
+reached_above (taken b s a k) zero (zero ∷ x) rest h = false_true h
+reached_above (taken b s a k) zero (suc i ∷ x) rest h =
+    and_kept b.enable _ _ (reached_above a i x rest) h
+reached_above (taken b s a k) (suc j) x rest h = reached_above k j x rest h
+
+reach_above : (k : Ports) (n : ℕ) (x rest : List ℕ)
+    → reach k (n ∷ (x ++ rest)) ≡ true → reach k (n ∷ x) ≡ true
+reach_above k zero x rest h = false_true h
+reach_above k (suc i) x rest h = reached_above k i x rest h
+
+-- each device on the way to a reachable one is reachable
+pub reach_on_way : (k : Ports) (n : ℕ) (x p : List ℕ)
+    → is_way (n ∷ x) p ≡ true → reach k p ≡ true → reach k (n ∷ x) ≡ true
+reach_on_way k n x p w h =
+    let more : _ = way_rest (n ∷ x) p w in
+    reach_above k n x more.0 (subst (λ (q : List ℕ). reach k q ≡ true) more.1 h)
+
+way_of_above : (e x p : List ℕ) → is_way x p ≡ true → way_of e p ≡ false → way_of e x ≡ false
+way_of_above [] x p on h = refl
+way_of_above (m ∷ e) x p on h = not_so (is_way (m ∷ e) x) (is_way (m ∷ e) p) (λ y. way_trans (m ∷ e) x p y on) h
+
+plugs_above : (b c d : Bool) → (d ≡ false → c ≡ false) → (b && d) ≡ false → (b && c) ≡ false
+plugs_above true c d f h = f h
+plugs_above false c d f h = refl
+
+names_above : (d : List Spec) (a : Action) (x p : List ℕ) → is_way x p ≡ true → names_path d a p ≡ false → names_path d a x ≡ false
+names_above d (Change (Plug e i)) x p on h = plugs_above (is_some (slice_get d i)) (way_of e x) (way_of e p) (way_of_above e x p on) h
+names_above d (Change (Unplug e)) x p on h = way_of_above e x p on h
+names_above d (Ask ask) x p on h = refl
+
+none_above : (d : List Spec) (events : List Event) (x p : List ℕ) → is_way x p ≡ true → NoneNames d events p → NoneNames d events x
+none_above d [] x p on h = tt
+none_above d (e ∷ events) x p on h = (names_above d e.action x p on h.0, none_above d events x p on h.1)
+
+-- what is disturbed neither at a path nor on its way
+pub undisturbed_on_way : (x p : List ℕ) (w v : World) → is_way x p ≡ true → Undisturbed w v p → Undisturbed w v x
+undisturbed_on_way x p w v on u = record { events = u.events; split = u.split; silent = none_above w.devices u.events x p on u.silent; devices = u.devices }
